@@ -1,0 +1,4 @@
+pub mod Part
+pub mod Page
+pub mod LittleEndian
+pub mod Refusal
