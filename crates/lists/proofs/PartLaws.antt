@@ -1,14 +1,13 @@
 -- Laws of parts: putting, composing writers, a part of a slice coming back, and removal. Assumes nothing.
 use mathlib.Core.Path.{_≡_, refl, sym, ap, ap₂, _∙_, subst}
-use mathlib.Core.Logic.{_⊎_, ⊎-elim}
-use mathlib.Core.List.{List, [], _∷_, _++_, append-assoc, append-nil}
-use Prim.Native.Nat.{ℕ, zero, suc, _+_, _-_, _≤_, _<_, min}
+use mathlib.Core.List.{List, [], _++_, append-assoc, append-nil}
+use Prim.Native.Nat.{ℕ, _+_, _-_, _≤_, _<_}
 use native.Mathlib.Nat.{zero-add, add-zero, add-assoc, le-refl}
 use native.Mathlib.Numerals.{add-one}
 use native.Mathlib.Omega.{arith}
-use lib.ListN.{length, getD, set, take, drop, length-append, length-take, length-drop, take-append-drop, drop-of-length-le, List·getD-append}
-use lib.Seq.{paste, paste-zero, paste-suc, length-paste, length-paste-head, drop-append-le, take-append-le, drop-append-add, take-length, take-all, length-take-le, drop-at, take-at, take-take, drop-drop, take-add, getD-take, getD-drop, getD-append-add, ext-getD}
-use borrow.Rule.Slice.PartMut.{putMid, midOf, postOf}
+use lib.ListN.{length, getD, set, take, drop, length-append, length-take, length-drop, take-append-drop, drop-of-length-le}
+use lib.Seq.{paste, paste-suc, length-paste, length-paste-head, drop-append-le, take-append-le, drop-append-add, take-length, take-all, length-take-le, drop-at, take-at, drop-drop, take-add, getD-drop, getD-append-add}
+use borrow.Rule.Slice.PartMut.{putMid, midOf}
 use Rattle.lists.specs.Part.{part, put, removed, PutDone}
 
 module _ {A : Type 0} where

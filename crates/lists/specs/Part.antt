@@ -3,7 +3,7 @@
 use Prim.Native.Nat.{ℕ, _+_, _-_}
 use mathlib.Core.Path.{_≡_}
 use mathlib.Core.List.{List, _++_}
-use lib.ListN.{length, take, drop}
+use lib.ListN.{length, take, drop, replicate}
 
 module _ {A : Type 0} where
   -- the n elements from at on
@@ -17,6 +17,10 @@ module _ {A : Type 0} where
   -- of the first total elements, n from at on are removed: the rest of them closes up in order, and all that lies behind stays
   unfoldable pub removed : ℕ → ℕ → ℕ → List A → List A
   removed at n total l = put l at (part (at + n) (total - (at + n)) l)
+
+  -- the same in an array from the front, with the entries that become free at zero
+  unfoldable pub freed : A → ℕ → ℕ → List A → List A
+  freed zero n total l = put (removed 0 n total l) (total - n) (replicate n zero)
 
 -- what a writer that is told a position leaves: bs at at, and the position after it
 pub record PutDone (bs before : List ℕ) (at : ℕ) (after : List ℕ) (next : ℕ) : Type 0 where

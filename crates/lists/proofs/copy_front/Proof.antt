@@ -1,6 +1,6 @@
 -- `lists::copy_front` meets its contract. The loop's invariant: the first i bytes are src's, the others as at entry.
 use Prim.Native.Nat.{ℕ, _≤_, _<_, _-_}
-use mathlib.Core.Path.{_≡_, refl, sym, ap, _∙_}
+use mathlib.Core.Path.{_≡_, refl, ap, _∙_}
 use mathlib.Core.List.{List}
 use lib.ListN.{length, getD, set, length-set}
 use lib.Seq.{paste, paste-zero}

@@ -4,27 +4,21 @@ use Rattle.lists.proofs.copy_into.Tie as tie
 use native.Mathlib.Omega.{arith}
 use Rattle.lists.proofs.PartLaws.{part-back-front}
 
--- src/lib.rt:24:16
 sub-copy-front : tie.Need-sub-copy-front
 sub-copy-front c = search needs
 
--- src/lib.rt:24:16
 part-copy-front-start : tie.Need-part-copy-front-start
 part-copy-front-start c = search needs
 
--- src/lib.rt:24:16
 part-copy-front-end : tie.Need-part-copy-front-end
 part-copy-front-end c = search needs
 
--- src/lib.rt:24:5
 copy-front-requires : tie.Need-copy-front-requires
 copy-front-requires c κs = search needs
 
--- src/lib.rt:20:1
 same-length : tie.Need-same-length
 same-length c = search needs
 
--- src/lib.rt:20:1
 returns : tie.Need-returns
 returns c = part-back-front _ _ _ _ (omega arith) (c .before .before .copy-front .ensures)
 

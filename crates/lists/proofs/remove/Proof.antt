@@ -1,7 +1,6 @@
 -- `lists::remove` meets its contract. The loop's invariant: i of the bytes behind the removed ones stand at their new places.
-use Prim.Native.Nat.{ℕ, _+_, _-_, _≤_, _<_}
-use mathlib.Core.Path.{_≡_, refl, sym, ap, _∙_}
-use mathlib.Core.List.{List}
+use Prim.Native.Nat.{_+_, _-_, _≤_}
+use mathlib.Core.Path.{_≡_, refl, _∙_}
 use lib.ListN.{length, drop, length-set}
 use lib.Seq.{paste, paste-zero}
 use native.Mathlib.Omega.{arith}
@@ -15,56 +14,44 @@ Inv-loop s₀ at n total from count i₀ s i = (i ≤ count) × (length s ≡ le
 abbrev μ-loop : tie.MeasureT-loop
 μ-loop s₀ at n total from count i₀ s i = count - i
 
--- src/lib.rt:41:16
 add-from : tie.Need-add-from Inv-loop μ-loop
 add-from c = omega arith
 
--- src/lib.rt:42:17
 sub-count : tie.Need-sub-count Inv-loop μ-loop
 sub-count c = omega arith
 
--- src/lib.rt:44:5
 loop-holds : tie.Need-loop-holds Inv-loop μ-loop
 loop-holds c =
     let a = c .args in
     (omega arith, refl, paste-zero (a .s .now) (a .at) (drop (a .at + a .n) (a .s .now)))
 
--- src/lib.rt:45:23
 add-s : tie.Need-add-s Inv-loop μ-loop
 add-s c = omega arith
 
--- src/lib.rt:45:21
 slice-read-s : tie.Need-slice-read-s Inv-loop μ-loop
 slice-read-s c = omega arith
 
--- src/lib.rt:45:11
 add-s-2 : tie.Need-add-s-2 Inv-loop μ-loop
 add-s-2 c = omega arith
 
--- src/lib.rt:45:9
 slice-write-s : tie.Need-slice-write-s Inv-loop μ-loop
 slice-write-s c = omega arith
 
--- src/lib.rt:46:9
 add-i : tie.Need-add-i Inv-loop μ-loop
 add-i c = omega arith
 
--- src/lib.rt:44:5
 loop-less : tie.Need-loop-less Inv-loop μ-loop
 loop-less c = omega arith
 
--- src/lib.rt:44:5
 loop-again : tie.Need-loop-again Inv-loop μ-loop
 loop-again c =
     let w = c .before .before .loop in
     let a = c .before .before .before .args in
     (omega arith, simp length-set (w .inv .1), rw (w .inv .2) (move-turn (a .s .now) (a .at) (a .at + a .n) (w .i) 0 (omega arith) (omega arith)))
 
--- src/lib.rt:37:1
 same-length : tie.Need-same-length Inv-loop μ-loop
 same-length c = c .before .loop .inv .1
 
--- src/lib.rt:37:1
 returns : tie.Need-returns Inv-loop μ-loop
 returns c =
     let w = c .before .loop in

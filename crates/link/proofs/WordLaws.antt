@@ -1,0 +1,64 @@
+-- Laws of the record test's word. Assumes nothing.
+use mathlib.Core.Path.{_≡_, refl, ap}
+use mathlib.Core.Logic.{⊎-elim}
+use mathlib.Core.List.{List}
+use Prim.Native.Nat.{ℕ, _/_, _%_, _<_}
+use native.Mathlib.Omega.{arith}
+use Rattle.records.specs.declared.Reader.the-variants.{Test}
+use Rattle.records.specs.declared.Record.{Record}
+use Rattle.records.specs.declared.Record.the-variants.{Page, Block, State, Commit, Ack, Short, Refused}
+use Rattle.records.specs.Read.{readRecord, numberOf, kindOf, usedOf}
+use Rattle.records.proofs.ReadLaws.{ReadFacts, read-facts, read-ranges}
+use Rattle.link.specs.Word.{wordOf, testWord}
+
+-- what is not cut short has its number, kind and bytes used
+pub word-told : (r : Record) → (r ≡ Short → ⊥) → testWord r ≡ wordOf r
+word-told (Page e p c) f = refl
+word-told (Block e n c) f = refl
+word-told (State e c) f = refl
+word-told (Commit e p b c) f = refl
+word-told (Ack e c) f = refl
+word-told Short f = absurd (f refl)
+word-told (Refused n) f = refl
+
+-- a word's parts, as the caller takes them out
+pub record Parts (r : Record) (word : ℕ) : Type 0 where
+  pub number : word % 256 ≡ numberOf r
+  pub kind : word / 256 % 256 ≡ kindOf r
+  pub used : word / 65536 ≡ usedOf r
+
+module _ (u : ℕ) (s : List ℕ) where
+  number-lt : (r : Record) → ReadFacts Test u s r → (r ≡ Short → ⊥) → numberOf r < 256
+  number-lt (Page e p c) f h = omega arith
+  number-lt (Block e n c) f h = omega arith
+  number-lt (State e c) f h = omega arith
+  number-lt (Commit e p b c) f h = omega arith
+  number-lt (Ack e c) f h = omega arith
+  number-lt Short f h = absurd (h refl)
+  number-lt (Refused n) f h = ⊎-elim (λ a. omega arith) (λ a. ⊎-elim (λ b. omega arith) (λ b. omega arith) (a .1)) f
+
+  -- of a whole record, whose number is 0, and of a refusal
+  pub word-parts : (readRecord Test u s ≡ Short → ⊥) → Parts (readRecord Test u s) (testWord (readRecord Test u s))
+  word-parts h =
+      let r = readRecord Test u s in
+      let n = number-lt r (read-facts Test u s) h in
+      let g = read-ranges Test u s in
+      let e = word-told r h in
+      record { number = omega arith; kind = omega arith; used = omega arith }
+
+  -- cut short is 0
+  pub word-short : readRecord Test u s ≡ Short → testWord (readRecord Test u s) ≡ 0
+  word-short e = ap testWord e
+
+  -- and nothing else has 0 in the low 16 bits
+  pub word-only-short : testWord (readRecord Test u s) % 65536 ≡ 0 → readRecord Test u s ≡ Short
+  word-only-short = go (readRecord Test u s) (read-facts Test u s)
+    where
+      go : (r : Record) → ReadFacts Test u s r → testWord r % 65536 ≡ 0 → r ≡ Short
+      go (Page e p c) f z = absurd (omega arith)
+      go (Block e n c) f z = absurd (omega arith)
+      go (State e c) f z = absurd (omega arith)
+      go (Commit e p b c) f z = absurd (omega arith)
+      go (Ack e c) f z = absurd (omega arith)
+      go Short f z = refl
+      go (Refused n) f z = absurd (⊎-elim (λ a. omega arith) (λ a. ⊎-elim (λ b. omega arith) (λ b. omega arith) (a .1)) f)

@@ -1,0 +1,6 @@
+-- The laws of this crate's definitions, for its own proofs and for the crates above.
+pub mod FrameLaws
+pub mod ReadLaws
+pub mod MessageLaws
+pub mod WriteLaws
+pub mod AreaLaws

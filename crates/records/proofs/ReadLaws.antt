@@ -1,0 +1,305 @@
+-- Laws of reading: each answer in its order, framed records, and what holds of every answer. Assumes nothing.
+use mathlib.Core.Path.{_≡_, refl, sym, ap, _∙_}
+use mathlib.Core.Bool.{Bool, true, false, cond}
+use mathlib.Core.Logic.{_⊎_, inl, inr, ⊎-elim}
+use mathlib.Core.List.{List, _++_, append-assoc}
+use Prim.Native.Nat.{ℕ, zero, suc, _+_, _%_, _^_, _≤_, _<_}
+use native.Mathlib.Omega.{arith}
+use lib.Dec.{leb, eqb}
+use lib.ListN.{length, getD, take, length-append}
+use lib.Seq.{length-take-le}
+use borrow.Author.Tests.{leb-true, eqb-true, le-leb, lt-leb, eq-eqb, ne-eqb}
+use Rattle.lists.specs.Refusal.{within}
+use Rattle.lists.specs.LittleEndian.{leBytes, leAt}
+use Rattle.lists.proofs.TestLaws.{both, by-test, lt-or-ge, within-facts, within-of}
+use Rattle.lists.proofs.LittleEndianLaws.{leAt-leBytes, leAt-lt, leAt-append, leAt-skip, leAt-take}
+use Rattle.records.specs.declared.Cursor.{Cursor}
+use Rattle.records.specs.declared.Reader.{Reader}
+use Rattle.records.specs.declared.Reader.the-variants.{Test, Standby, Primary}
+use Rattle.records.specs.declared.Record.{Record}
+use Rattle.records.specs.declared.Record.the-variants.{Page, Block, State, Commit, Ack, Short, Refused}
+use Rattle.records.specs.Kind.{unitOk, PAGE, BLOCK, STATE, COMMIT, ACK, processorBytes, bodyLength, headerLength, recordLength, isFor}
+use Rattle.records.specs.Read.{cursor, fieldsOf, readRecord, cutShort, numberOf, kindOf, usedOf}
+use Rattle.records.specs.Write.{frame}
+use Rattle.records.proofs.FrameLaws.{length-frame}
+
+-- ---- the range of U, and the kinds
+pub unit-le : (u : ℕ) → unitOk u ≡ true → (64 ≤ u) × (u ≤ 4096)
+unfolding unitOk
+unit-le u h = within-facts 64 4096 u (both (within 64 4096 u) (eqb (u % 64) 0) h .0)
+
+-- a kind for a reader is for the record test
+pub for-test : (reader : Reader) (kind : ℕ) → isFor reader kind ≡ true → isFor Test kind ≡ true
+for-test Test kind h = h
+for-test Standby kind h = let f = within-facts PAGE COMMIT kind h in within-of PAGE ACK kind (f .0) (omega arith)
+for-test Primary kind h = let e = eqb-true kind ACK h in within-of PAGE ACK kind (omega arith) (omega arith)
+
+-- it is one of five: a fact of it is shown at each
+pub kind-cases : (P : ℕ → Type 0) → P PAGE → P BLOCK → P STATE → P COMMIT → P ACK → (kind : ℕ) → isFor Test kind ≡ true → P kind
+kind-cases P p1 p2 p3 p4 p5 kind h = let f = within-facts PAGE ACK kind h in go kind (f .0) (f .1)
+  where
+    go : (k : ℕ) → PAGE ≤ k → k ≤ ACK → P k
+    go zero a b = absurd (omega arith)
+    go (suc zero) a b = p1
+    go (suc (suc zero)) a b = p2
+    go (suc (suc (suc zero))) a b = p3
+    go (suc (suc (suc (suc zero)))) a b = p4
+    go (suc (suc (suc (suc (suc zero))))) a b = p5
+    go (suc (suc (suc (suc (suc (suc k)))))) a b = absurd (omega arith)
+
+-- each kind has an epoch, and none is longer than a PAGE of the largest U
+pub record-ge : (u kind : ℕ) → isFor Test kind ≡ true → 8 ≤ recordLength u kind
+unfolding recordLength bodyLength
+record-ge u = kind-cases (λ (k : ℕ). 8 ≤ recordLength u k) (omega arith) (omega arith) (omega arith) (omega arith) (omega arith)
+
+pub record-le : (u kind : ℕ) → unitOk u ≡ true → isFor Test kind ≡ true → recordLength u kind ≤ 4106
+unfolding recordLength bodyLength
+record-le u kind v =
+    let h = unit-le u v in
+    kind-cases (λ (k : ℕ). recordLength u k ≤ 4106) (omega arith) (omega arith) (omega arith) (omega arith) (omega arith) kind
+
+-- ---- the order of reading: one law for each answer
+
+-- a record whose bytes are all there
+pub record Whole (reader : Reader) (u : ℕ) (s : List ℕ) : Type 0 where
+  pub unit : unitOk u ≡ true
+  pub kind : isFor reader (leAt 2 s 2) ≡ true
+  pub size : leAt 2 s 0 ≡ bodyLength u (leAt 2 s 2)
+  pub body : recordLength u (leAt 2 s 2) ≤ length s
+
+module _ (reader : Reader) (u : ℕ) (s : List ℕ) where
+  pub read-unit : unitOk u ≡ false → readRecord reader u s ≡ Refused 1
+  unfolding readRecord
+  read-unit v = rw v
+
+  pub read-whole : Whole reader u s → readRecord reader u s ≡ fieldsOf u (leAt 2 s 2) s
+  unfolding readRecord recordLength
+  read-whole w =
+      let h : headerLength ≤ length s = omega (arith, w .body) in
+      rw (w .unit, le-leb _ _ h, w .kind, eq-eqb _ _ (w .size), le-leb _ _ (w .body))
+
+  module _ (v : unitOk u ≡ true) where
+    pub read-no-header : length s < headerLength → readRecord reader u s ≡ Short
+    unfolding readRecord
+    read-no-header h = rw (v, lt-leb _ _ h)
+
+    module _ (h : headerLength ≤ length s) where
+      pub read-kind : isFor reader (leAt 2 s 2) ≡ false → readRecord reader u s ≡ Refused 6
+      unfolding readRecord
+      read-kind k = rw (v, le-leb _ _ h, k)
+
+      module _ (k : isFor reader (leAt 2 s 2) ≡ true) where
+        pub read-length : (leAt 2 s 0 ≡ bodyLength u (leAt 2 s 2) → ⊥) → readRecord reader u s ≡ Refused 7
+        unfolding readRecord
+        read-length l = rw (v, le-leb _ _ h, k, ne-eqb _ _ l)
+
+        pub read-no-body : leAt 2 s 0 ≡ bodyLength u (leAt 2 s 2) → length s < recordLength u (leAt 2 s 2) → readRecord reader u s ≡ Short
+        unfolding readRecord
+        read-no-body l b = rw (v, le-leb _ _ h, k, eq-eqb _ _ l, lt-leb _ _ b)
+
+-- ---- the ways through the definitions: a fact of what is read is shown at each answer
+pub read-cases : (P : Record → Type 0) (reader : Reader) (u : ℕ) (s : List ℕ)
+    → (unitOk u ≡ false → P (Refused 1))
+    → (unitOk u ≡ true → isFor reader (leAt 2 s 2) ≡ false → P (Refused 6))
+    → (unitOk u ≡ true → isFor reader (leAt 2 s 2) ≡ true → P (Refused 7))
+    → (unitOk u ≡ true → P Short)
+    → (Whole reader u s → P (fieldsOf u (leAt 2 s 2) s))
+    → P (readRecord reader u s)
+unfolding readRecord
+read-cases P reader u s r1 r6 r7 sh f =
+    let k = leAt 2 s 2 in
+    go (unitOk u) (leb headerLength (length s)) (isFor reader k) (eqb (leAt 2 s 0) (bodyLength u k)) (leb (recordLength u k) (length s))
+    r1 r6 r7 sh
+    (λ v i l b. f (record { unit = v; kind = i; size = eqb-true (leAt 2 s 0) (bodyLength u k) l; body = leb-true (recordLength u k) (length s) b }))
+  where
+    go : (v h i l b : Bool) → (v ≡ false → P (Refused 1)) → (v ≡ true → i ≡ false → P (Refused 6)) → (v ≡ true → i ≡ true → P (Refused 7)) → (v ≡ true → P Short)
+        → (v ≡ true → i ≡ true → l ≡ true → b ≡ true → P (fieldsOf u (leAt 2 s 2) s))
+        → P (cond v (cond h (cond i (cond l (cond b (fieldsOf u (leAt 2 s 2) s) Short) (Refused 7)) (Refused 6)) Short) (Refused 1))
+    go false h i l b r1 r6 r7 sh f = r1 refl
+    go true false i l b r1 r6 r7 sh f = sh refl
+    go true true false l b r1 r6 r7 sh f = r6 refl refl
+    go true true true false b r1 r6 r7 sh f = r7 refl refl
+    go true true true true false r1 r6 r7 sh f = sh refl
+    go true true true true true r1 r6 r7 sh f = f refl refl refl refl
+
+pub fields-cases : (P : Record → Type 0) (u kind : ℕ) (s : List ℕ) → isFor Test kind ≡ true
+    → (kind ≡ PAGE → P (Page (leAt 4 s 4) (leAt 2 s 8) (cursor 10 (recordLength u PAGE))))
+    → (kind ≡ BLOCK → P (Block (leAt 4 s 4) (leAt 2 s 8) (cursor 10 (recordLength u BLOCK))))
+    → (kind ≡ STATE → P (State (leAt 4 s 4) (cursor 8 (recordLength u STATE))))
+    → (kind ≡ COMMIT → P (Commit (leAt 4 s 4) (leAt 2 s 8) (leAt 2 s 10) (cursor 12 (recordLength u COMMIT))))
+    → (kind ≡ ACK → P (Ack (leAt 4 s 4) (cursor 8 (recordLength u ACK))))
+    → P (fieldsOf u kind s)
+unfolding fieldsOf
+fields-cases P u kind s h f1 f2 f3 f4 f5 =
+    kind-cases (λ (k : ℕ). kind ≡ k → P (fieldsOf u k s)) f1 f2 f3 f4 f5 kind h refl
+
+-- ---- the reader matters for 6 only
+
+-- a kind that is for the reader is read as the record test reads it
+pub read-as-test : (reader : Reader) (u : ℕ) (s : List ℕ) → isFor reader (leAt 2 s 2) ≡ true → readRecord reader u s ≡ readRecord Test u s
+unfolding readRecord
+read-as-test reader u s k = rw (k, for-test reader (leAt 2 s 2) k)
+
+pub reader-or-six : (reader : Reader) (u : ℕ) (s : List ℕ)
+    → (readRecord reader u s ≡ readRecord Test u s) ⊎ ((isFor reader (leAt 2 s 2) ≡ false) × (readRecord reader u s ≡ Refused 6))
+reader-or-six reader u s =
+    ⊎-elim
+    (λ k. inl (read-as-test reader u s k))
+    (λ k. ⊎-elim
+    (λ v. ⊎-elim
+    (λ h. inl (read-no-header reader u s v h ∙ sym (read-no-header Test u s v h)))
+    (λ h. inr (k, read-kind reader u s v h k))
+    (lt-or-ge (length s) headerLength))
+    (λ v. inl (read-unit reader u s v ∙ sym (read-unit Test u s v)))
+    (by-test (unitOk u)))
+    (by-test (isFor reader (leAt 2 s 2)))
+
+-- ---- what is framed is read back
+flat : (kind : ℕ) (body rest : List ℕ) → frame kind body ++ rest ≡ leBytes 2 (length body) ++ (leBytes 2 kind ++ (body ++ rest))
+unfolding frame
+flat kind body rest = simp append-assoc
+
+-- body is the body of a record of a kind that is for the reader
+pub record Framed (reader : Reader) (u kind : ℕ) (body : List ℕ) : Type 0 where
+  pub unit : unitOk u ≡ true
+  pub for-reader : isFor reader kind ≡ true
+  pub size : bodyLength u kind ≡ length body
+
+module _ (reader : Reader) (u kind : ℕ) (body : List ℕ) (f : Framed reader u kind body) where
+  length-at : (rest : List ℕ) → leAt 2 (frame kind body ++ rest) 0 ≡ length body
+  unfolding recordLength
+  length-at rest =
+      let b : length body < 2 ^ 16 = omega (arith, f .size, record-le u kind (f .unit) (for-test reader kind (f .for-reader))) in
+      rw flat (leAt-leBytes 2 (length body) (leBytes 2 kind ++ (body ++ rest)) b)
+
+  kind-at : (rest : List ℕ) → leAt 2 (frame kind body ++ rest) 2 ≡ kind
+  kind-at rest =
+      let k = within-facts PAGE ACK kind (for-test reader kind (f .for-reader)) in
+      rw flat (leAt-skip 2 (length body) 2 0 (leBytes 2 kind ++ (body ++ rest)) ∙ leAt-leBytes 2 kind (body ++ rest) (omega arith))
+
+  -- a record is read whole, whatever follows
+  pub frame-read : (rest : List ℕ) → readRecord reader u (frame kind body ++ rest) ≡ fieldsOf u kind (frame kind body ++ rest)
+  unfolding recordLength
+  frame-read rest =
+      let s = frame kind body ++ rest in
+      let len : length s ≡ 4 + length body + length rest = simp (length-append, length-frame) in
+      let b : recordLength u kind ≤ length s = omega (arith, f .size) in
+      read-whole reader u s
+      (record { unit = f .unit; kind = rw kind-at (f .for-reader); size = rw (length-at, kind-at) (sym (f .size)); body = rw kind-at b })
+      ∙ ap (λ (k : ℕ). fieldsOf u k s) (kind-at rest)
+
+  -- any first part of it is cut short
+  pub frame-short : (n : ℕ) (rest : List ℕ) → n < length (frame kind body) → readRecord reader u (take n (frame kind body ++ rest)) ≡ Short
+  unfolding recordLength
+  frame-short n rest h =
+      let s = frame kind body ++ rest in
+      let hl : n < 4 + length body = rw length-frame at h in
+      let whole : length s ≡ 4 + length body + length rest = simp (length-append, length-frame) in
+      let len : length (take n s) ≡ n = length-take-le n s (omega arith) in
+      ⊎-elim
+      (λ (c : n < 4). read-no-header reader u (take n s) (f .unit) (omega arith))
+      (λ (c : 4 ≤ n).
+      let l0 : leAt 2 (take n s) 0 ≡ length body = leAt-take 2 0 n s (omega arith) ∙ length-at rest in
+      let l2 : leAt 2 (take n s) 2 ≡ kind = leAt-take 2 2 n s (omega arith) ∙ kind-at rest in
+      let b : length (take n s) < recordLength u kind = omega (arith, f .size) in
+      read-no-body reader u (take n s) (f .unit) (omega arith) (rw l2 (f .for-reader)) (rw (l0, l2) (sym (f .size))) (rw l2 b))
+      (lt-or-ge n 4)
+
+-- the fields of a frame: the epoch, and what follows it
+pub epoch-at : (kind epoch : ℕ) (t rest : List ℕ) → epoch < 2 ^ 32 → leAt 4 (frame kind (leBytes 4 epoch ++ t) ++ rest) 4 ≡ epoch
+epoch-at kind epoch t rest fits =
+    rw (flat, append-assoc (leBytes 4 epoch))
+    (leAt-skip 2 _ 4 2 _ ∙ leAt-skip 2 kind 4 0 _ ∙ leAt-leBytes 4 epoch _ fits)
+
+pub field-at : (k kind epoch : ℕ) (t rest : List ℕ) (i : ℕ) → leAt k (frame kind (leBytes 4 epoch ++ t) ++ rest) (8 + i) ≡ leAt k (t ++ rest) i
+unfolding leBytes
+field-at k kind epoch t rest i =
+    rw (flat, append-assoc (leBytes 4 epoch))
+    (leAt-append k i (leBytes 2 (length (leBytes 4 epoch ++ t)) ++ leBytes 2 kind ++ leBytes 4 epoch) (t ++ rest))
+
+-- ---- what holds of every answer
+
+-- a record of a kind, whose field of bytes is size long
+pub record RecordFacts (reader : Reader) (u : ℕ) (s : List ℕ) (kind size : ℕ) (at : Cursor) : Type 0 where
+  pub unit : unitOk u ≡ true
+  pub for-reader : isFor reader kind ≡ true
+  pub used : at .end ≡ recordLength u kind
+  pub inside : at .end ≤ length s
+  pub ordered : at .start ≤ at .end
+  pub span : at .end ≡ at .start + size
+
+abbrev pub ReadFacts : Reader → ℕ → List ℕ → Record → Type 0
+ReadFacts reader u s (Page e p c) = RecordFacts reader u s PAGE u c
+ReadFacts reader u s (Block e n c) = RecordFacts reader u s BLOCK u c
+ReadFacts reader u s (State e c) = RecordFacts reader u s STATE processorBytes c
+ReadFacts reader u s (Commit e p b c) = RecordFacts reader u s COMMIT 0 c
+ReadFacts reader u s (Ack e c) = RecordFacts reader u s ACK 0 c
+ReadFacts reader u s Short = unitOk u ≡ true
+ReadFacts reader u s (Refused n) = ((n ≡ 1) × (unitOk u ≡ false)) ⊎ ((unitOk u ≡ true) × ((n ≡ 6) ⊎ (n ≡ 7)))
+
+pub read-facts : (reader : Reader) (u : ℕ) (s : List ℕ) → ReadFacts reader u s (readRecord reader u s)
+unfolding recordLength bodyLength
+read-facts reader u s =
+    read-cases (ReadFacts reader u s) reader u s
+    (λ v. inl (refl, v))
+    (λ v k. inr (v, inl refl))
+    (λ v k. inr (v, inr refl))
+    (λ v. v)
+    (λ w. fields-cases (ReadFacts reader u s) u (leAt 2 s 2) s (for-test reader (leAt 2 s 2) (w .kind))
+    (λ e. found w e 10 u (omega arith))
+    (λ e. found w e 10 u (omega arith))
+    (λ e. found w e 8 processorBytes refl)
+    (λ e. found w e 12 0 refl)
+    (λ e. found w e 8 0 refl))
+  where
+    found : Whole reader u s → {kind : ℕ} → leAt 2 s 2 ≡ kind → (start size : ℕ) → recordLength u kind ≡ start + size
+        → RecordFacts reader u s kind size (cursor start (recordLength u kind))
+    found w e start size h =
+        record { unit = w .unit; for-reader = rw e at (w .kind); used = refl; inside = rw e at (w .body); ordered = omega arith; span = h }
+
+-- the same in numbers, for every answer alike
+pub record ReadRanges (reader : Reader) (s : List ℕ) (r : Record) : Type 0 where
+  pub number : numberOf r ≤ cutShort
+  pub kind : kindOf r ≤ ACK
+  pub for-reader : numberOf r ≡ 0 → isFor reader (kindOf r) ≡ true
+  pub used : usedOf r ≤ 4106
+  pub within : usedOf r ≤ length s
+
+pub read-ranges : (reader : Reader) (u : ℕ) (s : List ℕ) → ReadRanges reader s (readRecord reader u s)
+read-ranges reader u s = go (readRecord reader u s) (read-facts reader u s)
+  where
+    used-le : {kind size : ℕ} {at : Cursor} → RecordFacts reader u s kind size at → at .end ≤ 4106
+    used-le {kind} f = rw (f .used) (record-le u kind (f .unit) (for-test reader kind (f .for-reader)))
+
+    go : (r : Record) → ReadFacts reader u s r → ReadRanges reader s r
+    go (Page e p c) f = record { number = omega arith; kind = omega arith; for-reader = λ z. f .for-reader; used = used-le f; within = f .inside }
+    go (Block e n c) f = record { number = omega arith; kind = omega arith; for-reader = λ z. f .for-reader; used = used-le f; within = f .inside }
+    go (State e c) f = record { number = omega arith; kind = omega arith; for-reader = λ z. f .for-reader; used = used-le f; within = f .inside }
+    go (Commit e p b c) f = record { number = omega arith; kind = omega arith; for-reader = λ z. f .for-reader; used = used-le f; within = f .inside }
+    go (Ack e c) f = record { number = omega arith; kind = omega arith; for-reader = λ z. f .for-reader; used = used-le f; within = f .inside }
+    go Short f = record { number = omega arith; kind = omega arith; for-reader = λ z. absurd (omega arith); used = omega arith; within = omega arith }
+    go (Refused n) f =
+        let h : (0 < n) × (n ≤ 7) = ⊎-elim (λ a. (omega arith, omega arith)) (λ a. ⊎-elim (λ b. (omega arith, omega arith)) (λ b. (omega arith, omega arith)) (a .1)) f in
+        record { number = omega arith; kind = omega arith; for-reader = λ z. absurd (omega arith); used = omega arith; within = omega arith }
+
+-- a record never uses more bytes than there are
+pub read-within : (reader : Reader) (u : ℕ) (s : List ℕ) → usedOf (readRecord reader u s) ≤ length s
+read-within reader u s = read-ranges reader u s .within
+
+-- of bytes, each number that is read fits its field
+abbrev pub FieldsFit : Record → Type 0
+FieldsFit (Page e p c) = (e < 2 ^ 32) × (p < 2 ^ 16)
+FieldsFit (Block e n c) = (e < 2 ^ 32) × (n < 2 ^ 16)
+FieldsFit (State e c) = e < 2 ^ 32
+FieldsFit (Commit e p b c) = (e < 2 ^ 32) × (p < 2 ^ 16) × (b < 2 ^ 16)
+FieldsFit (Ack e c) = e < 2 ^ 32
+FieldsFit Short = Unit {0}
+FieldsFit (Refused n) = Unit {0}
+
+pub read-fits : (reader : Reader) (u : ℕ) (s : List ℕ) → ((j : ℕ) → getD s j 0 < 256) → FieldsFit (readRecord reader u s)
+read-fits reader u s h =
+    let e = leAt-lt 4 4 s h in
+    let p = leAt-lt 2 8 s h in
+    let b = leAt-lt 2 10 s h in
+    read-cases FieldsFit reader u s (λ v. tt) (λ v k. tt) (λ v k. tt) (λ v. tt)
+    (λ w. fields-cases FieldsFit u (leAt 2 s 2) s (for-test reader (leAt 2 s 2) (w .kind)) (λ k. (e, p)) (λ k. (e, p)) (λ k. e) (λ k. (e, p, b)) (λ k. e))

@@ -1,0 +1,40 @@
+use borrow.Author.Needs.{needs}
+use Rattle.records.proofs.reading.is_for.Statement.{statement}
+use Rattle.records.proofs.reading.is_for.Tie as tie
+
+enum-told : tie.Need-enum-told
+enum-told c = search needs
+
+between-requires : tie.Need-between-requires
+between-requires c κs = search needs
+
+enum-told-2 : tie.Need-enum-told-2
+enum-told-2 c = search needs
+
+between-requires-2 : tie.Need-between-requires-2
+between-requires-2 c κs = search needs
+
+enum-told-3 : tie.Need-enum-told-3
+enum-told-3 c = search needs
+
+returns : tie.Need-returns
+returns c = rw (c .before .enum-told .given .1) (c .between .ensures)
+
+returns-2 : tie.Need-returns-2
+returns-2 c = rw (c .before .enum-told2 .given .1) (c .between2 .ensures)
+
+returns-3 : tie.Need-returns-3
+returns-3 c = rw (c .enum-told3 .given .1)
+
+pub is-for-spec : {M : Type 1} → statement M
+is-for-spec =
+    tie.close
+    (tie.spec
+    enum-told
+    between-requires
+    enum-told-2
+    between-requires-2
+    enum-told-3
+    returns
+    returns-2
+    returns-3)

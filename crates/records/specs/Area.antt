@@ -1,0 +1,27 @@
+-- The standby disk's record area. Assumes nothing.
+use Prim.Native.Nat.{ℕ}
+use mathlib.Core.Bool.{Bool, true, cond, _&&_}
+use mathlib.Core.List.{List, [], _∷_}
+use lib.Dec.{eqb}
+use lib.ListN.{length}
+use Rattle.lists.specs.LittleEndian.{leAt}
+use Rattle.records.specs.declared.Area.{Area}
+use Rattle.records.specs.declared.Area.the-variants.{Zero, Activation, Neither}
+use Rattle.records.specs.Kind.{ACTIVATION}
+
+-- "record area 8"
+abbrev pub areaLength : ℕ
+areaLength = 8
+
+-- each byte is 0
+unfoldable pub allZero : List ℕ → Bool
+allZero [] = true
+allZero (b ∷ s) = eqb b 0 && allZero s
+
+-- "an all-zero record area", "a record of length 4, kind 6", or neither
+unfoldable pub areaOf : List ℕ → Area
+areaOf s =
+    cond (eqb (length s) areaLength)
+    (cond (allZero s) Zero
+    (cond (eqb (leAt 2 s 0) 4 && eqb (leAt 2 s 2) ACTIVATION) (Activation (leAt 4 s 4)) Neither))
+    Neither

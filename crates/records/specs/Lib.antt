@@ -1,0 +1,5 @@
+pub mod Kind
+pub mod Read
+pub mod Write
+pub mod Area
+pub mod Message

@@ -1,0 +1,84 @@
+-- Reading one record: what stands at the head of some bytes, for a reader. Assumes nothing.
+use Prim.Native.Nat.{ℕ}
+use mathlib.Core.Bool.{cond}
+use mathlib.Core.List.{List}
+use lib.Dec.{leb, eqb}
+use lib.ListN.{length}
+use Rattle.lists.specs.LittleEndian.{leAt}
+use Rattle.records.specs.declared.Cursor.{Cursor}
+use Rattle.records.specs.declared.Reader.{Reader}
+use Rattle.records.specs.declared.Record.{Record}
+use Rattle.records.specs.declared.Record.the-variants.{Page, Block, State, Commit, Ack, Short, Refused}
+use Rattle.records.specs.Kind.{unitOk, PAGE, BLOCK, STATE, COMMIT, ACK, bodyLength, recordLength, headerLength, isFor}
+
+-- a field of bytes from start on, up to the end of its record
+abbrev pub cursor : ℕ → ℕ → Cursor
+cursor start end = record { start = start; end = end }
+
+-- the record of a kind whose bytes are all there: each kind with its own fields
+unfoldable pub fieldsOf : ℕ → ℕ → List ℕ → Record
+fieldsOf u kind s =
+    let end = recordLength u kind in
+    cond (eqb kind PAGE) (Page (leAt 4 s 4) (leAt 2 s 8) (cursor 10 end))
+    (cond (eqb kind BLOCK) (Block (leAt 4 s 4) (leAt 2 s 8) (cursor 10 end))
+    (cond (eqb kind STATE) (State (leAt 4 s 4) (cursor 8 end))
+    (cond (eqb kind COMMIT) (Commit (leAt 4 s 4) (leAt 2 s 8) (leAt 2 s 10) (cursor 12 end))
+    (Ack (leAt 4 s 4) (cursor 8 end)))))
+
+-- in this order: 1, header incomplete, 6 for that reader, 7, body incomplete, the record
+unfoldable pub readRecord : Reader → ℕ → List ℕ → Record
+readRecord reader u s =
+    let kind = leAt 2 s 2 in
+    cond (unitOk u)
+    (cond (leb headerLength (length s))
+    (cond (isFor reader kind)
+    (cond (eqb (leAt 2 s 0) (bodyLength u kind))
+    (cond (leb (recordLength u kind) (length s)) (fieldsOf u kind s) Short)
+    (Refused 7))
+    (Refused 6))
+    Short)
+    (Refused 1)
+
+-- the number that stands for cut short where one is wanted: none of document 01's
+abbrev pub cutShort : ℕ
+cutShort = 256
+
+-- the paper's number of each case: 0 is accepted
+abbrev pub numberOf : Record → ℕ
+numberOf (Page e p c) = 0
+numberOf (Block e n c) = 0
+numberOf (State e c) = 0
+numberOf (Commit e p b c) = 0
+numberOf (Ack e c) = 0
+numberOf Short = cutShort
+numberOf (Refused n) = n
+
+-- its kind; 0 where there is no record
+abbrev pub kindOf : Record → ℕ
+kindOf (Page e p c) = PAGE
+kindOf (Block e n c) = BLOCK
+kindOf (State e c) = STATE
+kindOf (Commit e p b c) = COMMIT
+kindOf (Ack e c) = ACK
+kindOf Short = 0
+kindOf (Refused n) = 0
+
+-- the value of a read: the kind for kinds 1 to 4, the epoch for an ACK; "Every refusal's value is 0"
+abbrev pub valueOf : Record → ℕ
+valueOf (Page e p c) = PAGE
+valueOf (Block e n c) = BLOCK
+valueOf (State e c) = STATE
+valueOf (Commit e p b c) = COMMIT
+valueOf (Ack e c) = e
+valueOf Short = 0
+valueOf (Refused n) = 0
+
+-- the bytes used; "A record cut short or refused uses 0"
+abbrev pub usedOf : Record → ℕ
+usedOf (Page e p c) = c .end
+usedOf (Block e n c) = c .end
+usedOf (State e c) = c .end
+usedOf (Commit e p b c) = c .end
+usedOf (Ack e c) = c .end
+usedOf Short = 0
+usedOf (Refused n) = 0

@@ -1,0 +1,222 @@
+// Reading one record: what stands at the head of some bytes, for a reader.
+ghost use mathlib.Core.Path.{_≡_};
+ghost use Prim.Native.Nat.{_≤_};
+ghost use mathlib.Core.Bool.{true};
+ghost use lib.ListN.{length};
+ghost use Rattle.lists.specs.Refusal.{within};
+ghost use Rattle.records.specs.Kind.{unitOk, bodyLength, recordLength, isFor};
+ghost use Rattle.records.specs.Read.{fieldsOf, readRecord, numberOf, kindOf, usedOf};
+use crate::ACK;
+use crate::COMMIT;
+use crate::CUT_SHORT;
+use crate::Cursor;
+use crate::PAGE;
+use crate::Reader;
+use crate::Record;
+use crate::field::get2;
+use crate::field::get4;
+
+// Whether U is in its range.
+pub fn unit_ok(u: usize) -> bool
+    ensures { λ r. ⌜ r ≡ unitOk u ⌝ }
+{
+    if u < 64 {
+        return false;
+    }
+    if 4096 < u {
+        return false;
+    }
+    if u % 64 != 0 {
+        return false;
+    }
+    true
+}
+
+// Whether a kind is one of low to high.
+fn between(low: u32, high: u32, kind: u32) -> bool
+    ensures { λ r. ⌜ r ≡ within low high kind ⌝ }
+{
+    if kind < low {
+        return false;
+    }
+    if high < kind {
+        return false;
+    }
+    true
+}
+
+// Whether records of a kind go to a reader.
+pub fn is_for(reader: Reader, kind: u32) -> bool
+    ensures { λ r. ⌜ r ≡ isFor reader kind ⌝ }
+{
+    match reader {
+        Reader::Test => between(PAGE, ACK, kind),
+        Reader::Standby => between(PAGE, COMMIT, kind),
+        Reader::Primary => kind == ACK,
+    }
+}
+
+// The length of the body of a kind, 0 for what is no kind.
+fn body_length(u: usize, kind: u32) -> usize
+    requires { ⌜ u ≤ 4096 ⌝ }
+    ensures { λ r. ⌜ r ≡ bodyLength u kind ⌝ }
+{
+    match kind {
+        1 => u + 6,
+        2 => u + 6,
+        3 => 68,
+        4 => 8,
+        5 => 4,
+        6 => 4,
+        _ => 0,
+    }
+}
+
+// The record of a kind whose bytes are all there.
+fn fields(u: usize, kind: u32, s: &[u8]) -> Record
+    requires { ⌜ (u ≤ 4096) × (isFor Reader.Test kind ≡ true) × (recordLength u kind ≤ length (now s)) ⌝ }
+    ensures { λ r. ⌜ r ≡ fieldsOf u kind (now (s .entry)) ⌝ }
+{
+    let epoch = get4(s, 4);
+    match kind {
+        1 => Record::Page {
+            epoch,
+            page: get2(s, 8) as usize,
+            at: Cursor {
+                start: 10,
+                end: u + 10,
+            },
+        },
+        2 => Record::Block {
+            epoch,
+            block: get2(s, 8) as usize,
+            at: Cursor {
+                start: 10,
+                end: u + 10,
+            },
+        },
+        3 => Record::State {
+            epoch,
+            at: Cursor { start: 8, end: 72 },
+        },
+        4 => Record::Commit {
+            epoch,
+            pages: get2(s, 8) as usize,
+            blocks: get2(s, 10) as usize,
+            at: Cursor { start: 12, end: 12 },
+        },
+        _ => Record::Ack {
+            epoch,
+            at: Cursor { start: 8, end: 8 },
+        },
+    }
+}
+
+// What stands at the head of s. In this order: 1, header incomplete, 6 for this reader, 7, body incomplete, the record.
+pub fn read(reader: Reader, u: usize, s: &[u8]) -> Record
+    ensures { λ r. ⌜ r ≡ readRecord reader u (now (s .entry)) ⌝ }
+{
+    if !unit_ok(u) {
+        return Record::Refused { number: 1 };
+    }
+    if s.len() < 4 {
+        return Record::Short;
+    }
+    let length = get2(s, 0) as usize;
+    let kind = get2(s, 2);
+    let for_reader = is_for(reader, kind);
+    let n = body_length(u, kind);
+    if !for_reader {
+        return Record::Refused { number: 6 };
+    }
+    if length != n {
+        return Record::Refused { number: 7 };
+    }
+    if s.len() < 4 + n {
+        return Record::Short;
+    }
+    fields(u, kind, s)
+}
+
+// The paper's number of an answer: 0 accepted, the named number of cut short, or the refusal's.
+pub fn number_of(r: Record) -> u64
+    ensures { λ n. ⌜ n ≡ numberOf r ⌝ }
+{
+    match r {
+        Record::Page {
+            epoch: _,
+            page: _,
+            at: _,
+        } => 0,
+        Record::Block {
+            epoch: _,
+            block: _,
+            at: _,
+        } => 0,
+        Record::State { epoch: _, at: _ } => 0,
+        Record::Commit {
+            epoch: _,
+            pages: _,
+            blocks: _,
+            at: _,
+        } => 0,
+        Record::Ack { epoch: _, at: _ } => 0,
+        Record::Short => CUT_SHORT,
+        Record::Refused { number } => number,
+    }
+}
+
+pub fn kind_of(r: Record) -> u64
+    ensures { λ n. ⌜ n ≡ kindOf r ⌝ }
+{
+    match r {
+        Record::Page {
+            epoch: _,
+            page: _,
+            at: _,
+        } => 1,
+        Record::Block {
+            epoch: _,
+            block: _,
+            at: _,
+        } => 2,
+        Record::State { epoch: _, at: _ } => 3,
+        Record::Commit {
+            epoch: _,
+            pages: _,
+            blocks: _,
+            at: _,
+        } => 4,
+        Record::Ack { epoch: _, at: _ } => 5,
+        Record::Short => 0,
+        Record::Refused { number: _ } => 0,
+    }
+}
+
+// The bytes that an answer used.
+pub fn used_of(r: Record) -> usize
+    ensures { λ n. ⌜ n ≡ usedOf r ⌝ }
+{
+    match r {
+        Record::Page {
+            epoch: _,
+            page: _,
+            at,
+        } => at.end,
+        Record::Block {
+            epoch: _,
+            block: _,
+            at,
+        } => at.end,
+        Record::State { epoch: _, at } => at.end,
+        Record::Commit {
+            epoch: _,
+            pages: _,
+            blocks: _,
+            at,
+        } => at.end,
+        Record::Ack { epoch: _, at } => at.end,
+        Record::Short => 0,
+        Record::Refused { number: _ } => 0,
+    }
+}

@@ -1,0 +1,79 @@
+/* What the link daemon calls in liblink.a. */
+
+#ifndef STANDBY_PAIR_LINK_H
+#define STANDBY_PAIR_LINK_H
+
+#include <stddef.h>
+#include <stdint.h>
+
+#ifdef __cplusplus
+extern "C" {
+#endif
+
+/*
+ * The record test: is there a record at the head of these bytes?
+ *
+ * u is the setting U, the bytes in a page and in a block. bytes points to len readable bytes. They
+ * are read during the call only, and never written. bytes is never a null pointer: for len 0, pass
+ * any valid pointer.
+ *
+ * The answer is one word, number + 256 * kind + 65536 * used:
+ *
+ *   number  kind    used
+ *   1       0       0       U is not a multiple of 64 from 64 to 4096
+ *   6       0       0       the header's kind is not 1 to 5
+ *   7       0       0       the header's length is not that kind's
+ *   0       0       0       cut short: call again with more bytes behind these
+ *   0       1 to 5  4 + n   a whole record of that kind, with a body of n bytes
+ *
+ * They are judged in this order: 1, fewer than the header's 4 bytes (cut short), 6, 7, fewer bytes
+ * than the record's (cut short). Bytes behind the record are not looked at. Nor are the body's
+ * fields: only the end that reads the record judges its epoch, numbers and counts.
+ */
+uint64_t record_test(uint64_t u, const uint8_t *bytes, size_t len);
+
+/* The numbers of a refusal. */
+enum {
+    RECORD_BAD_U = 1,
+    RECORD_BAD_KIND = 6,
+    RECORD_BAD_LENGTH = 7
+};
+
+/* The kinds of a record. */
+enum {
+    RECORD_PAGE = 1,
+    RECORD_BLOCK = 2,
+    RECORD_STATE = 3,
+    RECORD_COMMIT = 4,
+    RECORD_ACK = 5
+};
+
+/* The refusal's number, or 0 where nothing is refused. */
+static inline unsigned record_number(uint64_t word)
+{
+    return (unsigned)(word & 255);
+}
+
+/* The record's kind, or 0 where no whole record is there. */
+static inline unsigned record_kind(uint64_t word)
+{
+    return (unsigned)(word >> 8 & 255);
+}
+
+/* The record's bytes, header and body, or 0 where no whole record is there. */
+static inline size_t record_used(uint64_t word)
+{
+    return (size_t)(word >> 16);
+}
+
+/* Whether the bytes so far are the beginning of a record, or empty. */
+static inline int record_cut_short(uint64_t word)
+{
+    return (word & 65535) == 0;
+}
+
+#ifdef __cplusplus
+}
+#endif
+
+#endif

@@ -1,0 +1,516 @@
+/*
+ * Calls record_test as the link daemon does, on cases worked out by hand.
+ *
+ * A failing case is printed with its input; the last line is 'N passed, M failed'.
+ */
+
+#include <signal.h>
+#include <stdio.h>
+#include <stdlib.h>
+#include <string.h>
+#include <sys/mman.h>
+#include <unistd.h>
+
+#include "link.h"
+
+#define SIZE(array) (sizeof(array) / sizeof((array)[0]))
+
+/* Room for the longest record, PAGE or BLOCK at U 4096, and for bytes behind it. */
+#define ROOM 8192
+
+static unsigned passed, failed;
+
+/* ROOM bytes can be written and read before it, and none from it on. */
+static uint8_t *edge;
+
+static void make_edge(void)
+{
+    size_t page = (size_t)sysconf(_SC_PAGESIZE);
+    size_t half = (ROOM + page - 1) / page * page;
+    uint8_t *area =
+        mmap(NULL, 2 * half, PROT_READ | PROT_WRITE, MAP_PRIVATE | MAP_ANONYMOUS, -1, 0);
+
+    if (area == MAP_FAILED || mprotect(area + half, half, PROT_NONE) != 0) {
+        perror("main: guard page");
+        exit(2);
+    }
+    edge = area + half;
+}
+
+/* The input, of a very long one its head. */
+static void print_input(uint64_t u, const uint8_t *bytes, size_t len)
+{
+    size_t head = len <= 512 ? len : 64;
+
+    printf("  U %llu, %zu bytes:", (unsigned long long)u, len);
+    for (size_t i = 0; i < head; i++)
+        printf(" %02x", bytes[i]);
+    printf("%s\n", head < len ? " .." : "");
+}
+
+static void print_word(const char *who, uint64_t word)
+{
+    printf("  %s: word %llu, number %u, kind %u, used %zu%s\n", who, (unsigned long long)word,
+           record_number(word), record_kind(word), record_used(word),
+           record_cut_short(word) ? ", cut short" : "");
+}
+
+/* The case under way, for a call that reads where nothing can be read. */
+static struct {
+    const char *what;
+    uint64_t u;
+    const uint8_t *bytes;
+    size_t len;
+} current;
+
+static void begin(const char *what, uint64_t u, const uint8_t *bytes, size_t len)
+{
+    current.what = what;
+    current.u = u;
+    current.bytes = bytes;
+    current.len = len;
+}
+
+/* The fault is the call's own, so no printing was under way. */
+static void read_outside(int signal)
+{
+    (void)signal;
+    printf("FAILED %s: a read past the end, the cases behind it are not tried\n", current.what);
+    print_input(current.u, current.bytes, current.len);
+    printf("%u passed, %u failed\n", passed, failed + 1);
+    fflush(stdout);
+    _exit(1);
+}
+
+/*
+ * One case. It is called twice. First the bytes are taken where they lie: what the caller has
+ * behind them, such as the rest of the record, must not matter. Then they end where the readable
+ * memory ends, so that a read past them would stop the program.
+ *
+ * An empty input has a pointer too, and not a null one. The function takes a Rust-like slice
+ * reference, which is never null, whatever its length, so its compiler is free to build on that;
+ * what a null pointer would do is not said anywhere. The second call of an empty input passes a
+ * pointer to memory that cannot be read, which a slice of length 0 may have.
+ */
+static void check(const char *what, uint64_t u, const uint8_t *bytes, size_t len, unsigned number,
+                  unsigned kind, size_t used)
+{
+    uint64_t want = number + 256 * (uint64_t)kind + 65536 * (uint64_t)used;
+    uint64_t got, again;
+
+    begin(what, u, bytes, len);
+    got = record_test(u, bytes, len);
+    memcpy(edge - len, bytes, len);
+    again = record_test(u, edge - len, len);
+
+    if (got == want && again == want && record_number(got) == number && record_kind(got) == kind &&
+        record_used(got) == used && record_cut_short(got) == (number == 0 && kind == 0)) {
+        passed++;
+        return;
+    }
+    failed++;
+    printf("FAILED %s\n", what);
+    print_input(u, bytes, len);
+    print_word("wanted", want);
+    print_word("got", got);
+    if (again != got)
+        print_word("got for a copy", again);
+}
+
+static void check_whole(const char *what, uint64_t u, const uint8_t *bytes, size_t len,
+                        unsigned kind, size_t used)
+{
+    check(what, u, bytes, len, 0, kind, used);
+}
+
+static void check_cut_short(const char *what, uint64_t u, const uint8_t *bytes, size_t len)
+{
+    check(what, u, bytes, len, 0, 0, 0);
+}
+
+static void check_refused(const char *what, uint64_t u, const uint8_t *bytes, size_t len,
+                          unsigned number)
+{
+    check(what, u, bytes, len, number, 0, 0);
+}
+
+/* E3: ACK 1. */
+static const uint8_t ack1[] = {0x04, 0x00, 0x05, 0x00, 0x01, 0x00, 0x00, 0x00};
+
+/* E4: COMMIT epoch 2, 3 pages, 1 block. */
+static const uint8_t commit2[] = {0x08, 0x00, 0x04, 0x00, 0x02, 0x00,
+                                  0x00, 0x00, 0x03, 0x00, 0x01, 0x00};
+
+/* E5: activation at 0. It lies in the standby's record area and is no record of the link. */
+static const uint8_t activation0[] = {0x04, 0x00, 0x06, 0x00, 0x00, 0x00, 0x00, 0x00};
+
+static void examples(void)
+{
+    check_whole("E3, ACK 1", 64, ack1, 8, 5, 8);
+    check_whole("E4, COMMIT 2", 64, commit2, 12, 4, 12);
+    check_refused("E5, an activation", 64, activation0, 8, 6);
+    check_refused("E5, its header only", 64, activation0, 4, 6);
+    check_cut_short("E5, its header less one byte", 64, activation0, 3);
+}
+
+/* Each kind's header and whole length, by hand. */
+static const struct kind {
+    const char *name;
+    uint64_t u;
+    uint8_t header[4];
+    unsigned kind;
+    size_t whole;
+} kinds[] = {
+    {"PAGE at U 64", 64, {0x46, 0x00, 0x01, 0x00}, 1, 74},
+    {"BLOCK at U 64", 64, {0x46, 0x00, 0x02, 0x00}, 2, 74},
+    {"STATE at U 64", 64, {0x44, 0x00, 0x03, 0x00}, 3, 72},
+    {"COMMIT at U 64", 64, {0x08, 0x00, 0x04, 0x00}, 4, 12},
+    {"ACK at U 64", 64, {0x04, 0x00, 0x05, 0x00}, 5, 8},
+    {"PAGE at U 128", 128, {0x86, 0x00, 0x01, 0x00}, 1, 138},
+    {"BLOCK at U 192", 192, {0xc6, 0x00, 0x02, 0x00}, 2, 202},
+    {"PAGE at U 256", 256, {0x06, 0x01, 0x01, 0x00}, 1, 266},
+    {"BLOCK at U 1024", 1024, {0x06, 0x04, 0x02, 0x00}, 2, 1034},
+    {"PAGE at U 4096", 4096, {0x06, 0x10, 0x01, 0x00}, 1, 4106},
+    {"BLOCK at U 4096", 4096, {0x06, 0x10, 0x02, 0x00}, 2, 4106},
+    {"STATE at U 4096", 4096, {0x44, 0x00, 0x03, 0x00}, 3, 72},
+    {"COMMIT at U 4096", 4096, {0x08, 0x00, 0x04, 0x00}, 4, 12},
+    {"ACK at U 4096", 4096, {0x04, 0x00, 0x05, 0x00}, 5, 8},
+};
+
+/* A header and, up to len, what stands for a body: bytes that count on from first. */
+static void fill(uint8_t *to, const uint8_t header[4], size_t len, uint8_t first)
+{
+    memcpy(to, header, 4);
+    for (size_t i = 4; i < len; i++)
+        to[i] = (uint8_t)(first + i);
+}
+
+static void each_kind(void)
+{
+    static uint8_t bytes[ROOM];
+    char what[80];
+
+    for (size_t k = 0; k < SIZE(kinds); k++) {
+        const struct kind *r = &kinds[k];
+        size_t whole = r->whole;
+
+        fill(bytes, r->header, ROOM, 0);
+        check_whole(r->name, r->u, bytes, whole, r->kind, whole);
+        for (size_t len = 0; len < whole; len++) {
+            if (len == 100 && whole > 300)
+                len = whole - 100; /* of a long record only the first and the last places */
+            snprintf(what, sizeof what, "%s, %zu bytes missing", r->name, whole - len);
+            check_cut_short(what, r->u, bytes, len);
+        }
+        for (size_t tail = 1; tail <= 80; tail++) {
+            snprintf(what, sizeof what, "%s, %zu bytes behind it", r->name, tail);
+            check_whole(what, r->u, bytes, whole + tail, r->kind, whole);
+        }
+        snprintf(what, sizeof what, "%s, many bytes behind it", r->name);
+        check_whole(what, r->u, bytes, ROOM, r->kind, whole);
+
+        memset(bytes + 4, 0x00, ROOM - 4);
+        snprintf(what, sizeof what, "%s, its body all zeros", r->name);
+        check_whole(what, r->u, bytes, whole, r->kind, whole);
+
+        memset(bytes + 4, 0xff, ROOM - 4);
+        snprintf(what, sizeof what, "%s, its body all ones", r->name);
+        check_whole(what, r->u, bytes, whole, r->kind, whole);
+    }
+}
+
+static void short_headers(void)
+{
+    static const uint8_t zeros[4] = {0}, ones[4] = {0xff, 0xff, 0xff, 0xff};
+
+    check_cut_short("empty", 64, zeros, 0);
+    check_cut_short("empty at U 4096", 4096, zeros, 0);
+    check_cut_short("header of 1 byte", 64, ones, 1);
+    check_cut_short("header of 2 bytes, no kind's length", 64, ones, 2);
+    check_cut_short("header of 3 bytes, no kind", 64, ones, 3);
+    check_cut_short("header of 3 bytes, zeros", 64, zeros, 3);
+    check_refused("header of 4 bytes, zeros", 64, zeros, 4, 6);
+    check_refused("header of 4 bytes, ones", 64, ones, 4, 6);
+}
+
+/* Headers that are refused, at U 64: alone, with few bytes behind them, and with many. */
+static void refused_headers(void)
+{
+    static const struct {
+        const char *what;
+        uint8_t header[4];
+        unsigned number;
+    } rows[] = {
+        {"kind 0 with ACK's length", {0x04, 0x00, 0x00, 0x00}, 6},
+        {"kind 6 with ACK's length", {0x04, 0x00, 0x06, 0x00}, 6},
+        {"kind 7 with ACK's length", {0x04, 0x00, 0x07, 0x00}, 6},
+        {"kind 8 with ACK's length", {0x04, 0x00, 0x08, 0x00}, 6},
+        {"kind 255 with ACK's length", {0x04, 0x00, 0xff, 0x00}, 6},
+        {"kind 256", {0x04, 0x00, 0x00, 0x01}, 6},
+        {"kind 256 + 1, PAGE in its low byte", {0x46, 0x00, 0x01, 0x01}, 6},
+        {"kind 256 + 5, ACK in its low byte", {0x04, 0x00, 0x05, 0x01}, 6},
+        {"kind 32768 + 4, COMMIT in its low byte", {0x08, 0x00, 0x04, 0x80}, 6},
+        {"kind 65535", {0x04, 0x00, 0xff, 0xff}, 6},
+
+        {"PAGE, length 0", {0x00, 0x00, 0x01, 0x00}, 7},
+        {"PAGE, length U", {0x40, 0x00, 0x01, 0x00}, 7},
+        {"PAGE, one less", {0x45, 0x00, 0x01, 0x00}, 7},
+        {"PAGE, one more", {0x47, 0x00, 0x01, 0x00}, 7},
+        {"PAGE, the header counted in", {0x4a, 0x00, 0x01, 0x00}, 7},
+        {"PAGE, 256 more", {0x46, 0x01, 0x01, 0x00}, 7},
+        {"PAGE, U 128's length", {0x86, 0x00, 0x01, 0x00}, 7},
+        {"PAGE, U 4096's length", {0x06, 0x10, 0x01, 0x00}, 7},
+        {"PAGE, STATE's length", {0x44, 0x00, 0x01, 0x00}, 7},
+        {"BLOCK, length 0", {0x00, 0x00, 0x02, 0x00}, 7},
+        {"BLOCK, one less", {0x45, 0x00, 0x02, 0x00}, 7},
+        {"BLOCK, one more", {0x47, 0x00, 0x02, 0x00}, 7},
+        {"BLOCK, U 128's length", {0x86, 0x00, 0x02, 0x00}, 7},
+        {"STATE, length 0", {0x00, 0x00, 0x03, 0x00}, 7},
+        {"STATE, its 64 bytes only", {0x40, 0x00, 0x03, 0x00}, 7},
+        {"STATE, one less", {0x43, 0x00, 0x03, 0x00}, 7},
+        {"STATE, one more", {0x45, 0x00, 0x03, 0x00}, 7},
+        {"STATE, PAGE's length", {0x46, 0x00, 0x03, 0x00}, 7},
+        {"STATE, the header counted in", {0x48, 0x00, 0x03, 0x00}, 7},
+        {"COMMIT, length 0", {0x00, 0x00, 0x04, 0x00}, 7},
+        {"COMMIT, ACK's length", {0x04, 0x00, 0x04, 0x00}, 7},
+        {"COMMIT, one less", {0x07, 0x00, 0x04, 0x00}, 7},
+        {"COMMIT, one more", {0x09, 0x00, 0x04, 0x00}, 7},
+        {"COMMIT, the header counted in", {0x0c, 0x00, 0x04, 0x00}, 7},
+        {"ACK, length 0", {0x00, 0x00, 0x05, 0x00}, 7},
+        {"ACK, one less", {0x03, 0x00, 0x05, 0x00}, 7},
+        {"ACK, one more", {0x05, 0x00, 0x05, 0x00}, 7},
+        {"ACK, COMMIT's length", {0x08, 0x00, 0x05, 0x00}, 7},
+        {"ACK, 256 more", {0x04, 0x01, 0x05, 0x00}, 7},
+        {"ACK, 32768 more", {0x04, 0x80, 0x05, 0x00}, 7},
+        {"ACK, length 65535", {0xff, 0xff, 0x05, 0x00}, 7},
+
+        {"kind before length: length 5, kind 4", {0x05, 0x00, 0x04, 0x00}, 7},
+        {"big-endian ACK: length 1024, kind 1280", {0x00, 0x04, 0x00, 0x05}, 6},
+        {"big-endian length only", {0x00, 0x04, 0x05, 0x00}, 7},
+        {"big-endian kind only", {0x04, 0x00, 0x00, 0x05}, 6},
+
+        {"6 before 7: kind 0, length 0", {0x00, 0x00, 0x00, 0x00}, 6},
+        {"6 before 7: kind 6, length 5", {0x05, 0x00, 0x06, 0x00}, 6},
+        {"6 before 7: kind 6, length 65535", {0xff, 0xff, 0x06, 0x00}, 6},
+        {"6 before 7: kind 9, length 1", {0x01, 0x00, 0x09, 0x00}, 6},
+    };
+    static const size_t lengths[] = {4, 5, 8, 12, 71, 72, 73, 74, 75, 200, ROOM};
+    static uint8_t bytes[ROOM];
+    char what[80];
+
+    for (size_t r = 0; r < SIZE(rows); r++) {
+        fill(bytes, rows[r].header, ROOM, 0x30);
+        for (size_t l = 0; l < SIZE(lengths); l++) {
+            snprintf(what, sizeof what, "%s, in %zu bytes", rows[r].what, lengths[l]);
+            check_refused(what, 64, bytes, lengths[l], rows[r].number);
+        }
+        /* Not yet: what is wrong stands in a header that is not whole. */
+        snprintf(what, sizeof what, "%s, in 3 bytes", rows[r].what);
+        check_cut_short(what, 64, bytes, 3);
+    }
+}
+
+/* Every U in range has PAGEs and BLOCKs of its own length, and refuses its neighbours'. */
+static void lengths_by_u(void)
+{
+    static uint8_t bytes[ROOM];
+    char what[80];
+
+    for (uint64_t u = 64; u <= 4096; u += 64) {
+        for (unsigned kind = 1; kind <= 2; kind++) {
+            size_t body = (size_t)u + 6;
+            const uint8_t header[4] = {(uint8_t)body, (uint8_t)(body >> 8), (uint8_t)kind, 0};
+
+            fill(bytes, header, ROOM, 0x55);
+            snprintf(what, sizeof what, "kind %u at its U", kind);
+            check_whole(what, u, bytes, body + 4, kind, body + 4);
+            snprintf(what, sizeof what, "kind %u at its U, one byte short", kind);
+            check_cut_short(what, u, bytes, body + 3);
+            snprintf(what, sizeof what, "kind %u at the next U", kind);
+            check_refused(what, u + 64, bytes, ROOM, u == 4096 ? 1 : 7);
+            snprintf(what, sizeof what, "kind %u at the U before", kind);
+            check_refused(what, u - 64, bytes, ROOM, u == 64 ? 1 : 7);
+        }
+        check_whole("ACK at any U", u, ack1, sizeof ack1, 5, 8);
+        check_whole("COMMIT at any U", u, commit2, sizeof commit2, 4, 12);
+    }
+}
+
+/* A U out of range is 1, whatever the bytes are. */
+static void u_out_of_range(void)
+{
+    static const uint64_t us[] = {
+        0, 1, 2, 32, 63, 65, 68, 70, 96, 127, 129, 4032 + 32, 4095, 4097, 4102, 4160, 8192, 65536,
+        65536 + 64, 1 << 20, UINT64_C(0xffffffff), UINT64_C(1) << 32, (UINT64_C(1) << 32) + 64,
+        (UINT64_C(1) << 32) + 4096, UINT64_C(1) << 63, (UINT64_C(1) << 63) + 64,
+        UINT64_MAX - 63, UINT64_MAX - 5, UINT64_MAX - 1, UINT64_MAX,
+    };
+    static uint8_t bytes[ROOM];
+
+    for (size_t i = 0; i < SIZE(us); i++) {
+        uint64_t u = us[i];
+        uint64_t body = u + 6;
+        const uint8_t page[4] = {(uint8_t)body, (uint8_t)(body >> 8), 1, 0};
+        static const uint8_t bad_length[4] = {0x05, 0x00, 0x05, 0x00};
+
+        check_refused("U out of range, empty", u, ack1, 0, 1);
+        check_refused("U out of range, header cut", u, ack1, 3, 1);
+        check_refused("U out of range, header only", u, ack1, 4, 1);
+        check_refused("U out of range, ACK", u, ack1, sizeof ack1, 1);
+        check_refused("U out of range, COMMIT", u, commit2, sizeof commit2, 1);
+        check_refused("U out of range, kind 6", u, activation0, sizeof activation0, 1);
+        fill(bytes, bad_length, ROOM, 0);
+        check_refused("U out of range, wrong length", u, bytes, 9, 1);
+        fill(bytes, page, ROOM, 0);
+        check_refused("U out of range, PAGE of that U", u, bytes, ROOM, 1);
+        fill(bytes, kinds[0].header, ROOM, 0);
+        check_refused("U out of range, PAGE of U 64", u, bytes, 74, 1);
+    }
+    check_cut_short("U 64 is in range", 64, ack1, 0);
+    check_cut_short("U 128 is in range", 128, ack1, 0);
+    check_cut_short("U 4032 is in range", 4032, ack1, 0);
+    check_cut_short("U 4096 is in range", 4096, ack1, 0);
+}
+
+/* The daemon: it holds what has arrived and takes whole records off its head. */
+struct daemon {
+    uint64_t u;
+    uint8_t held[ROOM];
+    size_t waiting;
+    char taken[64]; /* the kinds of the records taken, a digit each, in order */
+    size_t records;
+    uint64_t last; /* the word that ended the walk: cut short or a refusal */
+    int broken;    /* a record of more bytes than are held, or of none */
+};
+
+static void arrive(struct daemon *d, const uint8_t *bytes, size_t len)
+{
+    size_t at = 0;
+
+    memcpy(d->held + d->waiting, bytes, len);
+    d->waiting += len;
+    for (;;) {
+        uint64_t word = record_test(d->u, d->held + at, d->waiting - at);
+        size_t used = record_used(word);
+
+        d->last = word;
+        if (record_cut_short(word) || record_number(word) != 0)
+            break;
+        if (used == 0 || used > d->waiting - at || d->records == sizeof d->taken - 1) {
+            d->broken = 1;
+            break;
+        }
+        d->taken[d->records++] = (char)('0' + record_kind(word));
+        at += used;
+    }
+    memmove(d->held, d->held + at, d->waiting - at);
+    d->waiting -= at;
+}
+
+/*
+ * One case: the daemon gets the bytes a chunk at a time, takes the records of these kinds, and then
+ * has so many bytes left and that number (0 is cut short).
+ */
+static void check_daemon(const char *what, uint64_t u, const uint8_t *bytes, size_t len,
+                         size_t chunk, const char *taken, size_t left, unsigned number)
+{
+    static struct daemon d;
+
+    begin(what, u, bytes, len);
+    memset(&d, 0, sizeof d);
+    d.u = u;
+    for (size_t at = 0; at < len && !d.broken && record_number(d.last) == 0; at += chunk)
+        arrive(&d, bytes + at, len - at < chunk ? len - at : chunk);
+
+    if (!d.broken && strcmp(d.taken, taken) == 0 && d.waiting == left && d.last == number) {
+        passed++;
+        return;
+    }
+    failed++;
+    printf("FAILED the daemon: %s, in chunks of %zu\n", what, chunk);
+    print_input(u, bytes, len);
+    printf("  wanted: kinds %s, %zu bytes left, number %u\n", taken, left, number);
+    printf("  got: kinds %s, %zu bytes left%s\n", d.taken, d.waiting, d.broken ? ", broken" : "");
+    print_word("got last", d.last);
+}
+
+/* Appends a record of row k of the table of kinds. */
+static size_t append(uint8_t *to, size_t at, size_t k, uint8_t first)
+{
+    fill(to + at, kinds[k].header, kinds[k].whole, first);
+    return at + kinds[k].whole;
+}
+
+static void daemon_walks(void)
+{
+    static uint8_t bytes[2 * ROOM];
+    static const size_t chunks[] = {1, 2, 3, 4, 5, 8, 13, 73, 74, 75, 100, 500};
+    size_t n = 0;
+
+    /* Two checkpoints at U 64: 2 BLOCKs, 1 PAGE; then 1 PAGE only. */
+    n = append(bytes, n, 1, 0x10);
+    n = append(bytes, n, 1, 0x20);
+    n = append(bytes, n, 0, 0x30);
+    n = append(bytes, n, 2, 0x40);
+    n = append(bytes, n, 3, 0x50);
+    n = append(bytes, n, 0, 0x60);
+    n = append(bytes, n, 2, 0x70);
+    n = append(bytes, n, 3, 0x80);
+    for (size_t c = 0; c < SIZE(chunks); c++) {
+        check_daemon("two checkpoints", 64, bytes, n, chunks[c], "22134134", 0, 0);
+        check_daemon("two checkpoints less a byte", 64, bytes, n - 1, chunks[c], "2213413", 11, 0);
+        check_daemon("two checkpoints less COMMIT", 64, bytes, n - 12, chunks[c], "2213413", 0, 0);
+        check_daemon("nothing", 64, bytes, 0, chunks[c], "", 0, 0);
+    }
+    check_daemon("two checkpoints at once", 64, bytes, n, n, "22134134", 0, 0);
+
+    /* What is no record stops the daemon there. It is found when its header is whole. */
+    memcpy(bytes + n, activation0, sizeof activation0);
+    check_daemon("an activation behind", 64, bytes, n + 8, n + 8, "22134134", 8, 6);
+    check_daemon("an activation behind", 64, bytes, n + 8, 1, "22134134", 4, 6);
+    check_daemon("an activation cut", 64, bytes, n + 3, 1, "22134134", 3, 0);
+    bytes[74]++; /* the length of the second BLOCK */
+    check_daemon("a damaged length", 64, bytes, n, n, "2", n - 74, 7);
+    check_daemon("a damaged length", 64, bytes, n, 1, "2", 4, 7);
+    bytes[74]--;
+    check_daemon("another U", 128, bytes, n, n, "", n, 7);
+    check_daemon("a U out of range", 65, bytes, n, n, "", n, 1);
+
+    /* ACKs on their way back, with E3's at the head. */
+    n = 0;
+    for (uint8_t e = 1; e <= 40; e++) {
+        memcpy(bytes + n, ack1, sizeof ack1);
+        bytes[n + 4] = e;
+        n += sizeof ack1;
+    }
+    for (size_t c = 0; c < SIZE(chunks); c++) {
+        check_daemon("40 ACKs", 64, bytes, n, chunks[c],
+                     "5555555555555555555555555555555555555555", 0, 0);
+        check_daemon("40 ACKs less 5 bytes", 4096, bytes, n - 5, chunks[c],
+                     "555555555555555555555555555555555555555", 3, 0);
+    }
+
+    /* A checkpoint at U 4096: BLOCK, PAGE, STATE and COMMIT. */
+    n = append(bytes, 0, 10, 0x01);
+    n = append(bytes, n, 9, 0x02);
+    n = append(bytes, n, 11, 0x03);
+    n = append(bytes, n, 12, 0x04);
+    check_daemon("U 4096", 4096, bytes, n, 1, "2134", 0, 0);
+    check_daemon("U 4096", 4096, bytes, n, 1500, "2134", 0, 0);
+    check_daemon("U 4096 less a byte", 4096, bytes, n - 1, 1500, "213", 11, 0);
+}
+
+int main(void)
+{
+    make_edge();
+    signal(SIGSEGV, read_outside);
+    examples();
+    each_kind();
+    short_headers();
+    refused_headers();
+    lengths_by_u();
+    u_out_of_range();
+    daemon_walks();
+    printf("%u passed, %u failed\n", passed, failed);
+    return failed != 0;
+}
