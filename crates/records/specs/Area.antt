@@ -7,6 +7,7 @@ use lib.ListN.{length}
 use Rattle.lists.specs.LittleEndian.{leAt}
 use Rattle.records.specs.declared.Area.{Area}
 use Rattle.records.specs.declared.Area.the-variants.{Zero, Activation, Neither}
+use Rattle.records.specs.Number.{badArea}
 use Rattle.records.specs.Kind.{ACTIVATION}
 
 -- "record area 8"
@@ -25,3 +26,9 @@ areaOf s =
     (cond (allZero s) Zero
     (cond (eqb (leAt 2 s 0) 4 && eqb (leAt 2 s 2) ACTIVATION) (Activation (leAt 4 s 4)) Neither))
     Neither
+
+-- the paper's number of each case: 12, "record area neither zero nor a record"
+abbrev pub areaNumber : Area → ℕ
+areaNumber Zero = 0
+areaNumber (Activation epoch) = 0
+areaNumber Neither = badArea

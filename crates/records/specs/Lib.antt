@@ -1,3 +1,4 @@
+pub mod Number
 pub mod Kind
 pub mod Read
 pub mod Write

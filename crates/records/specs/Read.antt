@@ -9,6 +9,7 @@ use Rattle.records.specs.declared.Cursor.{Cursor}
 use Rattle.records.specs.declared.Reader.{Reader}
 use Rattle.records.specs.declared.Record.{Record}
 use Rattle.records.specs.declared.Record.the-variants.{Page, Block, State, Commit, Ack, Short, Refused}
+use Rattle.records.specs.Number.{outOfRange, badKind, badLength}
 use Rattle.records.specs.Kind.{unitOk, PAGE, BLOCK, STATE, COMMIT, ACK, bodyLength, recordLength, headerLength, isFor}
 
 -- a field of bytes from start on, up to the end of its record
@@ -34,10 +35,10 @@ readRecord reader u s =
     (cond (isFor reader kind)
     (cond (eqb (leAt 2 s 0) (bodyLength u kind))
     (cond (leb (recordLength u kind) (length s)) (fieldsOf u kind s) Short)
-    (Refused 7))
-    (Refused 6))
+    (Refused badLength))
+    (Refused badKind))
     Short)
-    (Refused 1)
+    (Refused outOfRange)
 
 -- the number that stands for cut short where one is wanted: none of document 01's
 abbrev pub cutShort : ℕ

@@ -1,0 +1,82 @@
+-- The numbers of document 01, "Numbers from the input" and "Numbers from the state", by name. Assumes nothing.
+use Prim.Native.Nat.{ℕ}
+
+-- a setting, a lent length, or a state outside its ranges
+abbrev pub outOfRange : ℕ
+outOfRange = 1
+
+-- page number not below M, block not below D
+abbrev pub noSuchUnit : ℕ
+noSuchUnit = 2
+
+-- a memory write empty or past its page, block data not U bytes
+abbrev pub badSize : ℕ
+badSize = 3
+
+-- packet length
+abbrev pub badPacket : ℕ
+badPacket = 4
+
+-- reply buffer under 8, or destination shorter than the packet
+abbrev pub noRoom : ℕ
+noRoom = 5
+
+-- kind not for this end
+abbrev pub badKind : ℕ
+badKind = 6
+
+-- length not the kind's
+abbrev pub badLength : ℕ
+badLength = 7
+
+-- epoch not the last received plus 1
+abbrev pub badEpoch : ℕ
+badEpoch = 8
+
+-- BLOCK after PAGE or STATE, PAGE not above the last or after STATE, second STATE, COMMIT without STATE
+abbrev pub outOfOrder : ℕ
+outOfOrder = 9
+
+-- counts differ from those received
+abbrev pub badCounts : ℕ
+badCounts = 10
+
+-- ACK not above the acknowledged epoch or not below the open one
+abbrev pub badAck : ℕ
+badAck = 11
+
+-- record area neither zero nor a record
+abbrev pub badArea : ℕ
+badArea = 12
+
+-- checkpoint or ACK when alone, a record when not receiving, activation when not taking over, a guest write at a standby not active
+abbrev pub wrongMode : ℕ
+wrongMode = 13
+
+-- the epoch already has B blocks
+abbrev pub allowanceUsed : ℕ
+allowanceUsed = 14
+
+-- the stream lacks the bytes needed
+abbrev pub streamFull : ℕ
+streamFull = 15
+
+-- 64 packets held, or Q would be passed
+abbrev pub queueFull : ℕ
+queueFull = 16
+
+-- S blocks staged
+abbrev pub slotsFull : ℕ
+slotsFull = 17
+
+-- nothing may be handed out
+abbrev pub nothingFree : ℕ
+nothingFree = 18
+
+-- the open epoch is 4,294,967,295
+abbrev pub lastEpoch : ℕ
+lastEpoch = 19
+
+-- blocks still due at activation
+abbrev pub blocksDue : ℕ
+blocksDue = 20
