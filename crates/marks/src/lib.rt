@@ -1,0 +1,1 @@
+// One bit a page in lent 64-bit words.

@@ -1,0 +1,74 @@
+-- The ranges of the settings (document 01, "Settings"). Assumes nothing.
+use Prim.Native.Nat.{ℕ, _+_, _*_}
+use mathlib.Core.Bool.{Bool, _&&_}
+use lib.Dec.{leb}
+use Rattle.lists.specs.Refusal.{within}
+use Rattle.records.specs.Kind.{unitOk, PAGE, BLOCK, STATE, COMMIT, recordLength}
+use Rattle.settings.specs.declared.Settings.{Settings}
+use Rattle.settings.specs.declared.PrimarySettings.{PrimarySettings}
+use Rattle.settings.specs.declared.StandbySettings.{StandbySettings}
+
+-- "At most 64 packets are held, each of 1 to 1,514 bytes"
+abbrev pub mostPackets : ℕ
+mostPackets = 64
+
+abbrev pub mostPacketBytes : ℕ
+mostPacketBytes = 1514
+
+abbrev pub packetLengthOk : ℕ → Bool
+packetLengthOk n = within 1 mostPacketBytes n
+
+-- "S", at most
+abbrev pub mostSlots : ℕ
+mostSlots = 64
+
+-- the last epoch that there is
+abbrev pub mostEpoch : ℕ
+mostEpoch = 4294967295
+
+-- M, D, B, S, Q, T
+abbrev pub memoryPagesOk : ℕ → Bool
+memoryPagesOk m = within 1 4096 m
+
+abbrev pub diskBlocksOk : ℕ → Bool
+diskBlocksOk d = leb d 4096
+
+abbrev pub allowanceOk : ℕ → Bool
+allowanceOk b = leb b 64
+
+abbrev pub blockSlotsOk : ℕ → ℕ → Bool
+blockSlotsOk b s = within b mostSlots s
+
+abbrev pub heldBytesOk : ℕ → Bool
+heldBytesOk q = leb q 32768
+
+abbrev pub patienceOk : ℕ → Bool
+patienceOk t = within 1 60000 t
+
+-- L: room for a checkpoint of every page and every block allowed, STATE and COMMIT
+unfoldable pub leastStream : ℕ → ℕ → ℕ → ℕ
+leastStream u m b = m * recordLength u PAGE + b * recordLength u BLOCK + (recordLength u STATE + recordLength u COMMIT)
+
+abbrev pub streamOk : ℕ → ℕ → ℕ → ℕ → Bool
+streamOk u m b l = within (leastStream u m b) 33554432 l
+
+unfoldable pub settingsOk : Settings → Bool
+settingsOk g =
+    unitOk (g .u) && memoryPagesOk (g .m) && diskBlocksOk (g .d) && allowanceOk (g .b) && blockSlotsOk (g .b) (g .s)
+    && heldBytesOk (g .q) && streamOk (g .u) (g .m) (g .b) (g .l) && patienceOk (g .t)
+
+unfoldable pub primarySettingsOk : PrimarySettings → Bool
+primarySettingsOk g =
+    unitOk (g .u) && memoryPagesOk (g .m) && diskBlocksOk (g .d) && allowanceOk (g .b)
+    && heldBytesOk (g .q) && streamOk (g .u) (g .m) (g .b) (g .l)
+
+unfoldable pub standbySettingsOk : StandbySettings → Bool
+standbySettingsOk g =
+    unitOk (g .u) && memoryPagesOk (g .m) && diskBlocksOk (g .d) && allowanceOk (g .b) && blockSlotsOk (g .b) (g .s)
+
+-- what each end keeps of them
+abbrev pub ofPrimary : Settings → PrimarySettings
+ofPrimary g = record { u = g .u; m = g .m; d = g .d; b = g .b; q = g .q; l = g .l }
+
+abbrev pub ofStandby : Settings → StandbySettings
+ofStandby g = record { u = g .u; m = g .m; d = g .d; b = g .b; s = g .s }
