@@ -1,0 +1,2 @@
+-- What the crates above cite of the rules.
+pub mod Compute

@@ -1,0 +1,81 @@
+-- What a read at the standby is refused with, and the record that an accepted one finds. Assumes nothing.
+use Prim.Native.Nat.{ℕ, _+_}
+use mathlib.Core.Bool.{Bool, cond, _&&_, not}
+use mathlib.Core.List.{List, [], _∷_}
+use lib.Dec.{leb, ltb, eqb}
+use Rattle.lists.specs.Refusal.{test, refusal}
+use Rattle.records.specs.declared.Record.{Record}
+use Rattle.records.specs.declared.Record.the-variants.{Page, Block, State, Commit, Ack, Short, Refused}
+use Rattle.records.specs.declared.Reader.the-variants as reader
+use Rattle.records.specs.Kind.{ACK, recordLength}
+use Rattle.records.specs.Read.{readRecord}
+use Rattle.records.specs.Number.{outOfRange, noSuchUnit, noRoom, badKind, badEpoch, outOfOrder, badCounts, wrongMode, allowanceUsed, slotsFull}
+use Rattle.staging.specs.Slot.{freeSlots}
+use Rattle.rules.specs.declared.Standby.{Standby}
+use Rattle.rules.specs.declared.ReadLent.{ReadLent}
+use Rattle.rules.specs.StandbyState.{standbyOk, isReceiving, memoryLength, slotsLength, marksLength}
+use Rattle.rules.specs.Reply.{unlessRefused}
+
+-- "Lent lengths are exact"; the reply buffer may be of any length
+unfoldable pub readLentOk : Standby → ReadLent → Bool
+readLentOk s l =
+    eqb (l .memory) (memoryLength s)
+    && eqb (l .pages) (memoryLength s)
+    && eqb (l .marks) (marksLength s)
+    && eqb (l .blocks) (slotsLength s)
+
+-- "epoch not the last received plus 1"
+abbrev pub isNext : Standby → ℕ → Bool
+isNext s epoch = eqb epoch (s .received + 1)
+
+-- PAGE: 2 8 9 ("PAGE not above the last or after STATE")
+unfoldable pub pageRefusal : Standby → ℕ → ℕ → ℕ
+pageRefusal s epoch page =
+    refusal
+    (test noSuchUnit (ltb page (s .settings .m))
+    ∷ test badEpoch (isNext s epoch)
+    ∷ test outOfOrder (leb (s .next) page && not (s .seen))
+    ∷ [])
+
+-- BLOCK: 2 8 9 ("BLOCK after PAGE or STATE") 14 17
+unfoldable pub blockRefusal : Standby → ℕ → ℕ → ℕ
+blockRefusal s epoch block =
+    refusal
+    (test noSuchUnit (ltb block (s .settings .d))
+    ∷ test badEpoch (isNext s epoch)
+    ∷ test outOfOrder (eqb (s .next) 0 && not (s .seen))
+    ∷ test allowanceUsed (ltb (s .blocks) (s .settings .b))
+    ∷ test slotsFull (ltb 0 (freeSlots (s .slots) (s .settings .s)))
+    ∷ [])
+
+-- STATE: 8 9 ("second STATE")
+unfoldable pub stateRefusal : Standby → ℕ → ℕ
+stateRefusal s epoch = refusal (test badEpoch (isNext s epoch) ∷ test outOfOrder (not (s .seen)) ∷ [])
+
+-- COMMIT: 5 8 9 ("COMMIT without STATE") 10
+unfoldable pub commitRefusal : Standby → ℕ → ℕ → ℕ → ℕ → ℕ
+commitRefusal s reply epoch pages blocks =
+    refusal
+    (test noRoom (leb (recordLength (s .settings .u) ACK) reply)
+    ∷ test badEpoch (isNext s epoch)
+    ∷ test outOfOrder (s .seen)
+    ∷ test badCounts (eqb pages (s .pages) && eqb blocks (s .blocks))
+    ∷ [])
+
+-- what is cut short has nothing more to be refused for, and stays so
+abbrev pub recordRefusal : Standby → ℕ → Record → ℕ
+recordRefusal s reply (Page e p c) = pageRefusal s e p
+recordRefusal s reply (Block e n c) = blockRefusal s e n
+recordRefusal s reply (State e c) = stateRefusal s e
+recordRefusal s reply (Commit e p b c) = commitRefusal s reply e p b
+recordRefusal s reply (Ack e c) = badKind
+recordRefusal s reply Short = 0
+recordRefusal s reply (Refused n) = n
+
+-- the record at the head of the bytes where it is accepted, else cut short or the number
+unfoldable pub judged : Standby → ReadLent → List ℕ → Record
+judged s l bytes =
+    let r = readRecord reader.Standby (s .settings .u) bytes in
+    cond (standbyOk s && readLentOk s l)
+    (cond (isReceiving (s .mode)) (unlessRefused (recordRefusal s (l .reply) r) r) (Refused wrongMode))
+    (Refused outOfRange)

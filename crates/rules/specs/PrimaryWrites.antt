@@ -1,0 +1,67 @@
+-- The guest's writes at the primary. Assumes nothing.
+use Prim.Native.Nat.{ℕ, _+_}
+use mathlib.Core.Bool.{cond, _&&_, _||_}
+use mathlib.Core.List.{List, [], _∷_}
+use lib.Dec.{leb, ltb, eqb}
+use lib.ListN.{length}
+use Rattle.lists.specs.Refusal.{test, refusal, pick}
+use Rattle.lists.specs.Part.{put}
+use Rattle.lists.specs.Page.{withPage}
+use Rattle.records.specs.Kind.{BLOCK, recordLength}
+use Rattle.records.specs.Write.{blockRecord}
+use Rattle.records.specs.Number.{outOfRange, noSuchUnit, badSize, allowanceUsed, streamFull}
+use Rattle.marks.specs.Mark.{withMark}
+use Rattle.rules.specs.declared.Primary.{Primary}
+use Rattle.rules.specs.declared.PrimaryReply.{PrimaryReply}
+use Rattle.rules.specs.Common.{insidePage, written}
+use Rattle.rules.specs.PrimaryState.{primaryOk, memoryLength, diskLength, marksLength, withBlocks}
+use Rattle.rules.specs.Reply.{primaryReply}
+
+-- ---- memory write: 1 2 3
+unfoldable pub memoryWriteRefusal : Primary → ℕ → ℕ → ℕ → ℕ → ℕ → ℕ
+memoryWriteRefusal p memory dirty page offset n =
+    refusal
+    (test outOfRange (primaryOk p && eqb memory (memoryLength p) && eqb dirty (marksLength p))
+    ∷ test noSuchUnit (ltb page (p .settings .m))
+    ∷ test badSize (insidePage (p .settings .u) offset n)
+    ∷ [])
+
+unfoldable pub memoryWriteReply : Primary → ℕ → ℕ → ℕ → ℕ → ℕ → PrimaryReply
+memoryWriteReply p memory dirty page offset n = primaryReply (memoryWriteRefusal p memory dirty page offset n) p p (p .epoch)
+
+unfoldable pub memoryWriteMemory : Primary → List ℕ → List ℕ → ℕ → ℕ → List ℕ → List ℕ
+memoryWriteMemory p memory dirty page offset bytes =
+    pick (memoryWriteRefusal p (length memory) (length dirty) page offset (length bytes)) (written (p .settings .u) memory page offset bytes) memory
+
+-- "the page becomes dirty even if its bytes are equal"
+unfoldable pub memoryWriteDirty : Primary → List ℕ → List ℕ → ℕ → ℕ → List ℕ → List ℕ
+memoryWriteDirty p memory dirty page offset bytes =
+    pick (memoryWriteRefusal p (length memory) (length dirty) page offset (length bytes)) (withMark dirty page) dirty
+
+-- ---- disk write: 1 2 3 14 15; alone "disk writes append nothing and take no allowance, so 14 and 15 aren't given"
+unfoldable pub diskWriteRefusal : Primary → ℕ → ℕ → ℕ → ℕ → ℕ
+diskWriteRefusal p disk stream block n =
+    refusal
+    (test outOfRange (primaryOk p && eqb disk (diskLength p) && eqb stream (p .settings .l))
+    ∷ test noSuchUnit (ltb block (p .settings .d))
+    ∷ test badSize (eqb n (p .settings .u))
+    ∷ test allowanceUsed (p .alone || ltb (p .blocks) (p .settings .b))
+    ∷ test streamFull (p .alone || leb (p .waiting + recordLength (p .settings .u) BLOCK) (p .settings .l))
+    ∷ [])
+
+unfoldable pub diskWriteState : Primary → Primary
+diskWriteState p = cond (p .alone) p (withBlocks p (p .blocks + 1) (p .waiting + recordLength (p .settings .u) BLOCK))
+
+unfoldable pub diskWriteReply : Primary → ℕ → ℕ → ℕ → ℕ → PrimaryReply
+diskWriteReply p disk stream block n = primaryReply (diskWriteRefusal p disk stream block n) p (diskWriteState p) (p .epoch)
+
+-- "U bytes, stored on the primary's disk, and a BLOCK appended to the stream"
+unfoldable pub diskWriteDisk : Primary → List ℕ → List ℕ → ℕ → List ℕ → List ℕ
+diskWriteDisk p disk stream block bytes =
+    pick (diskWriteRefusal p (length disk) (length stream) block (length bytes)) (withPage (p .settings .u) disk block bytes) disk
+
+unfoldable pub diskWriteStream : Primary → List ℕ → List ℕ → ℕ → List ℕ → List ℕ
+diskWriteStream p disk stream block bytes =
+    pick (diskWriteRefusal p (length disk) (length stream) block (length bytes))
+    (cond (p .alone) stream (put stream (p .waiting) (blockRecord (p .epoch) block bytes)))
+    stream

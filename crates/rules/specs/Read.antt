@@ -1,0 +1,128 @@
+-- What a read at the standby leaves, by the record that was judged. Assumes nothing.
+use Prim.Native.Nat.{ℕ, _+_, _-_}
+use mathlib.Core.Bool.{Bool, cond}
+use mathlib.Core.List.{List}
+use lib.Dec.{eqb}
+use lib.ListN.{length}
+use Rattle.lists.specs.Part.{part, put}
+use Rattle.lists.specs.Page.{withPage}
+use Rattle.records.specs.declared.Cursor.{Cursor}
+use Rattle.records.specs.declared.Record.{Record}
+use Rattle.records.specs.declared.Record.the-variants.{Page, Block, State, Commit, Ack, Short, Refused}
+use Rattle.records.specs.Kind.{COMMIT}
+use Rattle.records.specs.Read.{kindOf}
+use Rattle.records.specs.Write.{ackRecord}
+use Rattle.marks.specs.Mark.{withMark, cleared}
+use Rattle.pages.specs.Dirty.{installed}
+use Rattle.staging.specs.Slot.{withBlock, withBlockBytes, allDue}
+use Rattle.detector.specs.declared.Detector.{Detector}
+use Rattle.detector.specs.Tick.{reset}
+use Rattle.rules.specs.declared.Standby.{Standby}
+use Rattle.rules.specs.declared.ReadLent.{ReadLent}
+use Rattle.rules.specs.declared.StandbyAnswer.{StandbyAnswer}
+use Rattle.rules.specs.StandbyState.{withPages, withSlots, withState, withNoRecords, withReceived, withDetector}
+use Rattle.rules.specs.Reply.{answerOf}
+use Rattle.rules.specs.Judge.{judged}
+
+-- the bytes field of a record
+abbrev pub bytesAt : Cursor → List ℕ → List ℕ
+bytesAt c bytes = part (c .start) (c .end - c .start) bytes
+
+-- "returns to 0 at each accepted COMMIT": which kinds reset the count
+abbrev pub resetsCount : ℕ → Bool
+resetsCount kind = eqb kind COMMIT
+
+abbrev pub detectorAfter : ℕ → Detector → Detector
+detectorAfter kind d = cond (resetsCount kind) (reset d) d
+
+-- a checkpoint is sealed: the next record belongs to the next epoch
+abbrev pub sealedState : Standby → Standby
+sealedState s = withNoRecords s
+
+-- and it is installed: "keeps the processor state, makes the epoch's staged blocks due"; its epoch is the last received
+abbrev pub installedState : Standby → ℕ → Standby
+installedState s epoch = withReceived s epoch (allDue (s .slots)) (s .pending)
+
+-- the state after a record is accepted, but for the detector
+abbrev pub afterRecord : Standby → List ℕ → Record → Standby
+afterRecord s bytes (Page e p c) = withPages s (s .pages + 1) (p + 1)
+afterRecord s bytes (Block e n c) = withSlots s (withBlock (s .slots) n) (s .blocks + 1)
+afterRecord s bytes (State e c) = withState s (bytesAt c bytes)
+afterRecord s bytes (Commit e p b c) = installedState (sealedState s) e
+afterRecord s bytes (Ack e c) = s
+afterRecord s bytes Short = s
+afterRecord s bytes (Refused n) = s
+
+abbrev pub readState : Standby → List ℕ → Record → Standby
+readState s bytes r = withDetector (afterRecord s bytes r) (detectorAfter (kindOf r) (s .detector))
+
+-- each lent buffer: "A record cut short or refused .. changes nothing"
+abbrev pub memoryAfter : Standby → List ℕ → List ℕ → List ℕ → Record → List ℕ
+memoryAfter s memory staged marks (Page e p c) = memory
+memoryAfter s memory staged marks (Block e n c) = memory
+memoryAfter s memory staged marks (State e c) = memory
+memoryAfter s memory staged marks (Commit e p b c) = installed memory staged marks (s .settings .u) (s .settings .m)
+memoryAfter s memory staged marks (Ack e c) = memory
+memoryAfter s memory staged marks Short = memory
+memoryAfter s memory staged marks (Refused n) = memory
+
+abbrev pub stagedPagesAfter : Standby → List ℕ → List ℕ → Record → List ℕ
+stagedPagesAfter s bytes staged (Page e p c) = withPage (s .settings .u) staged p (bytesAt c bytes)
+stagedPagesAfter s bytes staged (Block e n c) = staged
+stagedPagesAfter s bytes staged (State e c) = staged
+stagedPagesAfter s bytes staged (Commit e p b c) = staged
+stagedPagesAfter s bytes staged (Ack e c) = staged
+stagedPagesAfter s bytes staged Short = staged
+stagedPagesAfter s bytes staged (Refused n) = staged
+
+abbrev pub stagedMarksAfter : Standby → List ℕ → Record → List ℕ
+stagedMarksAfter s marks (Page e p c) = withMark marks p
+stagedMarksAfter s marks (Block e n c) = marks
+stagedMarksAfter s marks (State e c) = marks
+stagedMarksAfter s marks (Commit e p b c) = cleared marks (s .settings .m)
+stagedMarksAfter s marks (Ack e c) = marks
+stagedMarksAfter s marks Short = marks
+stagedMarksAfter s marks (Refused n) = marks
+
+abbrev pub stagedBlocksAfter : Standby → List ℕ → List ℕ → Record → List ℕ
+stagedBlocksAfter s bytes slots (Page e p c) = slots
+stagedBlocksAfter s bytes slots (Block e n c) = withBlockBytes (s .settings .u) (s .slots) slots (bytesAt c bytes)
+stagedBlocksAfter s bytes slots (State e c) = slots
+stagedBlocksAfter s bytes slots (Commit e p b c) = slots
+stagedBlocksAfter s bytes slots (Ack e c) = slots
+stagedBlocksAfter s bytes slots Short = slots
+stagedBlocksAfter s bytes slots (Refused n) = slots
+
+-- "writes the ACK into the first 8 bytes of the reply buffer"
+abbrev pub replyAfter : List ℕ → Record → List ℕ
+replyAfter reply (Page e p c) = reply
+replyAfter reply (Block e n c) = reply
+replyAfter reply (State e c) = reply
+replyAfter reply (Commit e p b c) = put reply 0 (ackRecord e)
+replyAfter reply (Ack e c) = reply
+replyAfter reply Short = reply
+replyAfter reply (Refused n) = reply
+
+-- the lengths of what is lent
+abbrev pub readLent : List ℕ → List ℕ → List ℕ → List ℕ → List ℕ → ReadLent
+readLent memory stagedPages stagedMarks stagedBlocks reply =
+    record { memory = length memory; pages = length stagedPages; marks = length stagedMarks; blocks = length stagedBlocks; reply = length reply }
+
+-- ---- the call: the record judged, and everything by it
+unfoldable pub readReply : Standby → ReadLent → List ℕ → StandbyAnswer
+readReply s l bytes = record { state = readState s bytes (judged s l bytes); answer = answerOf (judged s l bytes) }
+
+unfoldable pub readMemory : Standby → ReadLent → List ℕ → List ℕ → List ℕ → List ℕ → List ℕ
+readMemory s l bytes memory staged marks = memoryAfter s memory staged marks (judged s l bytes)
+
+unfoldable pub readStagedPages : Standby → ReadLent → List ℕ → List ℕ → List ℕ
+readStagedPages s l bytes staged = stagedPagesAfter s bytes staged (judged s l bytes)
+
+unfoldable pub readStagedMarks : Standby → ReadLent → List ℕ → List ℕ → List ℕ
+readStagedMarks s l bytes marks = stagedMarksAfter s marks (judged s l bytes)
+
+unfoldable pub readStagedBlocks : Standby → ReadLent → List ℕ → List ℕ → List ℕ
+readStagedBlocks s l bytes slots = stagedBlocksAfter s bytes slots (judged s l bytes)
+
+unfoldable pub readReplyBytes : Standby → ReadLent → List ℕ → List ℕ → List ℕ
+readReplyBytes s l bytes reply = replyAfter reply (judged s l bytes)

@@ -1,0 +1,54 @@
+-- The replies of all calls: a refused call leaves the state and every lent buffer as before; "Every refusal's value is 0".
+-- In the refusals and replies of the calls, what is lent stands for its length; in the definitions of buffers, for its bytes. Assumes nothing.
+use Prim.Native.Nat.{ℕ}
+use Rattle.lists.specs.Refusal.{pick}
+use mathlib.Core.Bool.{cond}
+use lib.Dec.{eqb}
+use Rattle.records.specs.Read.{cutShort, valueOf as value, usedOf as used}
+use Rattle.records.specs.declared.Record.{Record}
+use Rattle.records.specs.declared.Record.the-variants as record-of
+use Rattle.rules.specs.declared.Primary.{Primary}
+use Rattle.rules.specs.declared.Standby.{Standby}
+use Rattle.rules.specs.declared.PrimaryReply.{PrimaryReply}
+use Rattle.rules.specs.declared.StandbyReply.{StandbyReply}
+use Rattle.rules.specs.declared.Answer.{Answer}
+use Rattle.rules.specs.declared.Answer.the-variants.{Accepted, Short, Refused}
+
+-- a call with this refusal: the new state and the value where it is accepted
+abbrev pub primaryReply : ℕ → Primary → Primary → ℕ → PrimaryReply
+primaryReply number old new value = record { state = pick number new old; number = number; value = pick number value 0 }
+
+abbrev pub standbyReply : ℕ → Standby → Standby → ℕ → StandbyReply
+standbyReply number old new value = record { state = pick number new old; number = number; value = pick number value 0 }
+
+-- the number, the value and the bytes used of an answer
+abbrev pub numberOf : Answer → ℕ
+numberOf (Accepted value used) = 0
+numberOf Short = cutShort
+numberOf (Refused number) = number
+
+abbrev pub valueOf : Answer → ℕ
+valueOf (Accepted value used) = value
+valueOf Short = 0
+valueOf (Refused number) = 0
+
+abbrev pub usedOf : Answer → ℕ
+usedOf (Accepted value used) = used
+usedOf Short = 0
+usedOf (Refused number) = 0
+
+-- ---- calls that read a record: judged is the record where it is accepted, else cut short or the refusal
+
+-- a record with its own refusal: itself where that is 0
+abbrev pub unlessRefused : ℕ → Record → Record
+unlessRefused number r = cond (eqb number 0) r (record-of.Refused number)
+
+-- what a call answers, by the record that it judged
+abbrev pub answerOf : Record → Answer
+answerOf (record-of.Page e p c) = Accepted (value (record-of.Page e p c)) (used (record-of.Page e p c))
+answerOf (record-of.Block e n c) = Accepted (value (record-of.Block e n c)) (used (record-of.Block e n c))
+answerOf (record-of.State e c) = Accepted (value (record-of.State e c)) (used (record-of.State e c))
+answerOf (record-of.Commit e p b c) = Accepted (value (record-of.Commit e p b c)) (used (record-of.Commit e p b c))
+answerOf (record-of.Ack e c) = Accepted (value (record-of.Ack e c)) (used (record-of.Ack e c))
+answerOf record-of.Short = Short
+answerOf (record-of.Refused n) = Refused n
