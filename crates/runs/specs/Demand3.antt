@@ -1,0 +1,117 @@
+-- Demand 3 as one claim: cut the pair anywhere. Assumes nothing.
+use Prim.Native.Nat.{ℕ, _≤_, _<_}
+use mathlib.Core.Path.{_≡_}
+use mathlib.Core.Bool.{Bool, true, false, cond}
+use mathlib.Core.List.{List, [], _∷_, _++_}
+use lib.ListN.{length, getD, replicate}
+use Rattle.settings.specs.declared.Settings.{Settings}
+use Rattle.rules.specs.declared.Choice.the-variants.{PrimaryDisk, StandbyDisk}
+use Rattle.rules.specs.StandbyState.{isActive}
+use Rattle.rules.specs.Choose.{choiceOf, chosenDisk}
+use Rattle.rules.specs.World.{World, Processor, Call, Buffers, startNumber}
+use Rattle.rules.specs.World as call
+use Rattle.rules.specs.Step.{Stepped}
+use Rattle.runs.specs.Plain.{Plain, receivedCheckpoint, isAlone}
+use Rattle.runs.specs.Run.{Both, Steps, steps, runCall, run, startBoth}
+use Rattle.runs.specs.Cut.{Cut, countedCalls}
+
+abbrev pub active : World → Bool
+active w = isActive (w .standby .state .mode)
+
+-- ---- "Once active, its memory and disk equal the plain pair's byte for byte, its processor state checkpoint r's"
+pub record StandbyRight (b : Both) : Type 0 where
+  pub same : active (b .world) ≡ b .plain .activated
+  pub memory : active (b .world) ≡ true → b .world .standby .memory ≡ b .plain .standbyMemory
+  pub disk : active (b .world) ≡ true → b .world .standby .disk ≡ b .plain .standbyDisk
+  pub processor : active (b .world) ≡ true → b .world .standby .state .processor ≡ receivedCheckpoint (b .plain) .processor
+
+-- ---- "T standby ticks, a flush of all due and activation, added to the list"
+abbrev pub ticksAndFlush : ℕ → ℕ → List Call
+ticksAndFlush t n = replicate t call.standbyTick ++ (call.flush n ∷ [])
+
+abbrev pub takeoverCalls : ℕ → ℕ → List Call
+takeoverCalls t n = ticksAndFlush t n ++ (call.activation ∷ [])
+
+abbrev pub afterTakeover : Steps → Settings → Both → ℕ → Both
+afterTakeover κ g b n = run κ (g .u) b (takeoverCalls (g .t) n)
+
+-- every call of a list is accepted, one after the other
+abbrev pub AllAccepted : Steps → World → List Call → Type 0
+AllAccepted κ w [] = Unit {0}
+AllAccepted κ w (c ∷ cs) = (κ .real w c .outcome .number ≡ 0) × AllAccepted κ (κ .real w c .next) cs
+
+-- ".. activate a standby not yet active", and it has the last wholly received checkpoint, whose number the activation gives
+pub record TakeoverRight (κ : Steps) (g : Settings) (b : Both) (n : ℕ) : Type 0 where
+  pub accepted : AllAccepted κ (b .world) (takeoverCalls (g .t) n)
+  pub activates : active (afterTakeover κ g b n .world) ≡ true
+  pub value : κ .real (run κ (g .u) b (ticksAndFlush (g .t) n) .world) call.activation .outcome .value ≡ b .plain .r
+  pub memory : afterTakeover κ g b n .world .standby .memory ≡ receivedCheckpoint (b .plain) .memory
+  pub disk : afterTakeover κ g b n .world .standby .disk ≡ receivedCheckpoint (b .plain) .disk
+  pub processor : afterTakeover κ g b n .world .standby .state .processor ≡ receivedCheckpoint (b .plain) .processor
+
+-- ---- "Each accepted take gave the oldest packet; under protection it is one of checkpoint r's"
+pub record HandedRight (t : ℕ) (p : Plain) (handed : List ℕ) : Type 0 where
+  pub queued : p .taken < length (p .accepted)
+  pub oldest : handed ≡ getD (p .accepted) (p .taken) []
+  pub below : isAlone t p ≡ false → p .taken < length (receivedCheckpoint p .packets)
+  pub saved : isAlone t p ≡ false → handed ≡ getD (receivedCheckpoint p .packets) (p .taken) []
+
+-- and a refused one gives none
+pub record TakeRight (t : ℕ) (p : Plain) (s : Stepped) : Type 0 where
+  pub accepted : s .outcome .number ≡ 0 → HandedRight t p (s .handed)
+  pub refused : (s .outcome .number ≡ 0 → ⊥) → s .handed ≡ []
+
+-- what is claimed of a call where it is made: of a take
+abbrev pub CallRight : Steps → ℕ → Both → Call → Type 0
+CallRight κ t b (call.memoryWrite page offset bytes) = Unit {0}
+CallRight κ t b (call.diskWrite block bytes) = Unit {0}
+CallRight κ t b (call.packet bytes) = Unit {0}
+CallRight κ t b (call.checkpoint processor) = Unit {0}
+CallRight κ t b (call.drain n destination) = Unit {0}
+CallRight κ t b (call.ack n) = Unit {0}
+CallRight κ t b (call.take destination) = TakeRight t (b .plain) (κ .real (b .world) (call.take destination))
+CallRight κ t b call.primaryTick = Unit {0}
+CallRight κ t b (call.read n reply) = Unit {0}
+CallRight κ t b (call.flush n) = Unit {0}
+CallRight κ t b call.standbyTick = Unit {0}
+CallRight κ t b call.activation = Unit {0}
+CallRight κ t b (call.activeMemoryWrite page offset bytes) = Unit {0}
+CallRight κ t b (call.activeDiskWrite block bytes) = Unit {0}
+
+-- of every take of a list
+abbrev pub TakesRight : Steps → Settings → Both → List Call → Type 0
+TakesRight κ g b [] = Unit {0}
+TakesRight κ g b (c ∷ cs) = CallRight κ (g .t) b c × TakesRight κ g (runCall κ (g .u) b c) cs
+
+-- ---- "the primary's disk, valid until an activation is accepted"; "the standby's, valid from then on"
+abbrev pub validDisk : Plain → List ℕ
+validDisk p = cond (p .activated) (p .standbyDisk) (p .disk)
+
+-- "The disk choice on what both boxes stored hands back the valid disk, equal to the plain pair's"
+pub record DisksRight (b : Both) : Type 0 where
+  pub choice : choiceOf (length (b .world .primary .disk)) (length (b .world .standby .disk)) (b .world .standby .area)
+      ≡ cond (b .plain .activated) StandbyDisk PrimaryDisk
+  pub bytes : chosenDisk (b .world .primary .disk) (b .world .standby .disk) (b .world .standby .area) ≡ validDisk (b .plain)
+
+-- ---- what holds after the calls that count, wherever the pair is cut
+pub record Holds (κ : Steps) (g : Settings) (b : Both) : Type 0 where
+  pub standby : StandbyRight b
+  pub takeover : active (b .world) ≡ false → (n : ℕ) → b .world .standby .state .slots .due ≤ n → TakeoverRight κ g b n
+  pub disks : DisksRight b
+  pub receivedExists : b .plain .r < length (b .plain .checkpoints)
+  pub acknowledgedReceived : b .plain .a ≤ b .plain .r
+
+-- and of the whole list of them
+pub record WholeRun (κ : Steps) (g : Settings) (b : Both) (calls : List Call) : Type 0 where
+  pub takes : TakesRight κ g b calls
+  pub end : Holds κ g (run κ (g .u) b calls)
+
+-- for every accepted start, every list of calls and every cut
+abbrev pub Demand3Of : Steps → Type 0
+Demand3Of κ =
+    (g : Settings) (processor : Processor) (buffers : Buffers) → startNumber g buffers ≡ 0
+    → (calls : List Call) (cut : Cut) → WholeRun κ g (startBoth g processor buffers) (countedCalls cut calls)
+
+-- the claim
+abbrev pub Demand3 : Type 0
+Demand3 = Demand3Of steps

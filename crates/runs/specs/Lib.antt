@@ -1,0 +1,4 @@
+pub mod Plain
+pub mod Run
+pub mod Cut
+pub mod Demand3

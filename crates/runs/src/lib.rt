@@ -1,0 +1,1 @@
+// Whole runs of the pair: definitions and proofs only.
