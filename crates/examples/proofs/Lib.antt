@@ -1,0 +1,4 @@
+pub mod Definitions
+pub mod StartLaws
+pub mod NoBlocks
+pub mod Examples

@@ -1,0 +1,1 @@
+// Decimal numbers and lines.
