@@ -1,1 +1,3 @@
 pub mod Dirty
+pub mod DirtyMessages
+pub mod Clean

@@ -1,1 +1,63 @@
 // Dirty pages as PAGE records into the stream, and marked pages from the staged pages into memory.
+// Both loops go from marked page to marked page.
+ghost use mathlib.Core.Path.{_≡_};
+ghost use Prim.Native.Nat.{_+_, _*_, _^_, _<_, _≤_};
+ghost use lib.ListN.{length};
+ghost use Rattle.lists.specs.Part.{put, PutDone};
+ghost use Rattle.lists.specs.Page.{page, withPage};
+ghost use Rattle.records.specs.Kind.{PAGE, recordLength};
+ghost use Rattle.records.specs.Write.{pageRecord};
+ghost use Rattle.marks.specs.Mark.{countMarks};
+ghost use Rattle.pages.specs.Dirty.{dirtyRecords, installed};
+
+// The PAGE record of page p into out from at on; the position behind it.
+fn write_one(out: &mut [u8], at: usize, memory: &[u8], u: usize, epoch: u32, p: usize) -> usize
+    requires { ⌜ (at + recordLength u PAGE ≤ length (now out)) × (p * u + u ≤ length (now memory)) × (p < 2 ^ 16) × (u + 6 < 2 ^ 16) ⌝ }
+    ensures { λ r. ⌜ PutDone (pageRecord epoch p (page u (now (memory .entry)) p)) (now (out .entry)) at (now (out .exit)) r ⌝ }
+{
+    let body = lists::part_of(memory, p * u, u);
+    let n = records::writing::write_page(&mut out[at..], epoch, p, body);
+    at + n
+}
+
+// "every dirty page" as a PAGE record, in rising order, at the head of the part that is handed in; the length written.
+pub fn write_dirty(
+    out: &mut [u8],
+    memory: &[u8],
+    dirty: &[u64],
+    u: usize,
+    epoch: u32,
+    m: usize,
+) -> usize
+    requires { ⌜ (length (now memory) ≡ m * u) × (m ≤ 2 ^ 16) × (u + 6 < 2 ^ 16) × (countMarks (now dirty) m * recordLength u PAGE ≤ length (now out)) ⌝ }
+    ensures { λ r. ⌜ (now (out .exit) ≡ put (now (out .entry)) 0 (dirtyRecords (now (memory .entry)) (now (dirty .entry)) u epoch m)) × (r ≡ countMarks (now (dirty .entry)) m * recordLength u PAGE) ⌝ }
+{
+    let mut at = 0;
+    let mut p = marks::next_marked(dirty, 0, m);
+    while p < m {
+        at = write_one(out, at, memory, u, epoch, p);
+        p = marks::next_marked(dirty, p + 1, m);
+    }
+    at
+}
+
+// Page p of memory becomes the staged one.
+fn install_one(memory: &mut [u8], staged: &[u8], u: usize, p: usize)
+    requires { ⌜ (p * u + u ≤ length (now memory)) × (p * u + u ≤ length (now staged)) ⌝ }
+    ensures { λ _. ⌜ now (memory .exit) ≡ withPage u (now (memory .entry)) p (page u (now (staged .entry)) p) ⌝ }
+{
+    let at = p * u;
+    lists::copy_into(memory, at, lists::part_of(staged, at, u));
+}
+
+// "copies the staged pages into memory": those that are marked.
+pub fn install(memory: &mut [u8], staged: &[u8], marks: &[u64], u: usize, m: usize)
+    requires { ⌜ (length (now memory) ≡ m * u) × (length (now staged) ≡ m * u) ⌝ }
+    ensures { λ _. ⌜ now (memory .exit) ≡ installed (now (memory .entry)) (now (staged .entry)) (now (marks .entry)) u m ⌝ }
+{
+    let mut p = marks::next_marked(marks, 0, m);
+    while p < m {
+        install_one(memory, staged, u, p);
+        p = marks::next_marked(marks, p + 1, m);
+    }
+}
