@@ -1,1 +1,4 @@
 pub mod Slot
+pub mod Fits
+pub mod SlotList
+pub mod Flushes

@@ -1,8 +1,216 @@
-// The standby's block slots.
+// The standby's block slots and staged pages.
+ghost use mathlib.Core.Path.{_≡_};
+ghost use Prim.Native.Nat.{_+_, _*_, _≤_, _<_};
+ghost use lib.ListN.{length, take, replicate};
+ghost use Rattle.lists.specs.Part.{put, removed};
+ghost use Rattle.lists.specs.Page.{page, withPage};
+ghost use Rattle.marks.specs.Mark.{withMark};
+ghost use Rattle.settings.specs.Range.{mostSlots};
+ghost use Rattle.staging.specs.Slot.{numbersOk, slotsOk, freeSlots, withBlock, withBlockBytes, allDue, onlyDue, flushCount, stored, flushed, flushedBytes};
+ghost use Rattle.staging.specs.Fits.{StoreFits, FlushFits};
 
 // The staged blocks in order of arrival: how many, how many of them are due, and the number of each. Their bytes stand in the lent slots.
 pub struct Slots {
     pub staged: usize,
     pub due: usize,
     pub numbers: [usize; 64],
+}
+
+// Whether the first n numbers are below d.
+fn numbers_ok(numbers: [usize; 64], n: usize, d: usize) -> bool
+    requires { ⌜ n ≤ mostSlots ⌝ }
+    ensures { λ r. ⌜ r ≡ numbersOk d (take n numbers) ⌝ }
+{
+    let mut i = 0;
+    while i < n {
+        if numbers[i] >= d {
+            return false;
+        }
+        i += 1;
+    }
+    true
+}
+
+// Whether the slots are in their ranges, with s slots and d blocks (document 01, number 1).
+pub fn slots_ok(k: Slots, s: usize, d: usize) -> bool
+    ensures { λ r. ⌜ r ≡ slotsOk k s d ⌝ }
+{
+    let staged = k.staged;
+    let due = k.due;
+    let numbers = k.numbers;
+    if s < staged {
+        return false;
+    }
+    if staged < due {
+        return false;
+    }
+    // a count above 64 names no entry more than the array has
+    if 64 < staged {
+        return numbers_ok(numbers, 64, d);
+    }
+    numbers_ok(numbers, staged, d)
+}
+
+// How many of s slots are free for a block.
+pub fn free_slots(k: Slots, s: usize) -> usize
+    ensures { λ r. ⌜ r ≡ freeSlots k s ⌝ }
+{
+    let staged = k.staged;
+    if s < staged {
+        return 0;
+    }
+    s - staged
+}
+
+// The slots with block n staged in the next one.
+pub fn with_block(k: Slots, n: usize) -> Slots
+    requires { ⌜ k .staged < mostSlots ⌝ }
+    ensures { λ r. ⌜ r ≡ withBlock k n ⌝ }
+{
+    let staged = k.staged;
+    let mut next = k;
+    next.numbers[staged] = n;
+    next.staged = staged + 1;
+    next
+}
+
+// Copies a block's bytes into the next slot.
+pub fn stage_block(slots: &mut [u8], k: Slots, u: usize, block: &[u8])
+    requires { ⌜ (length (now block) ≡ u) × (k .staged * u + u ≤ length (now slots)) ⌝ }
+    ensures { λ _. ⌜ now (slots .exit) ≡ withBlockBytes u k (now (slots .entry)) (now (block .entry)) ⌝ }
+{
+    let staged = k.staged;
+    lists::copy_into(slots, staged * u, block);
+}
+
+// The slots with all staged blocks due.
+pub fn all_due(k: Slots) -> Slots
+    ensures { λ r. ⌜ r ≡ allDue k ⌝ }
+{
+    let staged = k.staged;
+    let mut next = k;
+    next.due = staged;
+    next
+}
+
+// The slots without the blocks that are not due.
+pub fn only_due(k: Slots) -> Slots
+    ensures { λ r. ⌜ r ≡ onlyDue k ⌝ }
+{
+    let due = k.due;
+    let mut next = k;
+    next.staged = due;
+    next
+}
+
+// How many blocks a flush with budget n stores.
+pub fn flush_count(k: Slots, n: usize) -> usize
+    ensures { λ r. ⌜ r ≡ flushCount k n ⌝ }
+{
+    let due = k.due;
+    if n < due {
+        return n;
+    }
+    due
+}
+
+// Stores the block in slot i as block n of the disk.
+fn store_block(disk: &mut [u8], slots: &[u8], u: usize, n: usize, i: usize)
+    requires { ⌜ (n * u + u ≤ length (now disk)) × (i * u + u ≤ length (now slots)) ⌝ }
+    ensures { λ _. ⌜ now (disk .exit) ≡ withPage u (now (disk .entry)) n (page u (now (slots .entry)) i) ⌝ }
+{
+    lists::copy_into(disk, n * u, lists::part_of(slots, i * u, u));
+}
+
+// Stores the blocks of the first count slots, in order.
+pub fn store(disk: &mut [u8], slots: &[u8], k: Slots, u: usize, count: usize)
+    requires { ⌜ StoreFits u (k .numbers) count (length (now slots)) (length (now disk)) ⌝ }
+    ensures { λ _. ⌜ now (disk .exit) ≡ stored u (k .numbers) (now (slots .entry)) (now (disk .entry)) count ⌝ }
+{
+    let numbers = k.numbers;
+    let mut i = 0;
+    while i < count {
+        store_block(disk, slots, u, numbers[i], i);
+        i += 1;
+    }
+}
+
+// The first total numbers without the first n of them: the rest moves to the front.
+fn moved(numbers: [usize; 64], n: usize, total: usize) -> [usize; 64]
+    requires { ⌜ (n ≤ total) × (total ≤ mostSlots) ⌝ }
+    ensures { λ r. ⌜ r ≡ removed 0 n total numbers ⌝ }
+{
+    let mut out = numbers;
+    let rest = total - n;
+    let mut i = 0;
+    while i < rest {
+        out[i] = numbers[n + i];
+        i += 1;
+    }
+    out
+}
+
+// The numbers with n entries from at on at 0.
+fn zeroed(numbers: [usize; 64], at: usize, n: usize) -> [usize; 64]
+    requires { ⌜ at + n ≤ mostSlots ⌝ }
+    ensures { λ r. ⌜ r ≡ put numbers at (replicate n 0) ⌝ }
+{
+    let mut out = numbers;
+    let mut i = 0;
+    while i < n {
+        out[at + i] = 0;
+        i += 1;
+    }
+    out
+}
+
+// The slots without the first count blocks, which a flush has stored.
+pub fn flushed(k: Slots, count: usize) -> Slots
+    requires { ⌜ (count ≤ k .due) × (k .due ≤ k .staged) × (k .staged ≤ mostSlots) ⌝ }
+    ensures { λ r. ⌜ r ≡ flushed k count ⌝ }
+{
+    let staged = k.staged;
+    let due = k.due;
+    let numbers = k.numbers;
+    let rest = staged - count;
+    let front = moved(numbers, count, staged);
+    let all = zeroed(front, rest, count);
+    Slots {
+        staged: rest,
+        due: due - count,
+        numbers: all,
+    }
+}
+
+// Moves the bytes of the slots behind the first count to the front.
+pub fn free_bytes(slots: &mut [u8], k: Slots, u: usize, count: usize)
+    requires { ⌜ (count ≤ k .staged) × (k .staged * u ≤ length (now slots)) ⌝ }
+    ensures { λ _. ⌜ now (slots .exit) ≡ flushedBytes u k count (now (slots .entry)) ⌝ }
+{
+    let staged = k.staged;
+    lists::remove(slots, 0, count * u, staged * u);
+}
+
+// Stores as many due blocks as the budget n lets, in order of arrival, moves the bytes of the others to the front, and reports how many it stored.
+// `flushed` gives the slots that go with it.
+pub fn flush(slots: &mut [u8], disk: &mut [u8], k: Slots, u: usize, n: usize) -> usize
+    requires { ⌜ FlushFits u k (length (now slots)) (length (now disk)) ⌝ }
+    ensures { λ r. ⌜ r ≡ flushCount k n ⌝ }
+    ensures { λ _. ⌜ now (disk .exit) ≡ stored u (k .numbers) (now (slots .entry)) (now (disk .entry)) (flushCount k n) ⌝ }
+    ensures { λ _. ⌜ now (slots .exit) ≡ flushedBytes u k (flushCount k n) (now (slots .entry)) ⌝ }
+{
+    let count = flush_count(k, n);
+    store(disk, slots, k, u, count);
+    free_bytes(slots, k, u, count);
+    count
+}
+
+// Copies a page's bytes to its place among the staged pages, and marks it.
+pub fn stage_page(pages: &mut [u8], marks: &mut [u64], u: usize, p: usize, bytes: &[u8])
+    requires { ⌜ (length (now bytes) ≡ u) × (p * u + u ≤ length (now pages)) ⌝ }
+    ensures { λ _. ⌜ now (pages .exit) ≡ withPage u (now (pages .entry)) p (now (bytes .entry)) ⌝ }
+    ensures { λ _. ⌜ now (marks .exit) ≡ withMark (now (marks .entry)) p ⌝ }
+{
+    lists::copy_into(pages, p * u, bytes);
+    marks::mark(marks, p);
 }

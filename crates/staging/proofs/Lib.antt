@@ -1,0 +1,7 @@
+-- The laws of this crate's definitions, for its own proofs and for the crates above.
+pub mod ArrayLaws
+pub mod SlotLaws
+pub mod StoreLaws
+pub mod ListLaws
+pub mod BlockLaws
+pub mod FlushLaws

@@ -1,0 +1,162 @@
+-- Laws of the staged blocks as a list: what each change of the slots does to it. Assumes nothing.
+use mathlib.Core.Path.{_≡_, refl, sym, ap, _∙_}
+use mathlib.Core.List.{List, [], _∷_, _++_}
+use Prim.Native.Nat.{ℕ, zero, suc, _+_, _-_, _*_, _≤_, _<_}
+use native.Mathlib.Nat.{suc-mul, zero-mul, mul-le-mul-right, add-mul, add-comm}
+use native.Mathlib.Omega.{arith}
+use lib.ListN.{length, take, drop, length-drop}
+use lib.Seq.{take-take, take-all, take-append-le, drop-drop, length-take-le}
+use Rattle.lists.specs.Part.{part}
+use Rattle.lists.specs.Page.{page, withPage}
+use Rattle.lists.proofs.PartLaws.{take-put, length-removed, take-removed, drop-removed}
+use Rattle.lists.proofs.PageLaws.{page-with-same}
+use Rattle.settings.specs.Range.{mostSlots}
+use Rattle.staging.specs.declared.Slots.{Slots}
+use Rattle.staging.specs.Slot.{withBlock, withBlockBytes, allDue, onlyDue, flushed, flushedBytes}
+use Rattle.staging.specs.SlotList.{stagedFrom, slotList, dueList}
+use Rattle.staging.proofs.ArrayLaws.{drop-take}
+use Rattle.staging.proofs.SlotLaws.{numbers-more, numbers-rest}
+
+module _ (u : ℕ) where
+  -- ---- blocks with these numbers, whose bytes stand in s
+  pub length-staged : (ns s : List ℕ) → length (stagedFrom u ns s) ≡ length ns
+  unfolding stagedFrom
+  length-staged [] s = refl
+  length-staged (n ∷ ns) s = ap suc (length-staged ns (drop u s))
+
+  pub staged-append : (a b s : List ℕ) → stagedFrom u (a ++ b) s ≡ stagedFrom u a s ++ stagedFrom u b (drop (length a * u) s)
+  unfolding stagedFrom
+  staged-append [] b s = rw zero-mul
+  staged-append (n ∷ a) b s =
+      let e : drop (length a * u) (drop u s) ≡ drop (suc (length a) * u) s = drop-drop (length a * u) u s ∙ rw (suc-mul, add-comm u (length a * u)) in
+      rw (staged-append a b (drop u s), e)
+
+  pub take-staged : (c : ℕ) (ns s : List ℕ) → take c (stagedFrom u ns s) ≡ stagedFrom u (take c ns) s
+  unfolding stagedFrom
+  take-staged zero ns s = refl
+  take-staged (suc c) [] s = refl
+  take-staged (suc c) (n ∷ ns) s = rw (take-staged c ns (drop u s))
+
+  pub drop-staged : (c : ℕ) (ns s : List ℕ) → drop c (stagedFrom u ns s) ≡ stagedFrom u (drop c ns) (drop (c * u) s)
+  unfolding stagedFrom
+  drop-staged zero ns s = rw zero-mul
+  drop-staged (suc c) [] s = refl
+  drop-staged (suc c) (n ∷ ns) s =
+      let e : drop (c * u) (drop u s) ≡ drop (suc c * u) s = drop-drop (c * u) u s ∙ rw (suc-mul, add-comm u (c * u)) in
+      drop-staged c ns (drop u s) ∙ rw e
+
+  -- only the bytes of these blocks count
+  pub staged-same : (ns s t : List ℕ) → take (length ns * u) s ≡ take (length ns * u) t → stagedFrom u ns s ≡ stagedFrom u ns t
+  unfolding stagedFrom
+  staged-same [] s t e = refl
+  staged-same (n ∷ ns) s t e =
+      let m : suc (length ns) * u ≡ length ns * u + u = suc-mul (length ns) u in
+      let le : u ≤ suc (length ns) * u = omega arith in
+      let o : suc (length ns) * u - u ≡ length ns * u = omega arith in
+      let first : take u s ≡ take u t = sym (take-take u (suc (length ns) * u) s le) ∙ ap (take u) e ∙ take-take u (suc (length ns) * u) t le in
+      let rest : take (length ns * u) (drop u s) ≡ take (length ns * u) (drop u t) =
+      rw o at (sym (drop-take u (suc (length ns) * u) s) ∙ ap (drop u) e ∙ drop-take u (suc (length ns) * u) t) in
+      rw (first, staged-same ns (drop u s) (drop u t) rest)
+
+  -- ---- the list of the slots
+  module _ (k : Slots) (slots : List ℕ) where
+    pub slot-count : k .staged ≤ length (k .numbers) → length (slotList u k slots) ≡ k .staged
+    unfolding slotList
+    slot-count h = length-staged (take (k .staged) (k .numbers)) slots ∙ length-take-le (k .staged) (k .numbers) h
+
+    pub due-count : k .due ≤ k .staged → k .staged ≤ length (k .numbers) → length (dueList u k slots) ≡ k .due
+    unfolding dueList
+    due-count h g = length-take-le (k .due) (slotList u k slots) (omega (arith, slot-count g))
+
+    -- "makes the epoch's staged blocks due"
+    pub list-all-due : slotList u (allDue k) slots ≡ slotList u k slots
+    unfolding slotList allDue
+    list-all-due = refl
+
+    pub due-all-due : k .staged ≤ length (k .numbers) → dueList u (allDue k) slots ≡ slotList u k slots
+    unfolding dueList allDue
+    due-all-due h = ap (take (k .staged)) list-all-due ∙ take-all (k .staged) (slotList u k slots) (omega (arith, slot-count h))
+
+    -- "staged pages and blocks not yet due are dropped"
+    pub list-only-due : k .due ≤ k .staged → slotList u (onlyDue k) slots ≡ dueList u k slots
+    unfolding slotList dueList onlyDue
+    list-only-due h =
+        sym
+        (take-staged (k .due) (take (k .staged) (k .numbers)) slots ∙ ap (λ (ns : List ℕ). stagedFrom u ns slots) (take-take (k .due) (k .staged) (k .numbers) h))
+
+    pub due-only-due : k .due ≤ k .staged → dueList u (onlyDue k) slots ≡ dueList u k slots
+    unfolding dueList onlyDue
+    due-only-due h = ap (take (k .due)) (list-only-due h) ∙ take-take (k .due) (k .due) (slotList u k slots) (omega arith)
+
+    -- ---- the first of them
+    pub take-slot-list : (c : ℕ) → c ≤ k .staged → take c (slotList u k slots) ≡ stagedFrom u (take c (k .numbers)) slots
+    unfolding slotList
+    take-slot-list c h = take-staged c (take (k .staged) (k .numbers)) slots ∙ ap (λ (ns : List ℕ). stagedFrom u ns slots) (take-take c (k .staged) (k .numbers) h)
+
+    pub take-due-list : (c : ℕ) → c ≤ k .due → take c (dueList u k slots) ≡ take c (slotList u k slots)
+    unfolding dueList
+    take-due-list c h = take-take c (k .due) (slotList u k slots) h
+
+    -- ---- one block staged: it comes last
+    module _ (array : length (k .numbers) ≡ mostSlots) (n : ℕ) (block : List ℕ) (free : k .staged < mostSlots) (size : length block ≡ u) (room : k .staged * u + u ≤ length slots) where
+      take-before : take (k .staged * u) (withPage u slots (k .staged) block) ≡ take (k .staged * u) slots
+      unfolding withPage
+      take-before = take-put slots (k .staged * u) block (omega arith)
+
+      take-there : take u (drop (k .staged * u) (withPage u slots (k .staged) block)) ≡ block
+      unfolding page part
+      take-there = page-with-same u (k .staged) slots block size room
+
+      pub list-with-block : slotList u (withBlock k n) (withBlockBytes u k slots block) ≡ slotList u k slots ++ (record { number = n; bytes = block } ∷ [])
+      unfolding slotList withBlockBytes stagedFrom
+      list-with-block =
+          let ns = take (k .staged) (k .numbers) in
+          let m : length ns ≡ k .staged = length-take-le (k .staged) (k .numbers) (omega arith) in
+          let front : stagedFrom u ns (withPage u slots (k .staged) block) ≡ stagedFrom u ns slots = staged-same ns (withPage u slots (k .staged) block) slots (rw m take-before) in
+          rw (numbers-more k array n free, staged-append ns (n ∷ []) (withPage u slots (k .staged) block), m, front, take-there)
+
+      pub due-with-block : k .due ≤ k .staged → dueList u (withBlock k n) (withBlockBytes u k slots block) ≡ dueList u k slots
+      unfolding dueList withBlock
+      due-with-block h = ap (take (k .due)) list-with-block ∙ take-append-le (k .due) (slotList u k slots) _ (omega (arith, slot-count (omega arith)))
+
+    -- ---- a flush: the first of them are gone
+    module _ (array : length (k .numbers) ≡ mostSlots) (count : ℕ) (h : count ≤ k .staged) (few : k .staged ≤ mostSlots) (room : k .staged * u ≤ length slots) where
+      rest-bytes : (k .staged - count) * u ≡ k .staged * u - count * u
+      rest-bytes =
+          let e : k .staged - count + count ≡ k .staged = omega arith in
+          let m = add-mul (k .staged - count) count u in
+          let t : (k .staged - count + count) * u ≡ k .staged * u = rw e in
+          omega arith
+
+      -- "What .. flush leaves waiting moves to the front of its buffer in order, and the bytes behind it stay"
+      pub bytes-front : take ((k .staged - count) * u) (flushedBytes u k count slots) ≡ drop (count * u) (take (k .staged * u) slots)
+      unfolding flushedBytes
+      bytes-front = rw rest-bytes (take-removed (count * u) (k .staged * u) slots (mul-le-mul-right u h) room)
+
+      pub bytes-behind : drop ((k .staged - count) * u) (flushedBytes u k count slots) ≡ drop ((k .staged - count) * u) slots
+      unfolding flushedBytes
+      bytes-behind = rw rest-bytes (drop-removed 0 (count * u) (k .staged * u) slots (omega (arith, mul-le-mul-right u h)) room)
+
+      pub length-bytes : length (flushedBytes u k count slots) ≡ length slots
+      unfolding flushedBytes
+      length-bytes = length-removed 0 (count * u) (k .staged * u) slots (omega (arith, mul-le-mul-right u h)) room
+
+      pub list-flushed : slotList u (flushed k count) (flushedBytes u k count slots) ≡ drop count (slotList u k slots)
+      unfolding slotList
+      list-flushed =
+          let ns = take (k .staged) (k .numbers) in
+          let m : length (drop count ns) ≡ k .staged - count = length-drop count ns ∙ ap (λ (i : ℕ). i - count) (length-take-le (k .staged) (k .numbers) (omega arith)) in
+          rw (numbers-rest k array count h few, drop-staged count ns slots)
+          (staged-same (drop count ns) (flushedBytes u k count slots) (drop (count * u) slots)
+          (rw m (bytes-front ∙ rw (drop-take (count * u) (k .staged * u) slots, rest-bytes))))
+
+      pub due-flushed : dueList u (flushed k count) (flushedBytes u k count slots) ≡ drop count (dueList u k slots)
+      unfolding dueList flushed
+      due-flushed = ap (take (k .due - count)) list-flushed ∙ sym (drop-take count (k .due) (slotList u k slots))
+
+      -- those not due stay
+      pub not-due-flushed : count ≤ k .due → drop (flushed k count .due) (slotList u (flushed k count) (flushedBytes u k count slots)) ≡ drop (k .due) (slotList u k slots)
+      unfolding flushed
+      not-due-flushed g =
+          let e : count + (k .due - count) ≡ k .due = omega arith in
+          ap (drop (k .due - count)) list-flushed ∙ drop-drop (k .due - count) count (slotList u k slots) ∙ ap (λ (i : ℕ). drop i (slotList u k slots)) e
