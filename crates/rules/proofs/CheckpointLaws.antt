@@ -1,0 +1,115 @@
+-- Laws of the checkpoint: what acceptance says and what it needs, how many bytes are appended, and that the ranges are kept. Assumes nothing.
+use mathlib.Core.Path.{_≡_, refl, sym, ap, _∙_}
+use mathlib.Core.Bool.{true, _&&_}
+use mathlib.Core.List.{List, [], _∷_, _++_}
+use Prim.Native.Nat.{ℕ, _+_, _*_, _≤_, _<_}
+use native.Mathlib.Omega.{arith}
+use lib.Dec.{leb, ltb, eqb}
+use lib.ListN.{length, length-append}
+use borrow.Author.Tests.{leb-true, le-leb, ltb-true, lt-ltb, eqb-true, eq-eqb}
+use Rattle.lists.specs.Refusal.{Test, test}
+use Rattle.lists.proofs.TestLaws.{both, join, accepted, accepts}
+use Rattle.records.specs.Kind.{PAGE, STATE, COMMIT, processorBytes, recordLength}
+use Rattle.records.specs.Write.{stateRecord, commitRecord}
+use Rattle.records.specs.Number.{outOfRange, wrongMode, streamFull, lastEpoch}
+use Rattle.records.proofs.FrameLaws.{length-state, length-commit}
+use Rattle.settings.specs.Range.{mostEpoch}
+use Rattle.settings.proofs.RangeLaws.{state-commit-records}
+use Rattle.pages.specs.Dirty.{dirtyRecords}
+use Rattle.pages.proofs.DirtyLaws.{length-dirty}
+use Rattle.queue.proofs.QueueLaws.{queue-later}
+use Rattle.rules.specs.declared.Primary.{Primary}
+use Rattle.rules.specs.PrimaryState.{primaryOk, protected, memoryLength, marksLength, withEpoch}
+use Rattle.rules.specs.Checkpoint.{dirtyCount, checkpointLength, checkpointBytes, checkpointRefusal, checkpointState, checkpointReply}
+use Rattle.rules.specs.Reached.{PrimaryReached}
+use Rattle.rules.proofs.PrimaryFacts.{primary-facts, primary-of, reached-pick}
+
+pub record CheckpointRoom (p : Primary) (memory dirty stream pages : ℕ) : Type 0 where
+  pub ok : primaryOk p ≡ true
+  pub memory-is : memory ≡ memoryLength p
+  pub dirty-is : dirty ≡ marksLength p
+  pub stream-is : stream ≡ p .settings .l
+  pub protects : protected p ≡ true
+  pub room : p .waiting + checkpointLength (p .settings .u) pages ≤ p .settings .l
+  pub next : p .epoch < mostEpoch
+
+module _ (p : Primary) (memory dirty stream pages : ℕ) where
+  abbrev checkpointTests : List Test
+  checkpointTests =
+      test outOfRange (primaryOk p && eqb memory (memoryLength p) && eqb dirty (marksLength p) && eqb stream (p .settings .l))
+      ∷ test wrongMode (protected p)
+      ∷ test streamFull (leb (p .waiting + checkpointLength (p .settings .u) pages) (p .settings .l))
+      ∷ test lastEpoch (ltb (p .epoch) mostEpoch)
+      ∷ []
+
+  pub checkpoint-accepted : checkpointRefusal p memory dirty stream pages ≡ 0 → CheckpointRoom p memory dirty stream pages
+  unfolding checkpointRefusal
+  checkpoint-accepted e =
+      let h = accepted checkpointTests refl e in
+      let s = both (primaryOk p && eqb memory (memoryLength p) && eqb dirty (marksLength p)) (eqb stream (p .settings .l)) (h .0) in
+      let d = both (primaryOk p && eqb memory (memoryLength p)) (eqb dirty (marksLength p)) (s .0) in
+      let m = both (primaryOk p) (eqb memory (memoryLength p)) (d .0) in
+      record {
+        ok = m .0;
+        memory-is = eqb-true memory (memoryLength p) (m .1);
+        dirty-is = eqb-true dirty (marksLength p) (d .1);
+        stream-is = eqb-true stream (p .settings .l) (s .1);
+        protects = h .1 .0;
+        room = leb-true (p .waiting + checkpointLength (p .settings .u) pages) (p .settings .l) (h .1 .1 .0);
+        next = ltb-true (p .epoch) mostEpoch (h .1 .1 .1 .0);
+      }
+
+  module _ (f : CheckpointRoom p memory dirty stream pages) where
+    pub checkpoint-accepts : checkpointRefusal p memory dirty stream pages ≡ 0
+    unfolding checkpointRefusal
+    checkpoint-accepts =
+        accepts checkpointTests (
+          join _ _
+              (join _ _ (join _ _ (f .ok) (eq-eqb memory (memoryLength p) (f .memory-is))) (eq-eqb dirty (marksLength p) (f .dirty-is)))
+              (eq-eqb stream (p .settings .l) (f .stream-is)),
+          (
+            f .protects,
+            (le-leb (p .waiting + checkpointLength (p .settings .u) pages) (p .settings .l) (f .room), (lt-ltb (p .epoch) mostEpoch (f .next), tt)),
+          ),
+        )
+
+    pub checkpoint-state-reached : PrimaryReached p → PrimaryReached (checkpointState p pages)
+    unfolding checkpointState
+    checkpoint-state-reached r =
+        let g = primary-facts p (f .ok) in
+        record {
+          inRange = primary-of _ (record {
+            settings = g .settings;
+            queue = queue-later (p .queue) (p .epoch) (p .epoch + 1) (p .settings .q) (omega arith) (g .queue);
+            acknowledged = omega arith;
+            waiting = f .room;
+            blocks = omega arith;
+            detector = g .detector;
+          });
+          packets = r .packets;
+        }
+
+  pub checkpoint-reached : PrimaryReached p → PrimaryReached (checkpointReply p memory dirty stream pages .state)
+  unfolding checkpointReply
+  checkpoint-reached r =
+      reached-pick (checkpointRefusal p memory dirty stream pages) p (checkpointState p pages) r (λ e. checkpoint-state-reached (checkpoint-accepted e) r)
+
+-- the bytes appended are as many as the refusal reckons
+pub length-checkpoint : (p : Primary) (memory dirty processor : List ℕ) → length memory ≡ memoryLength p → length processor ≡ processorBytes
+    → length (checkpointBytes p memory dirty processor) ≡ checkpointLength (p .settings .u) (dirtyCount p dirty)
+unfolding checkpointBytes checkpointLength
+length-checkpoint p memory dirty processor m s =
+    let u = p .settings .u in
+    let records = dirtyRecords memory dirty u (p .epoch) (p .settings .m) in
+    let state = stateRecord (p .epoch) processor in
+    let commit = commitRecord (p .epoch) (dirtyCount p dirty) (p .blocks) in
+    length-append records (state ++ commit)
+    ∙ omega (
+      arith,
+      length-append state commit,
+      length-dirty memory dirty u (p .epoch) (p .settings .m) m,
+      length-state (p .epoch) processor,
+      s,
+      length-commit (p .epoch) (dirtyCount p dirty) (p .blocks),
+      state-commit-records u,
+    )

@@ -1,0 +1,108 @@
+-- Laws of the primary's tick: what acceptance says, the new state in each case, and that the ranges are kept. Assumes nothing.
+use mathlib.Core.Path.{_≡_, refl, _∙_}
+use mathlib.Core.Bool.{Bool, true, false, cond, true≢false}
+use mathlib.Core.List.{[], _∷_}
+use Prim.Native.Nat.{ℕ, _+_, _≤_, _<_}
+use native.Mathlib.Nat.{le-refl}
+use native.Mathlib.Omega.{arith}
+use borrow.Author.Tests.{not-true, leb-false, le-leb, lt-leb}
+use Rattle.lists.specs.Refusal.{test}
+use Rattle.lists.proofs.TestLaws.{accepted, accepts}
+use Rattle.records.specs.Number.{outOfRange}
+use Rattle.detector.specs.Tick.{withCount, reset, expired, ticked}
+use Rattle.detector.proofs.TickLaws.{ticked-counts, ticked-rests, ticked-patience, ticked-le}
+use Rattle.rules.specs.declared.Primary.{Primary}
+use Rattle.rules.specs.PrimaryState.{primaryOk, withDetector}
+use Rattle.rules.specs.PrimaryTick.{primaryTickRefusal, outstanding, aloneAt, primaryTickState, primaryTickReply}
+use Rattle.rules.specs.Reached.{PrimaryReached}
+use Rattle.rules.proofs.PrimaryFacts.{primary-facts, primary-of, reached-pick}
+
+pub record TickFacts (p : Primary) : Type 0 where
+  pub ok : primaryOk p ≡ true
+
+module _ (p : Primary) where
+  pub tick-accepted : primaryTickRefusal p ≡ 0 → TickFacts p
+  unfolding primaryTickRefusal
+  tick-accepted e = record { ok = accepted (test outOfRange (primaryOk p) ∷ []) refl e .0 }
+
+  pub tick-accepts : TickFacts p → primaryTickRefusal p ≡ 0
+  unfolding primaryTickRefusal
+  tick-accepts f = accepts (test outOfRange (primaryOk p) ∷ []) (f .ok, tt)
+
+  -- ---- the new state
+
+  -- "Once alone, a tick changes nothing"
+  pub tick-alone : p .alone ≡ true → primaryTickState p ≡ p
+  unfolding primaryTickState
+  tick-alone e = rw e
+
+  pub tick-protected : p .alone ≡ false → primaryTickState p ≡ aloneAt p (ticked (p .detector) (outstanding p))
+  unfolding primaryTickState
+  tick-protected e = rw e
+
+  -- under protection, as long as the count has not reached T
+  module _ (on : p .alone ≡ false) (below : p .detector .count < p .detector .patience) where
+    not-expired : expired (p .detector) ≡ false
+    not-expired = lt-leb (p .detector .patience) (p .detector .count) below
+
+    -- "and while nothing is outstanding": the count is 0
+    pub tick-rests : outstanding p ≡ false → primaryTickState p ≡ withDetector p (reset (p .detector)) false (p .waiting)
+    tick-rests o =
+        tick-protected on
+        ∙ rw (o, ticked-rests (p .detector) not-expired, lt-leb (p .detector .patience) 0 (omega arith))
+
+    -- "counts while a closed epoch is unacknowledged"
+    pub tick-counts : outstanding p ≡ true → p .detector .count + 1 < p .detector .patience
+        → primaryTickState p ≡ withDetector p (withCount (p .detector) (p .detector .count + 1)) false (p .waiting)
+    tick-counts o h =
+        tick-protected on
+        ∙ rw (o, ticked-counts (p .detector) not-expired, lt-leb (p .detector .patience) (p .detector .count + 1) h)
+
+    -- "At T the primary is alone: the waiting stream is dropped"
+    pub tick-leaves : outstanding p ≡ true → p .detector .patience ≤ p .detector .count + 1
+        → primaryTickState p ≡ withDetector p (withCount (p .detector) (p .detector .count + 1)) true 0
+    tick-leaves o h =
+        tick-protected on
+        ∙ rw (o, ticked-counts (p .detector) not-expired, le-leb (p .detector .patience) (p .detector .count + 1) h)
+
+-- ---- what a tick leaves is reached
+module _ (p : Primary) (r : PrimaryReached p) where
+  reached-detector : (alone : Bool) (waiting : ℕ) → waiting ≤ p .waiting
+      → ((alone ≡ false) → ticked (p .detector) (outstanding p) .count < ticked (p .detector) (outstanding p) .patience)
+      → PrimaryReached (withDetector p (ticked (p .detector) (outstanding p)) alone waiting)
+  reached-detector alone waiting h below =
+      let f = primary-facts p (r .inRange) in
+      let d = f .detector in
+      let o = outstanding p in
+      let e = ticked-patience (p .detector) o in
+      record {
+        inRange = primary-of (withDetector p (ticked (p .detector) o) alone waiting)
+            (record {
+              settings = f .settings;
+              queue = f .queue;
+              acknowledged = f .acknowledged;
+              waiting = omega (arith, f .waiting, h);
+              blocks = f .blocks;
+              detector = record {
+                t-low = omega (arith, e, d .t-low);
+                t-high = omega (arith, e, d .t-high);
+                count-high = ticked-le (p .detector) o (d .count-high);
+                below = λ w. below (not-true alone w);
+              };
+            });
+        packets = r .packets;
+      }
+
+  reached-state : PrimaryReached (primaryTickState p)
+  unfolding primaryTickState
+  reached-state = go (p .alone) (expired (ticked (p .detector) (outstanding p))) refl
+    where
+      go : (a x : Bool) → expired (ticked (p .detector) (outstanding p)) ≡ x
+          → PrimaryReached (cond a p (cond x (withDetector p (ticked (p .detector) (outstanding p)) true 0) (withDetector p (ticked (p .detector) (outstanding p)) false (p .waiting))))
+      go true x e = r
+      go false true e = reached-detector true 0 (omega arith) (λ w. absurd (true≢false w))
+      go false false e = reached-detector false (p .waiting) (le-refl (p .waiting)) (λ w. leb-false _ _ e)
+
+  pub tick-keeps : PrimaryReached (primaryTickReply p .state)
+  unfolding primaryTickReply
+  tick-keeps = reached-pick (primaryTickRefusal p) p (primaryTickState p) r (λ z. reached-state)

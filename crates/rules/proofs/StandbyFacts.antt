@@ -1,0 +1,91 @@
+-- What the range of the standby's state says, by name, and back; states reached. Assumes nothing.
+use mathlib.Core.Path.{_≡_}
+use mathlib.Core.Bool.{true, _&&_}
+use mathlib.Core.Logic.{⊎-elim}
+use Prim.Native.Nat.{ℕ, _≤_}
+use lib.Dec.{leb}
+use lib.ListN.{length}
+use borrow.Author.Tests.{leb-true, le-leb, eq-eqb, ne-eqb}
+use Rattle.lists.proofs.TestLaws.{both, join, eq-or-ne}
+use Rattle.settings.specs.Range.{standbySettingsOk, mostSlots}
+use Rattle.settings.proofs.RangeLaws.{StandbySettingsFacts, standby-settings-facts, standby-settings-of}
+use Rattle.staging.specs.Slot.{slotsOk}
+use Rattle.staging.proofs.SlotLaws.{SlotsTests, SlotsFacts, slots-tests, slots-tested, slots-facts}
+use Rattle.rules.specs.declared.Standby.{Standby}
+use Rattle.rules.specs.Common.{detectorOk}
+use Rattle.rules.specs.StandbyState.{isReceiving, standbyOk}
+use Rattle.rules.specs.Reply.{standbyReply}
+use Rattle.rules.specs.Reached.{StandbyReached}
+use Rattle.rules.proofs.DetectorFacts.{DetectorFacts, detector-facts, detector-of}
+
+-- ---- test by test
+pub record StandbyTests (s : Standby) : Type 0 where
+  pub settings-ok : standbySettingsOk (s .settings) ≡ true
+  pub slots-ok : slotsOk (s .slots) (s .settings .s) (s .settings .d) ≡ true
+  pub blocks-high : s .blocks ≤ s .settings .b
+  pub pages-high : s .pages ≤ s .settings .m
+  pub detector-ok : detectorOk (s .detector) (isReceiving (s .mode)) ≡ true
+
+-- ---- as facts; the number of each staged block is in `slots-facts`, which wants the array's length
+pub record StandbyFacts (s : Standby) : Type 0 where
+  pub settings : StandbySettingsFacts (s .settings)
+  pub slots : SlotsTests (s .slots) (s .settings .s) (s .settings .d)
+  pub blocks-high : s .blocks ≤ s .settings .b
+  pub pages-high : s .pages ≤ s .settings .m
+  pub detector : DetectorFacts (s .detector) (isReceiving (s .mode))
+
+module _ (s : Standby) where
+  pub standby-tests : standbyOk s ≡ true → StandbyTests s
+  unfolding standbyOk
+  standby-tests e =
+      let d = both _ (detectorOk (s .detector) (isReceiving (s .mode))) e in
+      let p = both _ (leb (s .pages) (s .settings .m)) (d .0) in
+      let b = both _ (leb (s .blocks) (s .settings .b)) (p .0) in
+      let k = both _ (slotsOk (s .slots) (s .settings .s) (s .settings .d)) (b .0) in
+      record {
+        settings-ok = k .0;
+        slots-ok = k .1;
+        blocks-high = leb-true (s .blocks) (s .settings .b) (b .1);
+        pages-high = leb-true (s .pages) (s .settings .m) (p .1);
+        detector-ok = d .1;
+      }
+
+  pub standby-tested : StandbyTests s → standbyOk s ≡ true
+  unfolding standbyOk
+  standby-tested f =
+      join _ _
+      (join _ _
+      (join _ _ (join _ _ (f .settings-ok) (f .slots-ok)) (le-leb (s .blocks) (s .settings .b) (f .blocks-high)))
+      (le-leb (s .pages) (s .settings .m) (f .pages-high)))
+      (f .detector-ok)
+
+  pub standby-facts : standbyOk s ≡ true → StandbyFacts s
+  standby-facts e =
+      let t = standby-tests e in
+      record {
+        settings = standby-settings-facts (s .settings) (t .settings-ok);
+        slots = slots-tests (s .slots) (s .settings .s) (s .settings .d) (t .slots-ok);
+        blocks-high = t .blocks-high;
+        pages-high = t .pages-high;
+        detector = detector-facts (s .detector) (isReceiving (s .mode)) (t .detector-ok);
+      }
+
+  pub standby-of : StandbyFacts s → standbyOk s ≡ true
+  standby-of f =
+      standby-tested
+      (record {
+        settings-ok = standby-settings-of (s .settings) (f .settings);
+        slots-ok = slots-tested (s .slots) (s .settings .s) (s .settings .d) (f .slots);
+        blocks-high = f .blocks-high;
+        pages-high = f .pages-high;
+        detector-ok = detector-of (s .detector) (isReceiving (s .mode)) (f .detector);
+      })
+
+  -- the staged blocks one by one, where the array has its entries
+  pub standby-slots : length (s .slots .numbers) ≡ mostSlots → standbyOk s ≡ true → SlotsFacts (s .slots) (s .settings .s) (s .settings .d)
+  standby-slots array e = slots-facts (s .slots) (s .settings .s) (s .settings .d) array (standby-facts e .settings .slots .s-high) (standby-tests e .slots-ok)
+
+-- ---- what holds of a state reached holds after a call, accepted or refused
+pub reply-reached : (number : ℕ) (old new : Standby) (value : ℕ) → StandbyReached old → (number ≡ 0 → StandbyReached new) → StandbyReached (standbyReply number old new value .state)
+reply-reached number old new value r f =
+    ⊎-elim (λ e. rw (eq-eqb number 0 e) (f e)) (λ e. rw (ne-eqb number 0 e) r) (eq-or-ne number 0)

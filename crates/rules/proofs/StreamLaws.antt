@@ -1,0 +1,153 @@
+-- Laws of drain and ACK: what acceptance says, each answer of the judged ACK, and that the ranges are kept. Assumes nothing.
+use mathlib.Core.Path.{_≡_, refl}
+use mathlib.Core.Bool.{Bool, true, false, cond, _&&_}
+use mathlib.Core.List.{List, [], _∷_}
+use Prim.Native.Nat.{ℕ, _-_, _<_}
+use native.Mathlib.Omega.{arith}
+use lib.Dec.{ltb, eqb}
+use borrow.Author.Tests.{ltb-true, eqb-true, eq-eqb}
+use Rattle.lists.specs.Refusal.{test}
+use Rattle.lists.proofs.TestLaws.{both, join, accepted, accepts}
+use Rattle.records.specs.declared.Cursor.{Cursor}
+use Rattle.records.specs.declared.Record.{Record}
+use Rattle.records.specs.declared.Record.the-variants.{Page, Block, State, Commit, Ack, Short, Refused}
+use Rattle.records.specs.declared.Reader.the-variants as reader
+use Rattle.records.specs.Read.{readRecord}
+use Rattle.records.specs.Number.{outOfRange, wrongMode, badAck}
+use Rattle.detector.specs.Tick.{reset}
+use Rattle.rules.specs.declared.Primary.{Primary}
+use Rattle.rules.specs.PrimaryState.{primaryOk, protected, withWaiting, withAcknowledged}
+use Rattle.rules.specs.Reply.{unlessRefused}
+use Rattle.rules.specs.Stream.{drainRefusal, drainCount, drainReply, ackRefusal, ackJudged, ackState, ackReply}
+use Rattle.rules.specs.Reached.{PrimaryReached}
+use Rattle.rules.proofs.PrimaryFacts.{primary-facts, primary-of, reached-pick}
+use Rattle.rules.proofs.ReplyLaws.{unless-cases}
+
+-- ---- drain
+pub record DrainFacts (p : Primary) (stream : ℕ) : Type 0 where
+  pub ok : primaryOk p ≡ true
+  pub stream-is : stream ≡ p .settings .l
+
+module _ (p : Primary) (stream : ℕ) where
+  pub drain-accepted : drainRefusal p stream ≡ 0 → DrainFacts p stream
+  unfolding drainRefusal
+  drain-accepted e =
+      let h = accepted (test outOfRange (primaryOk p && eqb stream (p .settings .l)) ∷ []) refl e in
+      let r = both (primaryOk p) (eqb stream (p .settings .l)) (h .0) in
+      record { ok = r .0; stream-is = eqb-true stream (p .settings .l) (r .1) }
+
+  pub drain-accepts : DrainFacts p stream → drainRefusal p stream ≡ 0
+  unfolding drainRefusal
+  drain-accepts f =
+      accepts (test outOfRange (primaryOk p && eqb stream (p .settings .l)) ∷ [])
+      (join (primaryOk p) (eqb stream (p .settings .l)) (f .ok) (eq-eqb stream (p .settings .l) (f .stream-is)), tt)
+
+-- ---- ACK
+
+-- what an accepted ACK has
+pub record AckFacts (p : Primary) (e : ℕ) : Type 0 where
+  pub ok : primaryOk p ≡ true
+  pub protects : protected p ≡ true
+  pub above : p .acknowledged < e
+  pub below : e < p .epoch
+
+-- a record that is judged is refused, cut short, or an ACK with these facts
+abbrev pub AckJudgedFacts : Primary → Record → Type 0
+AckJudgedFacts p (Page e n c) = ⊥
+AckJudgedFacts p (Block e n c) = ⊥
+AckJudgedFacts p (State e c) = ⊥
+AckJudgedFacts p (Commit e n b c) = ⊥
+AckJudgedFacts p (Ack e c) = AckFacts p e
+AckJudgedFacts p Short = Unit {0}
+AckJudgedFacts p (Refused n) = Unit {0}
+
+module _ (p : Primary) where
+  -- an ACK's own refusal
+  pub ack-epochs : (e : ℕ) (c : Cursor) → ackRefusal p (Ack e c) ≡ 0 → (p .acknowledged < e) × (e < p .epoch)
+  ack-epochs e c z =
+      let h = accepted (test badAck (ltb (p .acknowledged) e && ltb e (p .epoch)) ∷ []) refl z in
+      let b = both (ltb (p .acknowledged) e) (ltb e (p .epoch)) (h .0) in
+      (ltb-true (p .acknowledged) e (b .0), ltb-true e (p .epoch) (b .1))
+
+  record-facts : primaryOk p ≡ true → protected p ≡ true → (r : Record) → ackRefusal p r ≡ 0 → AckJudgedFacts p r
+  record-facts ok on (Page e n c) z = absurd (omega arith)
+  record-facts ok on (Block e n c) z = absurd (omega arith)
+  record-facts ok on (State e c) z = absurd (omega arith)
+  record-facts ok on (Commit e n b c) z = absurd (omega arith)
+  record-facts ok on (Ack e c) z = let f = ack-epochs e c z in record { ok = ok; protects = on; above = f .0; below = f .1 }
+  record-facts ok on Short z = tt
+  record-facts ok on (Refused n) z = tt
+
+  module _ (bytes : List ℕ) where
+    -- each answer in its order
+    pub ack-range : primaryOk p ≡ false → ackJudged p bytes ≡ Refused outOfRange
+    unfolding ackJudged
+    ack-range a = rw a
+
+    pub ack-mode : primaryOk p ≡ true → protected p ≡ false → ackJudged p bytes ≡ Refused wrongMode
+    unfolding ackJudged
+    ack-mode a b = rw (a, b)
+
+    pub ack-number : primaryOk p ≡ true → protected p ≡ true → (r : Record) → r ≡ readRecord reader.Primary (p .settings .u) bytes
+        → (n : ℕ) → n ≡ ackRefusal p r → ackJudged p bytes ≡ unlessRefused n r
+    unfolding ackJudged
+    ack-number a b r e n h = rw (a, b, ← e, ← h)
+
+    -- a fact of what is judged holds of refusals, and of the record found where that is accepted
+    pub ack-cases : (P : Record → Type 0) → ((n : ℕ) → P (Refused n))
+        → (primaryOk p ≡ true → protected p ≡ true → ackRefusal p (readRecord reader.Primary (p .settings .u) bytes) ≡ 0 → P (readRecord reader.Primary (p .settings .u) bytes))
+        → P (ackJudged p bytes)
+    unfolding ackJudged
+    ack-cases P refusals taken =
+        let r = readRecord reader.Primary (p .settings .u) bytes in
+        go (primaryOk p) (protected p) (λ a b. unless-cases (ackRefusal p r) r P (taken a b) (λ _. refusals (ackRefusal p r)))
+      where
+        go : (a b : Bool) {r : Record} → (a ≡ true → b ≡ true → P r) → P (cond a (cond b r (Refused wrongMode)) (Refused outOfRange))
+        go false b f = refusals outOfRange
+        go true false f = refusals wrongMode
+        go true true f = f refl refl
+
+    -- the law of acceptance
+    pub ack-accepted : AckJudgedFacts p (ackJudged p bytes)
+    ack-accepted = ack-cases (AckJudgedFacts p) (λ n. tt) (λ ok on z. record-facts ok on (readRecord reader.Primary (p .settings .u) bytes) z)
+
+-- ---- what a call leaves is reached
+module _ (p : Primary) (r : PrimaryReached p) where
+  pub drain-keeps : (stream n destination : ℕ) → PrimaryReached (drainReply p stream n destination .state)
+  unfolding drainReply
+  drain-keeps stream n destination =
+      reached-pick (drainRefusal p stream) p (withWaiting p (p .waiting - drainCount p n destination)) r
+      (λ z.
+      let f = primary-facts p (r .inRange) in
+      record {
+        inRange = primary-of (withWaiting p (p .waiting - drainCount p n destination))
+            (record { settings = f .settings; queue = f .queue; acknowledged = f .acknowledged; waiting = omega arith; blocks = f .blocks; detector = f .detector });
+        packets = r .packets;
+      })
+
+  pub ack-keeps : (bytes : List ℕ) → PrimaryReached (ackReply p bytes .state)
+  unfolding ackReply
+  ack-keeps bytes = go (ackJudged p bytes) (ack-accepted p bytes)
+    where
+      go : (j : Record) → AckJudgedFacts p j → PrimaryReached (ackState p j)
+      go (Page e n c) a = absurd a
+      go (Block e n c) a = absurd a
+      go (State e c) a = absurd a
+      go (Commit e n b c) a = absurd a
+      go (Ack e c) a =
+          let f = primary-facts p (a .ok) in
+          let d = f .detector in
+          record {
+            inRange = primary-of (withAcknowledged p e (reset (p .detector)))
+                (record {
+                  settings = f .settings;
+                  queue = f .queue;
+                  acknowledged = a .below;
+                  waiting = f .waiting;
+                  blocks = f .blocks;
+                  detector = record { t-low = d .t-low; t-high = d .t-high; count-high = omega arith; below = λ _. omega (arith, d .t-low) };
+                });
+            packets = r .packets;
+          }
+      go Short a = r
+      go (Refused n) a = r

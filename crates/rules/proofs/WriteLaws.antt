@@ -1,0 +1,168 @@
+-- Laws of the guest's writes at the primary: what acceptance says and what it needs, and that the ranges are kept. Assumes nothing.
+use mathlib.Core.Path.{_≡_, refl, sym, _∙_}
+use mathlib.Core.Bool.{Bool, true, false, cond, _&&_, _||_, false≢true, true≢false}
+use mathlib.Core.List.{List, [], _∷_}
+use Prim.Native.Nat.{ℕ, _+_, _*_, _≤_, _<_}
+use native.Mathlib.Omega.{arith}
+use lib.Dec.{leb, ltb, eqb}
+use borrow.Author.Tests.{leb-true, le-leb, ltb-true, lt-ltb, eqb-true, eq-eqb}
+use Rattle.lists.specs.Refusal.{Test, test}
+use Rattle.lists.proofs.TestLaws.{both, join, accepted, accepts}
+use Rattle.lists.proofs.PageLaws.{page-end}
+use Rattle.records.specs.Kind.{BLOCK, recordLength}
+use Rattle.records.specs.Number.{outOfRange, noSuchUnit, badSize, allowanceUsed, streamFull}
+use Rattle.rules.specs.declared.Primary.{Primary}
+use Rattle.rules.specs.Common.{insidePage}
+use Rattle.rules.specs.PrimaryState.{primaryOk, memoryLength, diskLength, marksLength, withBlocks}
+use Rattle.rules.specs.PrimaryWrites.{memoryWriteRefusal, memoryWriteReply, diskWriteRefusal, diskWriteState, diskWriteReply}
+use Rattle.rules.specs.Reached.{PrimaryReached}
+use Rattle.rules.proofs.PrimaryFacts.{primary-facts, primary-of, reached-pick}
+
+-- ---- memory write
+pub record MemoryWriteRoom (p : Primary) (memory dirty page offset n : ℕ) : Type 0 where
+  pub ok : primaryOk p ≡ true
+  pub memory-is : memory ≡ memoryLength p
+  pub dirty-is : dirty ≡ marksLength p
+  pub below : page < p .settings .m
+  pub some : 1 ≤ n
+  pub inside : offset + n ≤ p .settings .u
+
+module _ (p : Primary) (memory dirty page offset n : ℕ) where
+  abbrev memoryWriteTests : List Test
+  memoryWriteTests =
+      test outOfRange (primaryOk p && eqb memory (memoryLength p) && eqb dirty (marksLength p))
+      ∷ test noSuchUnit (ltb page (p .settings .m))
+      ∷ test badSize (insidePage (p .settings .u) offset n)
+      ∷ []
+
+  pub memory-write-accepted : memoryWriteRefusal p memory dirty page offset n ≡ 0 → MemoryWriteRoom p memory dirty page offset n
+  unfolding memoryWriteRefusal
+  memory-write-accepted e =
+      let h = accepted memoryWriteTests refl e in
+      let d = both (primaryOk p && eqb memory (memoryLength p)) (eqb dirty (marksLength p)) (h .0) in
+      let m = both (primaryOk p) (eqb memory (memoryLength p)) (d .0) in
+      let s = both (leb 1 n) (leb (offset + n) (p .settings .u)) (h .1 .1 .0) in
+      record {
+        ok = m .0;
+        memory-is = eqb-true memory (memoryLength p) (m .1);
+        dirty-is = eqb-true dirty (marksLength p) (d .1);
+        below = ltb-true page (p .settings .m) (h .1 .0);
+        some = leb-true 1 n (s .0);
+        inside = leb-true (offset + n) (p .settings .u) (s .1);
+      }
+
+  module _ (f : MemoryWriteRoom p memory dirty page offset n) where
+    pub memory-write-accepts : memoryWriteRefusal p memory dirty page offset n ≡ 0
+    unfolding memoryWriteRefusal
+    memory-write-accepts =
+        accepts memoryWriteTests (
+          join _ _ (join _ _ (f .ok) (eq-eqb memory (memoryLength p) (f .memory-is))) (eq-eqb dirty (marksLength p) (f .dirty-is)),
+          (
+            lt-ltb page (p .settings .m) (f .below),
+            (join _ _ (le-leb 1 n (f .some)) (le-leb (offset + n) (p .settings .u) (f .inside)), tt),
+          ),
+        )
+
+    -- the bytes written lie in the memory
+    pub memory-write-end : page * p .settings .u + offset + n ≤ memory
+    memory-write-end = omega (arith, page-end page (p .settings .m) (p .settings .u) (f .below), f .memory-is, f .inside)
+
+  pub memory-write-reached : PrimaryReached p → PrimaryReached (memoryWriteReply p memory dirty page offset n .state)
+  unfolding memoryWriteReply
+  memory-write-reached r = reached-pick (memoryWriteRefusal p memory dirty page offset n) p p r (λ e. r)
+
+-- ---- disk write
+pub record DiskWriteRoom (p : Primary) (disk stream block n : ℕ) : Type 0 where
+  pub ok : primaryOk p ≡ true
+  pub disk-is : disk ≡ diskLength p
+  pub stream-is : stream ≡ p .settings .l
+  pub below : block < p .settings .d
+  pub size : n ≡ p .settings .u
+  pub allowance : p .alone ≡ false → p .blocks < p .settings .b
+  pub room : p .alone ≡ false → p .waiting + recordLength (p .settings .u) BLOCK ≤ p .settings .l
+
+-- a test that is made only where the primary is not alone
+unless-alone : (alone b : Bool) → (alone || b) ≡ true → alone ≡ false → b ≡ true
+unless-alone true b e h = absurd (true≢false h)
+unless-alone false b e h = e
+
+or-alone : (alone b : Bool) → (alone ≡ false → b ≡ true) → (alone || b) ≡ true
+or-alone true b f = refl
+or-alone false b f = f refl
+
+module _ (p : Primary) (disk stream block n : ℕ) where
+  abbrev diskWriteTests : List Test
+  diskWriteTests =
+      test outOfRange (primaryOk p && eqb disk (diskLength p) && eqb stream (p .settings .l))
+      ∷ test noSuchUnit (ltb block (p .settings .d))
+      ∷ test badSize (eqb n (p .settings .u))
+      ∷ test allowanceUsed (p .alone || ltb (p .blocks) (p .settings .b))
+      ∷ test streamFull (p .alone || leb (p .waiting + recordLength (p .settings .u) BLOCK) (p .settings .l))
+      ∷ []
+
+  pub disk-write-accepted : diskWriteRefusal p disk stream block n ≡ 0 → DiskWriteRoom p disk stream block n
+  unfolding diskWriteRefusal
+  disk-write-accepted e =
+      let h = accepted diskWriteTests refl e in
+      let s = both (primaryOk p && eqb disk (diskLength p)) (eqb stream (p .settings .l)) (h .0) in
+      let d = both (primaryOk p) (eqb disk (diskLength p)) (s .0) in
+      record {
+        ok = d .0;
+        disk-is = eqb-true disk (diskLength p) (d .1);
+        stream-is = eqb-true stream (p .settings .l) (s .1);
+        below = ltb-true block (p .settings .d) (h .1 .0);
+        size = eqb-true n (p .settings .u) (h .1 .1 .0);
+        allowance = λ a. ltb-true (p .blocks) (p .settings .b) (unless-alone (p .alone) _ (h .1 .1 .1 .0) a);
+        room = λ a. leb-true (p .waiting + recordLength (p .settings .u) BLOCK) (p .settings .l) (unless-alone (p .alone) _ (h .1 .1 .1 .1 .0) a);
+      }
+
+  module _ (f : DiskWriteRoom p disk stream block n) where
+    pub disk-write-accepts : diskWriteRefusal p disk stream block n ≡ 0
+    unfolding diskWriteRefusal
+    disk-write-accepts =
+        accepts diskWriteTests (
+          join _ _ (join _ _ (f .ok) (eq-eqb disk (diskLength p) (f .disk-is))) (eq-eqb stream (p .settings .l) (f .stream-is)),
+          (
+            lt-ltb block (p .settings .d) (f .below),
+            (
+              eq-eqb n (p .settings .u) (f .size),
+              (
+                or-alone (p .alone) _ (λ a. lt-ltb (p .blocks) (p .settings .b) (f .allowance a)),
+                (or-alone (p .alone) _ (λ a. le-leb (p .waiting + recordLength (p .settings .u) BLOCK) (p .settings .l) (f .room a)), tt),
+              ),
+            ),
+          ),
+        )
+
+    -- the block lies in the disk
+    pub disk-write-end : block * p .settings .u + n ≤ disk
+    disk-write-end = omega (arith, page-end block (p .settings .d) (p .settings .u) (f .below), f .disk-is, f .size)
+
+    pub disk-write-state-reached : PrimaryReached p → PrimaryReached (diskWriteState p)
+    unfolding diskWriteState
+    disk-write-state-reached r = go (p .alone) refl
+      where
+        appended : p .alone ≡ false → PrimaryReached (withBlocks p (p .blocks + 1) (p .waiting + recordLength (p .settings .u) BLOCK))
+        appended a =
+            let g = primary-facts p (f .ok) in
+            let h = f .allowance a in
+            record {
+              inRange = primary-of _ (record {
+                settings = g .settings;
+                queue = g .queue;
+                acknowledged = g .acknowledged;
+                waiting = f .room a;
+                blocks = omega arith;
+                detector = g .detector;
+              });
+              packets = r .packets;
+            }
+
+        go : (a : Bool) → p .alone ≡ a → PrimaryReached (cond a p (withBlocks p (p .blocks + 1) (p .waiting + recordLength (p .settings .u) BLOCK)))
+        go true e = r
+        go false e = appended e
+
+  pub disk-write-reached : PrimaryReached p → PrimaryReached (diskWriteReply p disk stream block n .state)
+  unfolding diskWriteReply
+  disk-write-reached r =
+      reached-pick (diskWriteRefusal p disk stream block n) p (diskWriteState p) r (λ e. disk-write-state-reached (disk-write-accepted e) r)
