@@ -1,0 +1,145 @@
+-- An accepted activation keeps the invariant. Assumes nothing.
+use Prim.Native.Nat.{ℕ, _≤_, _<_, _^_}
+use mathlib.Core.Path.{_≡_, refl, sym, ap, _∙_, subst}
+use mathlib.Core.Bool.{Bool, true, false, _&&_, true≢false, false≢true}
+use mathlib.Core.List.{List, [], _∷_}
+use native.Mathlib.Omega.{arith}
+use lib.Dec.{eqb}
+use lib.ListN.{length, take}
+use borrow.Author.Tests.{eq-eqb, eqb-true}
+use Rattle.lists.specs.Refusal.{test}
+use Rattle.lists.specs.Part.{put}
+use Rattle.lists.proofs.TestLaws.{accepted}
+use Rattle.lists.proofs.PartLaws.{put-whole}
+use Rattle.records.specs.Kind.{ACTIVATION}
+use Rattle.records.specs.Area.{areaOf, areaLength}
+use Rattle.records.specs.Number.{outOfRange, wrongMode, blocksDue}
+use Rattle.records.specs.Write.{activationRecord}
+use Rattle.records.specs.declared.Area.{Area}
+use Rattle.records.proofs.FrameLaws.{length-epoch}
+use Rattle.records.proofs.AreaLaws.{area-activation}
+use Rattle.settings.specs.declared.Settings.{Settings}
+use Rattle.staging.specs.SlotList.{Staged, slotList, dueList, storeAll}
+use Rattle.rules.specs.declared.Mode.{Mode}
+use Rattle.rules.specs.declared.Mode.the-variants.{Receiving, TakingOver, Active}
+use Rattle.rules.specs.declared.Choice.the-variants.{StandbyDisk}
+use Rattle.rules.specs.declared.Standby.{Standby}
+use Rattle.rules.specs.Choose.{areaChoice}
+use Rattle.rules.specs.StandbyState.{standbyOk, isReceiving, isTakingOver, isActive, withMode}
+use Rattle.rules.specs.Takeover.{activationRefusal, activationReply, activationArea}
+use Rattle.rules.specs.World as call
+use Rattle.rules.specs.Step.{atStandby, step}
+use Rattle.rules.proofs.DetectorFacts.{detector-facts, detector-of}
+use Rattle.rules.proofs.StandbyReachedLaws.{reached-tests, reached-mode}
+use Rattle.runs.specs.Plain.{Checkpoint, receivedCheckpoint, withStandbyImages, plainAccepted, plainStep}
+use Rattle.runs.specs.Run.{Both, steps, runCall}
+use Rattle.runs.proofs.Invariant.{Inv}
+use Rattle.runs.proofs.Conclusions.{received-is, received-exists}
+use Rattle.runs.proofs.Frame.{Accepted, KeepsAccepted}
+
+-- what acceptance says
+pub record ActivationFacts (s : Standby) : Type 0 where
+  pub takes : isTakingOver (s .mode) ≡ true
+  pub none : s .slots .due ≡ 0
+
+activation-facts : (s : Standby) (area : ℕ) → activationRefusal s area ≡ 0 → ActivationFacts s
+unfolding activationRefusal
+activation-facts s area e =
+    let h = accepted
+    (test outOfRange (standbyOk s && eqb area areaLength) ∷ test wrongMode (isTakingOver (s .mode)) ∷ test blocksDue (eqb (s .slots .due) 0) ∷ [])
+    refl e in
+    record { takes = h .1 .0; none = eqb-true (s .slots .due) 0 (h .1 .1 .0) }
+
+pub taking-not-active : (m : Mode) → isTakingOver m ≡ true → isActive m ≡ false
+taking-not-active Receiving e = absurd (false≢true e)
+taking-not-active TakingOver e = refl
+taking-not-active Active e = absurd (false≢true e)
+
+abbrev pub after : Both → Both
+after b =
+    let e = b .world .standby in
+    record {
+      world = atStandby (b .world) (record {
+        state = withMode (e .state) Active;
+        memory = e .memory;
+        disk = e .disk;
+        stagedPages = e .stagedPages;
+        stagedMarks = e .stagedMarks;
+        stagedBlocks = e .stagedBlocks;
+        area = put (e .area) 0 (activationRecord (e .state .received));
+      });
+      plain = withStandbyImages (b .plain) true (receivedCheckpoint (b .plain) .memory) (receivedCheckpoint (b .plain) .disk);
+    }
+
+pub after-is : (u : ℕ) (b : Both) → Accepted b call.activation → runCall steps u b call.activation ≡ after b
+unfolding step activationReply activationArea plainStep plainAccepted
+after-is u b e = rw (eq-eqb _ _ e)
+
+facts : (b : Both) → Accepted b call.activation → ActivationFacts (b .world .standby .state)
+unfolding step activationReply
+facts b e = activation-facts (b .world .standby .state) (length (b .world .standby .area)) e
+
+-- nothing due, nothing to store
+none-due : (u : ℕ) (s : Standby) (slots disk : List ℕ) → s .slots .due ≡ 0 → storeAll u disk (dueList u (s .slots) slots) ≡ disk
+unfolding dueList storeAll
+none-due u s slots disk z = rw z
+
+module _ (g : Settings) (b : Both) (i : Inv g b) (f : ActivationFacts (b .world .standby .state)) where
+  area-whole : put (b .world .standby .area) 0 (activationRecord (b .world .standby .state .received)) ≡ activationRecord (b .world .standby .state .received)
+  area-whole =
+      let e = b .world .standby in
+      put-whole (e .area) (activationRecord (e .state .received)) (length-epoch ACTIVATION (e .state .received) ∙ sym (i .holds .standbyKept .area))
+
+  low : b .world .standby .state .received < 2 ^ 32
+  low = let h = i .holds .history in omega (arith, received-exists g b i, h .count, h .high, i .holds .taker .receivedIs)
+
+  keep : Inv g (after b)
+  keep =
+      let e = b .world .standby in
+      let v = i .holds in
+      let k = v .standbyKept in
+      let t = v .taker in
+      let s = e .state in
+      let d = detector-facts (s .detector) (isReceiving (s .mode)) (reached-tests s (k .reached) .detector-ok) in
+      let off : b .plain .activated ≡ false = sym (t .modeIs) ∙ taking-not-active (s .mode) (f .takes) in
+      let c = received-is (v .history) in
+      record {
+        ghost = i .ghost;
+        holds = record {
+          history = v .history;
+          link = v .link;
+          images = v .images;
+          detector = v .detector;
+          packets = v .packets;
+          taker = record {
+            receivedIs = t .receivedIs;
+            modeIs = refl;
+            processorIs = t .processorIs;
+            memoryIs = λ z. absurd (true≢false z);
+            diskIs = λ z. absurd (true≢false z);
+            stagedMemory = λ z. absurd (false≢true z);
+            stagedDisk = λ z. absurd (false≢true z);
+            stagedProcessor = λ z. absurd (false≢true z);
+            activeMemory = λ z. t .memoryIs off ∙ ap (λ (x : Checkpoint). x .memory) (sym c);
+            activeDisk = λ z. sym (none-due (g .u) s (e .stagedBlocks) (e .disk) (f .none)) ∙ t .diskIs off ∙ ap (λ (x : Checkpoint). x .disk) (sym c);
+            settled = λ z. f .none;
+            areaIs = ap (λ (l : List ℕ). areaChoice (areaOf l)) area-whole ∙ ap areaChoice (area-activation (s .received) low);
+          };
+          primaryKept = v .primaryKept;
+          standbyKept = record {
+            settings = k .settings;
+            patience = k .patience;
+            reached = reached-mode s (k .reached) Active
+                (detector-of (s .detector) false (record { t-low = d .t-low; t-high = d .t-high; count-high = d .count-high; below = λ z. absurd (false≢true z) }));
+            memory = k .memory;
+            disk = k .disk;
+            stagedPages = k .stagedPages;
+            stagedMarks = k .stagedMarks;
+            stagedBlocks = k .stagedBlocks;
+            area = ap length area-whole ∙ length-epoch ACTIVATION (s .received);
+          };
+        };
+      }
+
+pub keep-activation : (g : Settings) → KeepsAccepted g call.activation
+keep-activation g b i e = subst (Inv g) (sym (after-is (g .u) b e)) (keep g b i (facts b e))

@@ -1,0 +1,197 @@
+-- An accepted write of the guest at an active standby keeps the invariant. Assumes nothing.
+use Prim.Native.Nat.{ℕ, _+_, _*_, _≤_, _<_}
+use mathlib.Core.Path.{_≡_, refl, sym, ap, ap₂, _∙_, subst}
+use mathlib.Core.Bool.{Bool, true, false, _&&_, true≢false, false≢true}
+use mathlib.Core.List.{List, [], _∷_}
+use native.Mathlib.Omega.{arith}
+use lib.Dec.{leb, ltb, eqb}
+use lib.ListN.{length}
+use borrow.Author.Tests.{eq-eqb, eqb-true, ltb-true, leb-true}
+use Rattle.lists.specs.Refusal.{test}
+use Rattle.lists.specs.Part.{put}
+use Rattle.lists.specs.Page.{withPage}
+use Rattle.lists.proofs.TestLaws.{both, accepted}
+use Rattle.lists.proofs.PartLaws.{length-put}
+use Rattle.lists.proofs.PageLaws.{page-end, length-with-page}
+use Rattle.records.specs.Number.{outOfRange, noSuchUnit, badSize, wrongMode}
+use Rattle.settings.specs.declared.Settings.{Settings}
+use Rattle.rules.specs.declared.Mode.{Mode}
+use Rattle.rules.specs.declared.Mode.the-variants.{Receiving, TakingOver, Active}
+use Rattle.rules.specs.declared.Standby.{Standby}
+use Rattle.rules.specs.Common.{insidePage, written}
+use Rattle.rules.specs.StandbyState.{standbyOk, isReceiving, isActive, memoryLength, diskLength}
+use Rattle.rules.specs.Takeover.{activeMemoryWriteRefusal, activeMemoryWriteReply, activeMemoryWriteMemory, activeDiskWriteRefusal, activeDiskWriteReply, activeDiskWriteDisk}
+use Rattle.rules.specs.World as call
+use Rattle.rules.specs.Step.{atStandby, step}
+use Rattle.runs.specs.Plain.{withStandbyImages, plainAccepted, plainStep}
+use Rattle.runs.specs.Run.{Both, steps, runCall}
+use Rattle.runs.proofs.Invariant.{Inv}
+use Rattle.runs.proofs.KeptLaws.{standby-u, standby-m, standby-d}
+use Rattle.runs.proofs.Frame.{Accepted, KeepsAccepted}
+
+-- ---- what acceptance says
+record MemoryFacts (s : Standby) (page offset n : ℕ) : Type 0 where
+  on : isActive (s .mode) ≡ true
+  below : page < s .settings .m
+  inside : offset + n ≤ s .settings .u
+
+memory-facts : (s : Standby) (memory page offset n : ℕ) → activeMemoryWriteRefusal s memory page offset n ≡ 0 → MemoryFacts s page offset n
+unfolding activeMemoryWriteRefusal
+memory-facts s memory page offset n e =
+    let h = accepted
+    (test outOfRange (standbyOk s && eqb memory (memoryLength s))
+    ∷ test wrongMode (isActive (s .mode))
+    ∷ test noSuchUnit (ltb page (s .settings .m))
+    ∷ test badSize (insidePage (s .settings .u) offset n)
+    ∷ [])
+    refl e in
+    let z = both (leb 1 n) (leb (offset + n) (s .settings .u)) (h .1 .1 .1 .0) in
+    record { on = h .1 .0; below = ltb-true page (s .settings .m) (h .1 .1 .0); inside = leb-true (offset + n) (s .settings .u) (z .1) }
+
+record DiskFacts (s : Standby) (block n : ℕ) : Type 0 where
+  on : isActive (s .mode) ≡ true
+  below : block < s .settings .d
+  whole : n ≡ s .settings .u
+
+disk-facts : (s : Standby) (disk block n : ℕ) → activeDiskWriteRefusal s disk block n ≡ 0 → DiskFacts s block n
+unfolding activeDiskWriteRefusal
+disk-facts s disk block n e =
+    let h = accepted
+    (test outOfRange (standbyOk s && eqb disk (diskLength s))
+    ∷ test wrongMode (isActive (s .mode))
+    ∷ test noSuchUnit (ltb block (s .settings .d))
+    ∷ test badSize (eqb n (s .settings .u))
+    ∷ [])
+    refl e in
+    record { on = h .1 .0; below = ltb-true block (s .settings .d) (h .1 .1 .0); whole = eqb-true n (s .settings .u) (h .1 .1 .1 .0) }
+
+not-receiving : (m : Mode) → isActive m ≡ true → isReceiving m ≡ true → ⊥
+not-receiving Receiving a z = false≢true a
+not-receiving TakingOver a z = false≢true a
+not-receiving Active a z = false≢true z
+
+-- ---- the standby's images and the plain standby's, replaced
+abbrev after : List ℕ → List ℕ → List ℕ → List ℕ → Both → Both
+after memory disk memory′ disk′ b =
+    let e = b .world .standby in
+    record {
+      world = atStandby (b .world) (record { state = e .state; memory = memory; disk = disk; stagedPages = e .stagedPages; stagedMarks = e .stagedMarks; stagedBlocks = e .stagedBlocks; area = e .area });
+      plain = withStandbyImages (b .plain) (b .plain .activated) memory′ disk′;
+    }
+
+keep : (g : Settings) (b : Both) (memory disk memory′ disk′ : List ℕ) → isActive (b .world .standby .state .mode) ≡ true → memory ≡ memory′ → disk ≡ disk′
+    → length memory ≡ g .m * g .u → length disk ≡ g .d * g .u → Inv g b → Inv g (after memory disk memory′ disk′ b)
+keep g b memory disk memory′ disk′ on em ed lm ld i =
+    let v = i .holds in
+    let k = v .standbyKept in
+    let t = v .taker in
+    let is : b .plain .activated ≡ true = sym (t .modeIs) ∙ on in
+    let not = not-receiving (b .world .standby .state .mode) on in
+    record {
+      ghost = i .ghost;
+      holds = record {
+        history = v .history;
+        link = v .link;
+        images = v .images;
+        detector = v .detector;
+        packets = v .packets;
+        taker = record {
+          receivedIs = t .receivedIs;
+          modeIs = t .modeIs;
+          processorIs = t .processorIs;
+          memoryIs = λ z. absurd (true≢false (sym is ∙ z));
+          diskIs = λ z. absurd (true≢false (sym is ∙ z));
+          stagedMemory = λ z. absurd (not z);
+          stagedDisk = λ z. absurd (not z);
+          stagedProcessor = λ z. absurd (not z);
+          activeMemory = λ z. em;
+          activeDisk = λ z. ed;
+          settled = t .settled;
+          areaIs = t .areaIs;
+        };
+        primaryKept = v .primaryKept;
+        standbyKept = record {
+          settings = k .settings;
+          patience = k .patience;
+          reached = k .reached;
+          memory = lm;
+          disk = ld;
+          stagedPages = k .stagedPages;
+          stagedMarks = k .stagedMarks;
+          stagedBlocks = k .stagedBlocks;
+          area = k .area;
+        };
+      };
+    }
+
+-- ---- memory write
+module _ (page offset : ℕ) (bytes : List ℕ) where
+  abbrev afterMemory : ℕ → ℕ → Both → Both
+  afterMemory v u b =
+      let e = b .world .standby in
+      after (written v (e .memory) page offset bytes) (e .disk) (written u (b .plain .standbyMemory) page offset bytes) (b .plain .standbyDisk) b
+
+  after-memory : (u : ℕ) (b : Both) → Accepted b (call.activeMemoryWrite page offset bytes)
+      → runCall steps u b (call.activeMemoryWrite page offset bytes) ≡ afterMemory (b .world .standby .state .settings .u) u b
+  unfolding step activeMemoryWriteReply activeMemoryWriteMemory plainStep plainAccepted
+  after-memory u b e = rw (eq-eqb _ _ e)
+
+  facts-memory : (b : Both) → Accepted b (call.activeMemoryWrite page offset bytes) → MemoryFacts (b .world .standby .state) page offset (length bytes)
+  unfolding step activeMemoryWriteReply
+  facts-memory b e = memory-facts (b .world .standby .state) (length (b .world .standby .memory)) page offset (length bytes) e
+
+  keep-memory : (g : Settings) (b : Both) → Inv g b → isActive (b .world .standby .state .mode) ≡ true → page < g .m → offset + length bytes ≤ g .u → Inv g (afterMemory (g .u) (g .u) b)
+  unfolding written
+  keep-memory g b i on below inside =
+      let e = b .world .standby in
+      let t = i .holds .taker in
+      let k = i .holds .standbyKept in
+      let at = page * g .u + offset in
+      let fits : at + length bytes ≤ length (e .memory) = omega (arith, page-end page (g .m) (g .u) below, k .memory) in
+      let is : b .plain .activated ≡ true = sym (t .modeIs) ∙ on in
+      keep g b (put (e .memory) at bytes) (e .disk) (put (b .plain .standbyMemory) at bytes) (b .plain .standbyDisk) on
+      (ap (λ (l : List ℕ). put l at bytes) (t .activeMemory is)) (t .activeDisk is) (length-put (e .memory) at bytes fits ∙ k .memory) (k .disk) i
+
+pub keep-active-memory-write : (g : Settings) (page offset : ℕ) (bytes : List ℕ) → KeepsAccepted g (call.activeMemoryWrite page offset bytes)
+keep-active-memory-write g page offset bytes b i e =
+    let k = i .holds .standbyKept in
+    let f = facts-memory page offset bytes b e in
+    let u = standby-u g (b .world .standby) k in
+    let m = standby-m g (b .world .standby) k in
+    subst (Inv g) (sym (after-memory page offset bytes (g .u) b e ∙ ap (λ (v : ℕ). afterMemory page offset bytes v (g .u) b) u))
+    (keep-memory page offset bytes g b i (f .on) (omega (arith, f .below)) (omega (arith, f .inside)))
+
+-- ---- disk write
+module _ (block : ℕ) (bytes : List ℕ) where
+  abbrev afterDisk : ℕ → ℕ → Both → Both
+  afterDisk v u b =
+      let e = b .world .standby in
+      after (e .memory) (withPage v (e .disk) block bytes) (b .plain .standbyMemory) (withPage u (b .plain .standbyDisk) block bytes) b
+
+  after-disk : (u : ℕ) (b : Both) → Accepted b (call.activeDiskWrite block bytes)
+      → runCall steps u b (call.activeDiskWrite block bytes) ≡ afterDisk (b .world .standby .state .settings .u) u b
+  unfolding step activeDiskWriteReply activeDiskWriteDisk plainStep plainAccepted
+  after-disk u b e = rw (eq-eqb _ _ e)
+
+  facts-disk : (b : Both) → Accepted b (call.activeDiskWrite block bytes) → DiskFacts (b .world .standby .state) block (length bytes)
+  unfolding step activeDiskWriteReply
+  facts-disk b e = disk-facts (b .world .standby .state) (length (b .world .standby .disk)) block (length bytes) e
+
+  keep-disk : (g : Settings) (b : Both) → Inv g b → isActive (b .world .standby .state .mode) ≡ true → block < g .d → length bytes ≡ g .u → Inv g (afterDisk (g .u) (g .u) b)
+  keep-disk g b i on below whole =
+      let e = b .world .standby in
+      let t = i .holds .taker in
+      let k = i .holds .standbyKept in
+      let fits : block * g .u + g .u ≤ length (e .disk) = omega (arith, page-end block (g .d) (g .u) below, k .disk) in
+      let is : b .plain .activated ≡ true = sym (t .modeIs) ∙ on in
+      keep g b (e .memory) (withPage (g .u) (e .disk) block bytes) (b .plain .standbyMemory) (withPage (g .u) (b .plain .standbyDisk) block bytes) on
+      (t .activeMemory is) (ap (λ (l : List ℕ). withPage (g .u) l block bytes) (t .activeDisk is)) (k .memory) (length-with-page (g .u) block (e .disk) bytes whole fits ∙ k .disk) i
+
+pub keep-active-disk-write : (g : Settings) (block : ℕ) (bytes : List ℕ) → KeepsAccepted g (call.activeDiskWrite block bytes)
+keep-active-disk-write g block bytes b i e =
+    let k = i .holds .standbyKept in
+    let f = facts-disk block bytes b e in
+    let u = standby-u g (b .world .standby) k in
+    let d = standby-d g (b .world .standby) k in
+    subst (Inv g) (sym (after-disk block bytes (g .u) b e ∙ ap (λ (v : ℕ). afterDisk block bytes v (g .u) b) u))
+    (keep-disk block bytes g b i (f .on) (omega (arith, f .below)) (omega (arith, f .whole)))

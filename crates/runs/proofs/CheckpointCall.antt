@@ -1,0 +1,263 @@
+-- An accepted checkpoint keeps the invariant. Assumes nothing.
+use Prim.Native.Nat.{ℕ, _+_, _*_, _≤_, _<_, _^_}
+use mathlib.Core.Path.{_≡_, refl, sym, ap, ap₂, _∙_, subst}
+use mathlib.Core.Bool.{Bool, true, false, not, _&&_}
+use mathlib.Core.List.{List, [], _∷_, _++_, append-nil, append-assoc}
+use native.Mathlib.Omega.{arith}
+use lib.Dec.{leb, ltb, eqb}
+use lib.ListN.{length, drop, length-append}
+use lib.Seq.{drop-append-le}
+use borrow.Author.Tests.{eq-eqb, ltb-true, leb-true}
+use Rattle.lists.specs.Refusal.{test}
+use Rattle.lists.specs.Part.{put}
+use Rattle.lists.proofs.TestLaws.{accepted}
+use Rattle.lists.proofs.PartLaws.{length-put}
+use Rattle.records.specs.Kind.{PAGE, STATE, COMMIT, processorBytes, bodyLength, recordLength}
+use Rattle.records.specs.Write.{stateRecord, commitRecord}
+use Rattle.records.specs.Number.{outOfRange, wrongMode, streamFull, lastEpoch}
+use Rattle.records.specs.Message.{Message, encode, encodeAll}
+use Rattle.records.specs.Message as message
+use Rattle.records.proofs.FrameLaws.{length-state, length-commit}
+use Rattle.records.proofs.MessageLaws.{encodeAll-append, length-message}
+use Rattle.settings.specs.declared.Settings.{Settings}
+use Rattle.settings.specs.declared.PrimarySettings.{PrimarySettings}
+use Rattle.settings.specs.Range.{ofPrimary, mostEpoch}
+use Rattle.marks.specs.Mark.{countMarks, cleared}
+use Rattle.marks.proofs.MarkLaws.{length-cleared, count-le}
+use Rattle.pages.specs.Clean.{Clean}
+use Rattle.pages.specs.Dirty.{dirtyRecords}
+use Rattle.pages.specs.DirtyMessages.{dirtyMessages}
+use Rattle.pages.proofs.DirtyLaws.{length-dirty}
+use Rattle.pages.proofs.DirtyMessagesLaws.{dirty-encode, messages-fit}
+use Rattle.pages.proofs.CleanLaws.{clean-clear}
+use Rattle.rules.specs.declared.Primary.{Primary}
+use Rattle.rules.specs.PrimaryState.{primaryOk, protected, memoryLength, marksLength, withEpoch}
+use Rattle.rules.specs.Checkpoint.{checkpointLength, checkpointBytes, checkpointRefusal, checkpointState, checkpointReply, checkpointDirty, checkpointStream}
+use Rattle.rules.specs.World.{Processor}
+use Rattle.rules.specs.World as call
+use Rattle.rules.specs.Step.{atPrimary, step}
+use Rattle.rules.proofs.PrimaryReachedLaws.{reached-facts, reached-epoch}
+use Rattle.runs.specs.Plain.{Checkpoint, withCheckpoint, plainAccepted, plainStep}
+use Rattle.runs.specs.Run.{Both, steps, runCall}
+use Rattle.runs.proofs.Effects.{effects, effects-append, Epoch, closed, checkpointsAfter, lastAfter, checkpoints-more, last-more, All, all-append, Before, Readable}
+use Rattle.runs.proofs.Invariant.{History, Link, Images, Inv}
+use Rattle.runs.proofs.Conclusions.{received-exists, acknowledged-received}
+use Rattle.runs.proofs.PacketsLaws.{packets-checkpoint}
+use Rattle.runs.proofs.LinkLaws.{sent-closed, before-more, all-readable, link-append}
+use Rattle.runs.proofs.DirtyEffects.{effects-dirty, dirty-before}
+use Rattle.runs.proofs.KeptLaws.{primary-settings}
+use Rattle.runs.proofs.Frame.{Accepted, KeepsAccepted}
+
+-- ---- what acceptance says, with the settings x
+record Facts (p : Primary) (dirty : List ℕ) (x : PrimarySettings) : Type 0 where
+  protects : protected p ≡ true
+  room : p .waiting + checkpointLength (x .u) (countMarks dirty (x .m)) ≤ x .l
+  below : p .epoch < mostEpoch
+
+checkpoint-facts : (p : Primary) (memory length′ stream : ℕ) (dirty : List ℕ) → checkpointRefusal p memory length′ stream (countMarks dirty (p .settings .m)) ≡ 0 → Facts p dirty (p .settings)
+unfolding checkpointRefusal
+checkpoint-facts p memory length′ stream dirty e =
+    let pages = countMarks dirty (p .settings .m) in
+    let h = accepted
+    (test outOfRange (primaryOk p && eqb memory (memoryLength p) && eqb length′ (marksLength p) && eqb stream (p .settings .l))
+    ∷ test wrongMode (protected p)
+    ∷ test streamFull (leb (p .waiting + checkpointLength (p .settings .u) pages) (p .settings .l))
+    ∷ test lastEpoch (ltb (p .epoch) mostEpoch)
+    ∷ [])
+    refl e in
+    record {
+      protects = h .1 .0;
+      room = leb-true (p .waiting + checkpointLength (p .settings .u) pages) (p .settings .l) (h .1 .1 .0);
+      below = ltb-true (p .epoch) mostEpoch (h .1 .1 .1 .0);
+    }
+
+-- ---- the pair after it
+module _ (processor : Processor) where
+  -- the bytes appended
+  abbrev bytesOf : Both → PrimarySettings → List ℕ
+  bytesOf b x =
+      let p = b .world .primary in
+      let e = p .state .epoch in
+      dirtyRecords (p .memory) (p .dirty) (x .u) e (x .m) ++ (stateRecord e (processor .bytes) ++ commitRecord e (countMarks (p .dirty) (x .m)) (p .state .blocks))
+
+  abbrev new : Both → Checkpoint
+  new b = record { memory = b .plain .memory; disk = b .plain .disk; processor = processor .bytes; packets = b .plain .accepted }
+
+  abbrev after : Both → PrimarySettings → Both
+  after b x =
+      let p = b .world .primary in
+      record {
+        world = atPrimary (b .world) (record {
+          state = withEpoch (p .state) (p .state .epoch + 1) (p .state .waiting + checkpointLength (x .u) (countMarks (p .dirty) (x .m)));
+          memory = p .memory;
+          disk = p .disk;
+          dirty = cleared (p .dirty) (x .m);
+          held = p .held;
+          stream = put (p .stream) (p .state .waiting) (bytesOf b x);
+        });
+        plain = withCheckpoint (b .plain) (new b);
+      }
+
+  after-is : (u : ℕ) (b : Both) → Accepted b (call.checkpoint processor) → runCall steps u b (call.checkpoint processor) ≡ after b (b .world .primary .state .settings)
+  unfolding step checkpointReply checkpointState checkpointDirty checkpointStream checkpointBytes plainStep plainAccepted
+  after-is u b e = rw (eq-eqb _ _ e)
+
+  facts : (b : Both) → Accepted b (call.checkpoint processor) → Facts (b .world .primary .state) (b .world .primary .dirty) (b .world .primary .state .settings)
+  unfolding step checkpointReply
+  facts b e = let p = b .world .primary in checkpoint-facts (p .state) (length (p .memory)) (length (p .dirty)) (length (p .stream)) (p .dirty) e
+
+  module _ (g : Settings) (b : Both) (i : Inv g b) (f : Facts (b .world .primary .state) (b .world .primary .dirty) (ofPrimary g)) where
+    abbrev epoch : ℕ
+    epoch = b .world .primary .state .epoch
+
+    abbrev count : ℕ
+    count = countMarks (b .world .primary .dirty) (g .m)
+
+    abbrev dirties : List Message
+    dirties = dirtyMessages (b .world .primary .memory) (b .world .primary .dirty) (g .u) (b .world .primary .state .epoch) (g .m)
+
+    -- the records before the COMMIT, and the epoch that it closes
+    abbrev closing : List Message
+    closing = dirties ++ (message.state epoch (processor .bytes) ∷ [])
+
+    abbrev commit : Message
+    commit = message.commit epoch count (b .world .primary .state .blocks)
+
+    abbrev shut : Epoch
+    shut = record { records = i .ghost .opened ++ closing; number = epoch; pages = count; blocks = b .world .primary .state .blocks; packets = b .plain .accepted }
+
+    abbrev last : Checkpoint
+    last = lastAfter (g .u) (i .ghost .base) (i .ghost .ahead)
+
+    alone : b .world .primary .state .alone ≡ false
+    alone = go (b .world .primary .state .alone) (f .protects)
+      where
+        go : (x : Bool) → not x ≡ true → x ≡ false
+        go true e = sym e
+        go false e = refl
+
+    -- "the dirty pages give the next checkpoint's memory"
+    new-is : closed (g .u) last shut ≡ new b
+    new-is =
+        let p = b .world .primary in
+        let v = i .holds in
+        let now = effects (g .u) last (i .ghost .opened) in
+        let done : effects (g .u) last (shut .records) ≡ record { memory = p .memory; disk = now .disk; processor = processor .bytes; packets = now .packets }
+        = effects-append (g .u) last (i .ghost .opened) closing
+        ∙ effects-append (g .u) now dirties (message.state epoch (processor .bytes) ∷ [])
+        ∙ ap (λ (c : Checkpoint). effects (g .u) c (message.state epoch (processor .bytes) ∷ []))
+        (effects-dirty now (p .memory) (p .dirty) (g .u) epoch (g .m) (v .images .size) (v .primaryKept .memory) (v .images .clean)) in
+        ap (λ (c : Checkpoint). record { memory = c .memory; disk = c .disk; processor = c .processor; packets = b .plain .accepted }) done
+        ∙ ap₂ (λ (x y : List ℕ). record { memory = x; disk = y; processor = processor .bytes; packets = b .plain .accepted }) (v .images .memoryIs) (v .images .stored alone ∙ v .images .diskIs)
+
+    -- the bytes appended are those of its records
+    bytes-are : encodeAll (closing ++ (commit ∷ [])) ≡ bytesOf b (ofPrimary g)
+    bytes-are =
+        let p = b .world .primary in
+        let st = message.state epoch (processor .bytes) in
+        encodeAll-append closing (commit ∷ [])
+        ∙ ap₂ _++_ (encodeAll-append dirties (st ∷ []) ∙ ap₂ _++_ (dirty-encode (p .memory) (p .dirty) (g .u) epoch (g .m)) (append-nil (encode st))) (append-nil (encode commit))
+        ∙ append-assoc (dirtyRecords (p .memory) (p .dirty) (g .u) epoch (g .m)) (encode st) (encode commit)
+
+    long : length (bytesOf b (ofPrimary g)) ≡ checkpointLength (g .u) count
+    unfolding checkpointLength recordLength bodyLength
+    long =
+        let p = b .world .primary in
+        simp (length-append, length-dirty (p .memory) (p .dirty) (g .u) epoch (g .m) (i .holds .primaryKept .memory), length-state, length-commit) (omega (arith, processor .size))
+
+    readable : All (Readable (g .u)) (closing ++ (commit ∷ []))
+    readable =
+        let p = b .world .primary in
+        let k = i .holds .primaryKept in
+        let s = primary-settings g p k in
+        let low : epoch < 2 ^ 32 = omega (arith, f .below) in
+        let high : count ≤ g .m = count-le (p .dirty) (g .m) in
+        let blocks = reached-facts (p .state) (k .reached) .blocks in
+        let bs = ap (λ (x : PrimarySettings). x .b) (k .settings) in
+        all-append (Readable (g .u)) closing (commit ∷ [])
+        (all-append (Readable (g .u)) dirties (message.state epoch (processor .bytes) ∷ [])
+        (all-readable (g .u) dirties (messages-fit (p .memory) (p .dirty) (g .u) epoch low (g .m) (omega (arith, s .shared .m-high)) (k .memory)) (dirty-before (p .memory) (p .dirty) (g .u) epoch (g .m)))
+        (((low, processor .size), refl), tt))
+        (((low, omega (arith, s .shared .m-high), omega (arith, s .shared .b-high)), refl), tt)
+
+    closing-before : All Before (i .ghost .opened ++ closing)
+    closing-before =
+        let p = b .world .primary in
+        all-append Before (i .ghost .opened) closing (i .holds .link .openedBefore)
+        (all-append Before dirties (message.state epoch (processor .bytes) ∷ []) (dirty-before (p .memory) (p .dirty) (g .u) epoch (g .m)) (refl, tt))
+
+    waits : b .world .primary .state .waiting ≤ length (b .world .primary .stream)
+    waits = omega (arith, f .room, i .holds .primaryKept .stream)
+
+    link : Link (g .u) (i .ghost .ahead ++ (shut ∷ [])) [] (i .ghost .consumed) (i .ghost .pending ++ (closing ++ (commit ∷ []))) (b .world .link)
+        (put (b .world .primary .stream) (b .world .primary .state .waiting) (bytesOf b (ofPrimary g))) (i .ghost .lost)
+        (b .world .primary .state .waiting + checkpointLength (g .u) count) (b .world .primary .state .alone)
+    link =
+        let p = b .world .primary in
+        let h = i .ghost in
+        let ms = closing ++ (commit ∷ []) in
+        let v = i .holds in
+        let more : Link (g .u) (h .ahead ++ (shut ∷ [])) [] (h .consumed) (h .pending ++ ms) (b .world .link) (put (p .stream) (p .state .waiting) (encodeAll ms)) (h .lost) (p .state .waiting + length (encodeAll ms)) (p .state .alone)
+        = link-append (g .u) (h .ahead) (h .ahead ++ (shut ∷ [])) (h .opened) [] (h .consumed) (h .pending) (b .world .link) (p .stream) (h .lost) (p .state .waiting) ms (p .state .alone) alone
+        (sym (sent-closed (h .ahead) (h .opened) closing shut refl)) (before-more (h .ahead) shut (v .link .aheadBefore) closing-before) tt readable waits (v .link) in
+        subst (λ (n : ℕ). Link (g .u) (h .ahead ++ (shut ∷ [])) [] (h .consumed) (h .pending ++ ms) (b .world .link) (put (p .stream) (p .state .waiting) (bytesOf b (ofPrimary g))) (h .lost) (p .state .waiting + n) (p .state .alone)) long
+        (subst (λ (l : List ℕ). Link (g .u) (h .ahead ++ (shut ∷ [])) [] (h .consumed) (h .pending ++ ms) (b .world .link) (put (p .stream) (p .state .waiting) l) (h .lost) (p .state .waiting + length l) (p .state .alone)) bytes-are more)
+
+    keep : Inv g (after b (ofPrimary g))
+    keep =
+        let p = b .world .primary in
+        let v = i .holds in
+        let k = v .primaryKept in
+        let h = i .ghost in
+        let cks = b .plain .checkpoints in
+        let now-is : lastAfter (g .u) (h .base) (h .ahead ++ (shut ∷ [])) ≡ new b = last-more (g .u) (h .base) (h .ahead) shut ∙ new-is in
+        record {
+          ghost = record { base = h .base; ahead = h .ahead ++ (shut ∷ []); opened = []; consumed = h .consumed; pending = h .pending ++ (closing ++ (commit ∷ [])); lost = h .lost; acks = h .acks };
+          holds = record {
+            history = record {
+              from =
+                  drop-append-le (b .plain .r) cks (new b ∷ []) (omega (arith, received-exists g b i))
+                  ∙ ap (λ (l : List Checkpoint). l ++ (new b ∷ [])) (v .history .from)
+                  ∙ ap (λ (l : List Checkpoint). h .base ∷ l)
+                  (ap (λ (c : Checkpoint). checkpointsAfter (g .u) (h .base) (h .ahead) ++ (c ∷ [])) (sym new-is) ∙ sym (checkpoints-more (g .u) (h .base) (h .ahead) shut));
+              count = simp length-append (omega (arith, v .history .count));
+              high = omega (arith, f .below);
+            };
+            link = link;
+            images = subst (λ (c : Checkpoint). Images (g .u) (g .m) (p .memory) (cleared (p .dirty) (g .m)) (p .disk) (b .plain .memory) (b .plain .disk) (p .state .alone) c) (sym now-is)
+                (record {
+                  memoryIs = v .images .memoryIs;
+                  diskIs = v .images .diskIs;
+                  size = ap length (sym (v .images .memoryIs)) ∙ k .memory;
+                  clean = subst (λ (l : List ℕ). Clean l (p .memory) (cleared (p .dirty) (g .m)) (g .u) (g .m)) (v .images .memoryIs) (clean-clear (p .memory) (p .dirty) (g .u) (g .m));
+                  stored = λ z. sym (v .images .diskIs);
+                });
+            detector = record {
+              acknowledgedIs = v .detector .acknowledgedIs;
+              rising = v .detector .rising;
+              acksAre = v .detector .acksAre;
+              aloneIs = v .detector .aloneIs;
+              countIs = v .detector .countIs;
+              quiet = λ z. absurd (omega (arith, acknowledged-received g b i, received-exists g b i, simp length-append at z));
+            };
+            packets = packets-checkpoint cks (new b) _ (b .plain .accepted) (b .plain .taken) refl (v .packets);
+            taker = v .taker;
+            primaryKept = record {
+              settings = k .settings;
+              patience = k .patience;
+              reached = reached-epoch (p .state) (k .reached) (p .state .waiting + checkpointLength (g .u) count) (omega (arith, f .room, ap (λ (x : PrimarySettings). x .l) (k .settings)));
+              memory = k .memory;
+              disk = k .disk;
+              dirty = length-cleared (p .dirty) (g .m) ∙ k .dirty;
+              held = k .held;
+              stream = length-put (p .stream) (p .state .waiting) (bytesOf b (ofPrimary g)) (omega (arith, long, f .room, k .stream)) ∙ k .stream;
+            };
+            standbyKept = v .standbyKept;
+          };
+        }
+
+pub keep-checkpoint : (g : Settings) (processor : Processor) → KeepsAccepted g (call.checkpoint processor)
+keep-checkpoint g processor b i e =
+    let s = i .holds .primaryKept .settings in
+    let p = b .world .primary in
+    subst (Inv g) (sym (after-is processor (g .u) b e ∙ ap (after processor b) s)) (keep processor g b i (subst (Facts (p .state) (p .dirty)) s (facts processor b e)))

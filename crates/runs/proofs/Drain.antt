@@ -1,0 +1,121 @@
+-- An accepted drain keeps the invariant. Assumes nothing.
+use Prim.Native.Nat.{ℕ, _+_, _-_, _≤_, min}
+use mathlib.Core.Path.{_≡_, refl, sym, ap, ap₂, _∙_, subst}
+use mathlib.Core.List.{List, [], _∷_, _++_, append-assoc}
+use native.Mathlib.Nat.{zero-add}
+use native.Mathlib.Omega.{arith}
+use lib.ListN.{length, take, drop, take-append-drop}
+use lib.Seq.{length-take-le, take-at, take-take}
+use borrow.Author.Tests.{eq-eqb}
+use Rattle.lists.specs.Part.{put, removed}
+use Rattle.lists.proofs.PartLaws.{put-front, length-removed, take-removed}
+use Rattle.settings.specs.declared.Settings.{Settings}
+use Rattle.rules.specs.PrimaryState.{withWaiting}
+use Rattle.rules.specs.Stream.{drainCount, drainReply, drainStream, drainDestination}
+use Rattle.rules.specs.World as call
+use Rattle.rules.specs.Step.{step}
+use Rattle.rules.proofs.StreamLaws.{DrainFacts, drain-accepted}
+use Rattle.rules.proofs.PrimaryReachedLaws.{reached-facts, reached-waiting}
+use Rattle.runs.specs.Plain.{plainAccepted, plainStep}
+use Rattle.runs.specs.Run.{Both, steps, runCall}
+use Rattle.runs.proofs.Invariant.{Inv}
+use Rattle.runs.proofs.Frame.{Accepted, KeepsAccepted}
+
+-- the first c bytes waiting move to the link
+moved : (link waiting lost : List ℕ) (c : ℕ) → (link ++ take c waiting) ++ (drop c waiting ++ lost) ≡ link ++ (waiting ++ lost)
+moved link waiting lost c =
+    append-assoc link (take c waiting) (drop c waiting ++ lost)
+    ∙ ap (λ (l : List ℕ). link ++ l) (sym (append-assoc (take c waiting) (drop c waiting) lost) ∙ ap (λ (l : List ℕ). l ++ lost) (take-append-drop c waiting))
+
+module _ (n : ℕ) (destination : List ℕ) where
+  abbrev countOf : Both → ℕ
+  countOf b = drainCount (b .world .primary .state) n (length destination)
+
+  abbrev after : Both → Both
+  after b =
+      let w = b .world in
+      let p = w .primary in
+      let c = countOf b in
+      record {
+        world = record {
+          primary = record {
+            state = withWaiting (p .state) (p .state .waiting - c);
+            memory = p .memory;
+            disk = p .disk;
+            dirty = p .dirty;
+            held = p .held;
+            stream = removed 0 c (p .state .waiting) (p .stream);
+          };
+          standby = w .standby;
+          link = w .link ++ take c (put destination 0 (take c (p .stream)));
+          acks = w .acks;
+        };
+        plain = b .plain;
+      }
+
+  after-is : (u : ℕ) (b : Both) → Accepted b (call.drain n destination) → runCall steps u b (call.drain n destination) ≡ after b
+  unfolding step drainReply drainStream drainDestination plainStep plainAccepted
+  after-is u b e = rw (eq-eqb _ _ e)
+
+  facts : (b : Both) → Accepted b (call.drain n destination) → DrainFacts (b .world .primary .state) (length (b .world .primary .stream))
+  unfolding step drainReply
+  facts b e = drain-accepted (b .world .primary .state) (length (b .world .primary .stream)) e
+
+  module _ (g : Settings) (b : Both) (i : Inv g b) (f : DrainFacts (b .world .primary .state) (length (b .world .primary .stream))) where
+    waits : b .world .primary .state .waiting ≤ length (b .world .primary .stream)
+    waits = omega (arith, reached-facts (b .world .primary .state) (i .holds .primaryKept .reached) .waiting, f .stream-is)
+
+    -- what reaches the link
+    given : take (countOf b) (put destination 0 (take (countOf b) (b .world .primary .stream))) ≡ take (countOf b) (take (b .world .primary .state .waiting) (b .world .primary .stream))
+    given =
+        let s = b .world .primary .stream in
+        let c = countOf b in
+        let l : length (take c s) ≡ c = length-take-le c s (omega (arith, waits)) in
+        ap (take c) (put-front destination (take c s))
+        ∙ take-at (take c s) (drop (length (take c s)) destination) c l
+        ∙ sym (take-take c (b .world .primary .state .waiting) s (omega arith))
+
+    keep : Inv g (after b)
+    keep =
+        let w = b .world in
+        let p = w .primary in
+        let c = countOf b in
+        let v = i .holds in
+        let k = v .primaryKept in
+        let waiting = p .state .waiting in
+        let rest : take (waiting - c) (removed 0 c waiting (p .stream)) ≡ drop c (take waiting (p .stream)) = take-removed c waiting (p .stream) (omega arith) waits in
+        record {
+          ghost = i .ghost;
+          holds = record {
+            history = v .history;
+            link = record {
+              records = v .link .records;
+              bytes = ap₂ (λ (x y : List ℕ). (w .link ++ x) ++ (y ++ i .ghost .lost)) given rest
+                  ∙ moved (w .link) (take waiting (p .stream)) (i .ghost .lost) c
+                  ∙ v .link .bytes;
+              lossless = v .link .lossless;
+              readable = v .link .readable;
+              consumedBefore = v .link .consumedBefore;
+              aheadBefore = v .link .aheadBefore;
+              openedBefore = v .link .openedBefore;
+            };
+            images = v .images;
+            detector = v .detector;
+            packets = v .packets;
+            taker = v .taker;
+            primaryKept = record {
+              settings = k .settings;
+              patience = k .patience;
+              reached = reached-waiting (p .state) (k .reached) (waiting - c) (omega (arith, reached-facts (p .state) (k .reached) .waiting));
+              memory = k .memory;
+              disk = k .disk;
+              dirty = k .dirty;
+              held = k .held;
+              stream = length-removed 0 c waiting (p .stream) (omega arith) waits ∙ k .stream;
+            };
+            standbyKept = v .standbyKept;
+          };
+        }
+
+pub keep-drain : (g : Settings) (n : ℕ) (destination : List ℕ) → KeepsAccepted g (call.drain n destination)
+keep-drain g n destination b i e = subst (Inv g) (sym (after-is n destination (g .u) b e)) (keep n destination g b i (facts n destination b e))

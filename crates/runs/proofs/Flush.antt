@@ -1,0 +1,158 @@
+-- An accepted flush keeps the invariant. Assumes nothing.
+use Prim.Native.Nat.{ℕ, zero, _-_, _≤_, min}
+use mathlib.Core.Path.{_≡_, refl, sym, ap, ap₂, _∙_, subst}
+use mathlib.Core.List.{List, _++_}
+use native.Mathlib.Omega.{arith}
+use lib.ListN.{length, take, drop, take-append-drop}
+use borrow.Author.Tests.{eq-eqb}
+use Rattle.settings.specs.declared.Settings.{Settings}
+use Rattle.settings.specs.Range.{mostSlots}
+use Rattle.staging.specs.declared.Slots.{Slots}
+use Rattle.staging.specs.Slot.{flushCount, flushed, flushedBytes, stored}
+use Rattle.staging.specs.SlotList.{Staged, slotList, dueList, storeAll}
+use Rattle.staging.specs.Fits.{FlushFits}
+use Rattle.staging.proofs.SlotLaws.{array-flushed, slots-flushed}
+use Rattle.staging.proofs.StoreLaws.{length-stored, store-of-flush}
+use Rattle.staging.proofs.ListLaws.{take-due-list, length-bytes, list-flushed, due-flushed}
+use Rattle.staging.proofs.FlushLaws.{store-all-append, stored-slots}
+use Rattle.settings.proofs.RangeLaws.{standby-settings-facts}
+use Rattle.rules.specs.StandbyState.{withSlots}
+use Rattle.rules.specs.Reached.{StandbyReached}
+use Rattle.rules.specs.Flush.{flushReply, flushStagedBlocks, flushDisk}
+use Rattle.rules.specs.World.{StandbyEnd}
+use Rattle.rules.specs.World as call
+use Rattle.rules.specs.Step.{atStandby, step}
+use Rattle.rules.proofs.StandbyReachedLaws.{reached-tests, reached-slots}
+use Rattle.runs.specs.Plain.{plainAccepted, plainStep}
+use Rattle.runs.specs.Run.{Both, steps, runCall}
+use Rattle.runs.proofs.Invariant.{StandbyKept, Inv}
+use Rattle.runs.proofs.KeptLaws.{standby-u, slots-fit}
+use Rattle.runs.proofs.Frame.{Accepted, KeepsAccepted}
+
+-- some stored, and the rest stored after them
+stored-rest : (u : ℕ) (disk : List ℕ) (l : List Staged) (n : ℕ) → storeAll u (storeAll u disk (take n l)) (drop n l) ≡ storeAll u disk l
+stored-rest u disk l n = sym (store-all-append u disk (take n l) (drop n l)) ∙ ap (storeAll u disk) (take-append-drop n l)
+
+module _ (n : ℕ) where
+  -- the pair after it; v is the standby's U
+  abbrev pub after : ℕ → Both → Both
+  after v b =
+      let e = b .world .standby in
+      let k = e .state .slots in
+      let c = flushCount k n in
+      record {
+        world = atStandby (b .world) (record {
+          state = withSlots (e .state) (flushed k c) (e .state .blocks);
+          memory = e .memory;
+          disk = stored v (k .numbers) (e .stagedBlocks) (e .disk) c;
+          stagedPages = e .stagedPages;
+          stagedMarks = e .stagedMarks;
+          stagedBlocks = flushedBytes v k c (e .stagedBlocks);
+          area = e .area;
+        });
+        plain = b .plain;
+      }
+
+  pub after-is : (u : ℕ) (b : Both) → Accepted b (call.flush n) → runCall steps u b (call.flush n) ≡ after (b .world .standby .state .settings .u) b
+  unfolding step flushReply flushStagedBlocks flushDisk plainStep plainAccepted
+  after-is u b e = rw (eq-eqb _ _ e)
+
+  module _ (g : Settings) (b : Both) (i : Inv g b) where
+    abbrev slots : Slots
+    slots = b .world .standby .state .slots
+
+    fits : FlushFits (g .u) (b .world .standby .state .slots) (length (b .world .standby .stagedBlocks)) (length (b .world .standby .disk))
+    fits = slots-fit g (b .world .standby) (i .holds .standbyKept)
+
+    stored-is : stored (g .u) (slots .numbers) (b .world .standby .stagedBlocks) (b .world .standby .disk) (flushCount slots n)
+        ≡ storeAll (g .u) (b .world .standby .disk) (take (flushCount slots n) (slotList (g .u) slots (b .world .standby .stagedBlocks)))
+    stored-is =
+        stored-slots (g .u) slots (b .world .standby .stagedBlocks) (b .world .standby .disk) (i .holds .standbyKept .reached .numbers) (fits .few) (flushCount slots n) (omega (arith, fits .due-high))
+
+    -- the disk with all staged blocks, and with all due ones, is as before
+    staged-disk : storeAll (g .u) (stored (g .u) (slots .numbers) (b .world .standby .stagedBlocks) (b .world .standby .disk) (flushCount slots n))
+        (slotList (g .u) (flushed slots (flushCount slots n)) (flushedBytes (g .u) slots (flushCount slots n) (b .world .standby .stagedBlocks)))
+        ≡ storeAll (g .u) (b .world .standby .disk) (slotList (g .u) slots (b .world .standby .stagedBlocks))
+    staged-disk =
+        let e = b .world .standby in
+        let c = flushCount slots n in
+        ap₂ (λ (d : List ℕ) (l : List Staged). storeAll (g .u) d l) stored-is
+        (list-flushed (g .u) slots (e .stagedBlocks) (i .holds .standbyKept .reached .numbers) c (omega (arith, fits .due-high)) (fits .few) (fits .in-slots))
+        ∙ stored-rest (g .u) (e .disk) (slotList (g .u) slots (e .stagedBlocks)) c
+
+    due-disk : storeAll (g .u) (stored (g .u) (slots .numbers) (b .world .standby .stagedBlocks) (b .world .standby .disk) (flushCount slots n))
+        (dueList (g .u) (flushed slots (flushCount slots n)) (flushedBytes (g .u) slots (flushCount slots n) (b .world .standby .stagedBlocks)))
+        ≡ storeAll (g .u) (b .world .standby .disk) (dueList (g .u) slots (b .world .standby .stagedBlocks))
+    due-disk =
+        let e = b .world .standby in
+        let c = flushCount slots n in
+        ap₂ (λ (d : List ℕ) (l : List Staged). storeAll (g .u) d l)
+        (stored-is ∙ ap (storeAll (g .u) (e .disk)) (sym (take-due-list (g .u) slots (e .stagedBlocks) c (omega arith))))
+        (due-flushed (g .u) slots (e .stagedBlocks) (i .holds .standbyKept .reached .numbers) c (omega (arith, fits .due-high)) (fits .few) (fits .in-slots))
+        ∙ stored-rest (g .u) (e .disk) (dueList (g .u) slots (e .stagedBlocks)) c
+
+    -- nothing is due: nothing is stored
+    none-stored : slots .due ≡ 0 → stored (g .u) (slots .numbers) (b .world .standby .stagedBlocks) (b .world .standby .disk) (flushCount slots n) ≡ b .world .standby .disk
+    unfolding stored
+    none-stored z = let c : flushCount slots n ≡ 0 = omega arith in rw c
+
+    reached : StandbyReached (withSlots (b .world .standby .state) (flushed slots (flushCount slots n)) (b .world .standby .state .blocks))
+    unfolding flushed
+    reached =
+        let s = b .world .standby .state in
+        let r = i .holds .standbyKept .reached in
+        let f = reached-tests s r in
+        let few = standby-settings-facts (s .settings) (f .settings-ok) .slots .s-high in
+        let c = flushCount slots n in
+        reached-slots s r (flushed slots c) (s .blocks) (slots-flushed slots (s .settings .s) (s .settings .d) (r .numbers) few c (f .slots-ok) (omega arith))
+        (array-flushed slots (r .numbers) c (omega (arith, fits .due-high)) (fits .few)) (f .blocks-high) (omega (arith, r .notDue, fits .due-high))
+
+    keep : Inv g (after (g .u) b)
+    unfolding flushed
+    keep =
+        let e = b .world .standby in
+        let c = flushCount slots n in
+        let v = i .holds in
+        let k = v .standbyKept in
+        let t = v .taker in
+        let s = e .state in
+        record {
+          ghost = i .ghost;
+          holds = record {
+            history = v .history;
+            link = v .link;
+            images = v .images;
+            detector = v .detector;
+            packets = v .packets;
+            taker = record {
+              receivedIs = t .receivedIs;
+              modeIs = t .modeIs;
+              processorIs = t .processorIs;
+              memoryIs = t .memoryIs;
+              diskIs = λ z. due-disk ∙ t .diskIs z;
+              stagedMemory = t .stagedMemory;
+              stagedDisk = λ z. staged-disk ∙ t .stagedDisk z;
+              stagedProcessor = t .stagedProcessor;
+              activeMemory = t .activeMemory;
+              activeDisk = λ z. none-stored (t .settled z) ∙ t .activeDisk z;
+              settled = λ z. let d = t .settled z in omega arith;
+              areaIs = t .areaIs;
+            };
+            primaryKept = v .primaryKept;
+            standbyKept = record {
+              settings = k .settings;
+              patience = k .patience;
+              reached = reached;
+              memory = k .memory;
+              disk = length-stored (g .u) (slots .numbers) (e .stagedBlocks) (e .disk) c (store-of-flush (g .u) slots n (length (e .stagedBlocks)) (length (e .disk)) fits) ∙ k .disk;
+              stagedPages = k .stagedPages;
+              stagedMarks = k .stagedMarks;
+              stagedBlocks = length-bytes (g .u) slots (e .stagedBlocks) (k .reached .numbers) c (omega (arith, fits .due-high)) (fits .few) (fits .in-slots) ∙ k .stagedBlocks;
+              area = k .area;
+            };
+          };
+        }
+
+pub keep-flush : (g : Settings) (n : ℕ) → KeepsAccepted g (call.flush n)
+keep-flush g n b i e =
+    subst (Inv g) (sym (after-is n (g .u) b e ∙ ap (λ (v : ℕ). after n v b) (standby-u g (b .world .standby) (i .holds .standbyKept)))) (keep n g b i)

@@ -1,0 +1,73 @@
+-- The Link group: records appended to the stream. Assumes nothing.
+use Prim.Native.Nat.{ℕ, _+_, _≤_}
+use mathlib.Core.Path.{_≡_, refl, sym, ap, ap₂, _∙_}
+use mathlib.Core.Bool.{Bool, false}
+use mathlib.Core.List.{List, [], _∷_, _++_, append-assoc, append-nil}
+use native.Mathlib.Omega.{arith}
+use lib.ListN.{length, take, drop, length-append}
+use lib.Seq.{length-take-le, take-at}
+use Rattle.lists.specs.Part.{put}
+use Rattle.lists.proofs.TestLaws.{within-facts, within-of}
+use Rattle.records.specs.Kind.{PAGE, STATE, COMMIT}
+use Rattle.records.specs.Message.{Message, messageKind, encodeAll, Fits}
+use Rattle.records.specs.Message as message
+use Rattle.records.proofs.MessageLaws.{encodeAll-append}
+use Rattle.pages.specs.DirtyMessages.{AllFit}
+use Rattle.runs.proofs.Effects.{Epoch, sent, All, all-append, Before, AllBefore, Readable}
+use Rattle.runs.proofs.Invariant.{Link}
+
+-- ---- the records sent, with more of the open epoch, and with it closed
+pub sent-more : (ahead : List Epoch) (opened ms : List Message) → sent ahead (opened ++ ms) ≡ sent ahead opened ++ ms
+sent-more [] opened ms = refl
+sent-more (x ∷ xs) opened ms =
+    let c = message.commit (x .number) (x .pages) (x .blocks) in
+    ap (λ (l : List Message). x .records ++ (c ∷ l)) (sent-more xs opened ms) ∙ sym (append-assoc (x .records) (c ∷ sent xs opened) ms)
+
+pub sent-closed : (ahead : List Epoch) (opened ms : List Message) (x : Epoch) → x .records ≡ opened ++ ms
+    → sent (ahead ++ (x ∷ [])) [] ≡ sent ahead opened ++ (ms ++ (message.commit (x .number) (x .pages) (x .blocks) ∷ []))
+sent-closed [] opened ms x e =
+    let c = message.commit (x .number) (x .pages) (x .blocks) in
+    ap (λ (l : List Message). l ++ (c ∷ [])) e ∙ append-assoc opened ms (c ∷ [])
+sent-closed (y ∷ ys) opened ms x e =
+    let c = message.commit (y .number) (y .pages) (y .blocks) in
+    ap (λ (l : List Message). y .records ++ (c ∷ l)) (sent-closed ys opened ms x e) ∙ sym (append-assoc (y .records) (c ∷ sent ys opened) _)
+
+pub before-more : (ahead : List Epoch) (x : Epoch) → AllBefore ahead → All Before (x .records) → AllBefore (ahead ++ (x ∷ []))
+before-more [] x f g = (g, tt)
+before-more (y ∷ ys) x f g = (f .0, before-more ys x (f .1) g)
+
+-- records before a COMMIT that fit their fields are readable
+pub readable-before : (u : ℕ) (m : Message) → Fits u m → Before m → Readable u m
+readable-before u m f b = let w = within-facts PAGE STATE (messageKind m) b in (f, within-of PAGE COMMIT (messageKind m) (w .0) (omega (arith, w .1)))
+
+pub all-readable : (u : ℕ) (ms : List Message) → AllFit u ms → All Before ms → All (Readable u) ms
+all-readable u [] f b = tt
+all-readable u (m ∷ ms) f b = (readable-before u m (f .0) (b .0), all-readable u ms (f .1) (b .1))
+
+-- ---- bytes put behind those waiting
+pub take-put-end : (s : List ℕ) (at : ℕ) (bs : List ℕ) → at ≤ length s → take (at + length bs) (put s at bs) ≡ take at s ++ bs
+unfolding put
+take-put-end s at bs h =
+    take-at (take at s ++ bs) (drop (at + length bs) s) (at + length bs) (length-append (take at s) bs ∙ ap (λ (n : ℕ). n + length bs) (length-take-le at s h))
+
+module _ (u : ℕ) (ahead ahead′ : List Epoch) (opened opened′ consumed pending : List Message) (link stream lost : List ℕ) (waiting : ℕ) (ms : List Message) where
+  pub link-append : (alone : Bool) → alone ≡ false → sent ahead opened ++ ms ≡ sent ahead′ opened′ → AllBefore ahead′ → All Before opened′ → All (Readable u) ms
+      → waiting ≤ length stream → Link u ahead opened consumed pending link stream lost waiting alone
+      → Link u ahead′ opened′ consumed (pending ++ ms) link (put stream waiting (encodeAll ms)) lost (waiting + length (encodeAll ms)) alone
+  link-append alone on e ba bo f h k =
+      let none = k .lossless on in
+      record {
+        records = sym (append-assoc consumed pending ms) ∙ ap (λ (l : List Message). l ++ ms) (k .records) ∙ e;
+        bytes =
+            ap₂ (λ (x y : List ℕ). link ++ (x ++ y)) (take-put-end stream waiting (encodeAll ms) h) none
+            ∙ ap (λ (l : List ℕ). link ++ l) (append-nil (take waiting stream ++ encodeAll ms))
+            ∙ sym (append-assoc link (take waiting stream) (encodeAll ms))
+            ∙ ap (λ (l : List ℕ). (link ++ l) ++ encodeAll ms) (sym (append-nil (take waiting stream)) ∙ ap (λ (l : List ℕ). take waiting stream ++ l) (sym none))
+            ∙ ap (λ (l : List ℕ). l ++ encodeAll ms) (k .bytes)
+            ∙ sym (encodeAll-append pending ms);
+        lossless = k .lossless;
+        readable = all-append (Readable u) pending ms (k .readable) f;
+        consumedBefore = k .consumedBefore;
+        aheadBefore = ba;
+        openedBefore = bo;
+      }

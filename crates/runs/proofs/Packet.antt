@@ -1,0 +1,91 @@
+-- An accepted packet keeps the invariant. Assumes nothing.
+use Prim.Native.Nat.{ℕ}
+use mathlib.Core.Path.{_≡_, sym, ap, _∙_, subst}
+use mathlib.Core.List.{List, [], _∷_, _++_}
+use lib.ListN.{length}
+use borrow.Author.Tests.{eq-eqb}
+use Rattle.lists.proofs.TestLaws.{within-of}
+use Rattle.settings.specs.declared.Settings.{Settings}
+use Rattle.settings.specs.Range.{mostPacketBytes}
+use Rattle.queue.specs.Held.{added, addedBytes}
+use Rattle.queue.specs.HeldList.{Held, heldList}
+use Rattle.queue.proofs.QueueLaws.{space-of, array-added, queue-added}
+use Rattle.queue.proofs.HeldLaws.{length-added-bytes, held-added}
+use Rattle.rules.specs.PrimaryState.{withQueue}
+use Rattle.rules.specs.Packets.{packetReply, packetHeld}
+use Rattle.rules.specs.World as call
+use Rattle.rules.specs.Step.{atPrimary, step}
+use Rattle.rules.proofs.PacketLaws.{PacketFacts, packet-accepted}
+use Rattle.rules.proofs.PrimaryReachedLaws.{reached-facts, reached-queue}
+use Rattle.runs.specs.Plain.{withPackets, plainAccepted, plainStep}
+use Rattle.runs.specs.Run.{Both, steps, runCall}
+use Rattle.runs.proofs.Invariant.{Packets, Inv}
+use Rattle.runs.proofs.PacketsLaws.{packets-more}
+use Rattle.runs.proofs.Frame.{Accepted, KeepsAccepted}
+
+module _ (bytes : List ℕ) where
+  abbrev after : Both → Both
+  after b =
+      let p = b .world .primary in
+      record {
+        world = atPrimary (b .world) (record {
+          state = withQueue (p .state) (added (p .state .queue) (p .state .epoch) (length bytes));
+          memory = p .memory;
+          disk = p .disk;
+          dirty = p .dirty;
+          held = addedBytes (p .state .queue) (p .held) bytes;
+          stream = p .stream;
+        });
+        plain = withPackets (b .plain) (b .plain .accepted ++ (bytes ∷ [])) (b .plain .taken);
+      }
+
+  after-is : (u : ℕ) (b : Both) → Accepted b (call.packet bytes) → runCall steps u b (call.packet bytes) ≡ after b
+  unfolding step packetReply packetHeld plainStep plainAccepted
+  after-is u b e = rw (eq-eqb _ _ e)
+
+  facts : (b : Both) → Accepted b (call.packet bytes) → PacketFacts (b .world .primary .state) (length (b .world .primary .held)) (length bytes)
+  unfolding step packetReply
+  facts b e = packet-accepted (b .world .primary .state) (length (b .world .primary .held)) (length bytes) e
+
+  keep : (g : Settings) (b : Both) → Inv g b → PacketFacts (b .world .primary .state) (length (b .world .primary .held)) (length bytes) → Inv g (after b)
+  keep g b i f =
+      let p = b .world .primary in
+      let v = i .holds in
+      let k = v .primaryKept in
+      let queue = p .state .queue in
+      let q = p .state .settings .q in
+      let epoch = p .state .epoch in
+      let n = length bytes in
+      let array = k .reached .packets in
+      let ok = reached-facts (p .state) (k .reached) .queue in
+      let space = space-of queue q n (f .count-low) (f .bytes-fit) in
+      let h : Held = record { epoch = epoch; bytes = bytes } in
+      record {
+        ghost = i .ghost;
+        holds = record {
+          history = v .history;
+          link = v .link;
+          images = v .images;
+          detector = v .detector;
+          packets = subst (λ (l : List Held). Packets l (b .plain .accepted ++ (bytes ∷ [])) (b .plain .taken) (b .plain .checkpoints))
+              (sym (held-added queue array epoch q ok (p .held) (f .held-is) bytes space))
+              (packets-more (heldList queue (p .held)) (b .plain .accepted) (b .plain .taken) (b .plain .checkpoints) h (v .history .count) (v .packets));
+          taker = v .taker;
+          primaryKept = record {
+            settings = k .settings;
+            patience = k .patience;
+            reached = reached-queue (p .state) (k .reached) (added queue epoch n)
+                (queue-added queue array epoch n q ok space (within-of 1 mostPacketBytes n (f .length-low) (f .length-high)))
+                (array-added queue array epoch n);
+            memory = k .memory;
+            disk = k .disk;
+            dirty = k .dirty;
+            held = length-added-bytes queue array epoch q ok (p .held) (f .held-is) bytes space ∙ k .held;
+            stream = k .stream;
+          };
+          standbyKept = v .standbyKept;
+        };
+      }
+
+pub keep-packet : (g : Settings) (bytes : List ℕ) → KeepsAccepted g (call.packet bytes)
+keep-packet g bytes b i e = subst (Inv g) (sym (after-is bytes (g .u) b e)) (keep bytes g b i (facts bytes b e))

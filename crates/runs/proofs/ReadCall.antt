@@ -1,0 +1,194 @@
+-- An accepted read keeps the invariant. Assumes nothing.
+use Prim.Native.Nat.{ℕ, _-_, _*_}
+use mathlib.Core.Path.{_≡_, refl, sym, ap, ap₂, _∙_, subst}
+use mathlib.Core.Logic.{⊎-elim}
+use mathlib.Core.Bool.{Bool, true, false, false≢true}
+use mathlib.Core.List.{List, [], _∷_, _++_, append-nil}
+use native.Mathlib.Omega.{arith}
+use lib.ListN.{length, take, drop}
+use lib.Seq.{take-at}
+use Rattle.lists.specs.Part.{part, put}
+use Rattle.lists.proofs.TestLaws.{by-test, eq-or-ne}
+use Rattle.lists.proofs.PartLaws.{put-front}
+use Rattle.records.specs.declared.Record.{Record}
+use Rattle.records.specs.declared.Record.the-variants as record-of
+use Rattle.records.specs.declared.Reader.the-variants as reader
+use Rattle.records.specs.Kind.{unitOk, ACK, bodyLength, recordLength}
+use Rattle.records.specs.Read.{readRecord}
+use Rattle.records.specs.Write.{ackRecord}
+use Rattle.records.specs.Message.{Message, encode, encodeAll, readAs}
+use Rattle.records.specs.Message as message
+use Rattle.records.proofs.FrameLaws.{length-epoch}
+use Rattle.records.proofs.MessageLaws.{used-message, bytesOf, cursorOf, message-bytes}
+use Rattle.settings.specs.declared.Settings.{Settings}
+use Rattle.settings.specs.declared.StandbySettings.{StandbySettings}
+use Rattle.marks.specs.Mark.{wordsFor}
+use Rattle.rules.specs.declared.Standby.{Standby}
+use Rattle.rules.specs.StandbyState.{isReceiving}
+use Rattle.rules.specs.Reply.{answerOf, numberOf, unlessRefused}
+use Rattle.rules.specs.Judge.{readLentOk, recordRefusal}
+use Rattle.rules.specs.Read.{readLent}
+use Rattle.rules.specs.World.{World, StandbyEnd}
+use Rattle.rules.specs.World as call
+use Rattle.rules.specs.Step.{Stepped, step}
+use Rattle.rules.proofs.ReplyLaws.{unless-accepted, unless-refused}
+use Rattle.rules.proofs.JudgeLaws.{read-lent-of, page-accepted, block-accepted, commit-accepted, judged-mode, judged-number}
+use Rattle.runs.specs.Plain.{plainAccepted, plainStep}
+use Rattle.runs.specs.Run.{Both, steps, runCall}
+use Rattle.runs.proofs.Effects.{All, Readable}
+use Rattle.runs.proofs.Invariant.{Inv}
+use Rattle.runs.proofs.KeptLaws.{standby-u, standby-unit}
+use Rattle.runs.proofs.RecordSteps.{readSeen, readBy, read-step}
+use Rattle.runs.proofs.Reading.{Reading, none, one, read-next}
+use Rattle.runs.proofs.ReadStaged.{Next, stagedAfter, pageEnd, blockEnd, stateEnd, keep-page, keep-block, keep-state}
+use Rattle.runs.proofs.ReadCommit.{commitAfter, keep-commit}
+use Rattle.runs.proofs.Frame.{Accepted, KeepsAccepted}
+
+-- the ACK that a COMMIT writes is what the reply then begins with
+ack-written : (u epoch : ℕ) (reply : List ℕ) → take (recordLength u ACK) (put reply 0 (ackRecord epoch)) ≡ ackRecord epoch
+unfolding recordLength bodyLength
+ack-written u epoch reply = ap (take 8) (put-front reply (ackRecord epoch)) ∙ take-at (ackRecord epoch) (drop (length (ackRecord epoch)) reply) 8 (length-epoch ACK epoch)
+
+module _ (g : Settings) (b : Both) (i : Inv g b) (n : ℕ) (reply : List ℕ) where
+  abbrev u : ℕ
+  u = b .world .standby .state .settings .u
+
+  abbrev bytes : List ℕ
+  bytes = take n (b .world .link)
+
+  abbrev bothBy : Record → Both
+  bothBy r =
+      record { world = readBy (b .world) (take n (b .world .link)) reply r .next; plain = plainStep (g .u) (call.read n reply) (readBy (b .world) (take n (b .world .link)) reply r .outcome) (b .plain) }
+
+  run-is : runCall steps (g .u) b (call.read n reply) ≡ bothBy (readSeen (b .world) n reply)
+  run-is = ap (λ (s : Stepped). record { world = s .next; plain = plainStep (g .u) (call.read n reply) (s .outcome) (b .plain) }) (read-step (b .world) n reply)
+
+  -- ---- the pair, by the record that was judged: its field is the message's bytes, and its length is used
+  module _ (x : Message) (fits : message.Fits (b .world .standby .state .settings .u) x) (whole : take n (b .world .link) ≡ encode x ++ drop (length (encode x)) (take n (b .world .link))) where
+    field : part (cursorOf (readAs u x) .start) (cursorOf (readAs u x) .end - cursorOf (readAs u x) .start) (take n (b .world .link)) ≡ bytesOf x
+    field =
+        ap (part (cursorOf (readAs u x) .start) (cursorOf (readAs u x) .end - cursorOf (readAs u x) .start)) whole ∙ message-bytes u x fits (drop (length (encode x)) (take n (b .world .link)))
+
+  -- with no ACK written
+  abbrev unacked : StandbyEnd → ℕ → List ℕ → Both
+  unacked e used acks =
+      record { world = record { primary = b .world .primary; standby = e; link = drop used (b .world .link); acks = acks }; plain = b .plain }
+
+  page-is : (e p : ℕ) (bs : List ℕ) → message.Fits u (message.page e p bs) → take n (b .world .link) ≡ encode (message.page e p bs) ++ drop (length (encode (message.page e p bs))) (take n (b .world .link))
+      → bothBy (readAs u (message.page e p bs)) ≡ stagedAfter b (pageEnd g b i u p bs) (length (encode (message.page e p bs)))
+  unfolding plainStep plainAccepted
+  page-is e p bs fits whole =
+      let x = message.page e p bs in
+      ap₂ (λ (l : List ℕ) (used : ℕ). unacked (pageEnd g b i u p l) used (b .world .acks ++ [])) (field x fits whole) (used-message u x fits)
+      ∙ ap (unacked (pageEnd g b i u p bs) (length (encode x))) (append-nil (b .world .acks))
+
+  block-is : (e m : ℕ) (bs : List ℕ) → message.Fits u (message.block e m bs) → take n (b .world .link) ≡ encode (message.block e m bs) ++ drop (length (encode (message.block e m bs))) (take n (b .world .link))
+      → bothBy (readAs u (message.block e m bs)) ≡ stagedAfter b (blockEnd g b i u m bs) (length (encode (message.block e m bs)))
+  unfolding plainStep plainAccepted
+  block-is e m bs fits whole =
+      let x = message.block e m bs in
+      ap₂ (λ (l : List ℕ) (used : ℕ). unacked (blockEnd g b i u m l) used (b .world .acks ++ [])) (field x fits whole) (used-message u x fits)
+      ∙ ap (unacked (blockEnd g b i u m bs) (length (encode x))) (append-nil (b .world .acks))
+
+  state-is : (e : ℕ) (bs : List ℕ) → message.Fits u (message.state e bs) → take n (b .world .link) ≡ encode (message.state e bs) ++ drop (length (encode (message.state e bs))) (take n (b .world .link))
+      → bothBy (readAs u (message.state e bs)) ≡ stagedAfter b (stateEnd g b i bs) (length (encode (message.state e bs)))
+  unfolding plainStep plainAccepted
+  state-is e bs fits whole =
+      let x = message.state e bs in
+      ap₂ (λ (l : List ℕ) (used : ℕ). unacked (stateEnd g b i l) used (b .world .acks ++ [])) (field x fits whole) (used-message u x fits)
+      ∙ ap (unacked (stateEnd g b i bs) (length (encode x))) (append-nil (b .world .acks))
+
+  commit-is : (e p m : ℕ) → message.Fits u (message.commit e p m)
+      → bothBy (readAs u (message.commit e p m)) ≡ commitAfter b e (b .world .standby .state .settings) (length (encode (message.commit e p m))) (ackRecord e)
+  unfolding plainStep plainAccepted
+  commit-is e p m fits =
+      let x = message.commit e p m in
+      ap₂ (commitAfter b e (b .world .standby .state .settings)) (used-message u x fits) (ack-written u e reply)
+
+  -- ---- "Lent lengths are exact"
+  lent : readLentOk (b .world .standby .state) (readLent (b .world .standby .memory) (b .world .standby .stagedPages) (b .world .standby .stagedMarks) (b .world .standby .stagedBlocks) reply) ≡ true
+  lent =
+      let e = b .world .standby in
+      let k = i .holds .standbyKept in
+      let back = sym (k .settings) in
+      read-lent-of (e .state) (readLent (e .memory) (e .stagedPages) (e .stagedMarks) (e .stagedBlocks) reply)
+      (record {
+        memory-is = k .memory ∙ ap (λ (y : StandbySettings). y .m * y .u) back;
+        pages-is = k .stagedPages ∙ ap (λ (y : StandbySettings). y .m * y .u) back;
+        marks-is = k .stagedMarks ∙ ap (λ (y : StandbySettings). wordsFor (y .m)) back;
+        blocks-is = k .stagedBlocks ∙ ap (λ (y : StandbySettings). y .s * y .u) back;
+      })
+
+  same-u : u ≡ g .u
+  same-u = standby-u g (b .world .standby) (i .holds .standbyKept)
+
+  -- ---- the record read is accepted
+  module _ (on : isReceiving (b .world .standby .state .mode) ≡ true) where
+    abbrev state : Standby
+    state = b .world .standby .state
+
+    by-message : (x : Message) (xs : List Message) → i .ghost .pending ≡ x ∷ xs → Readable (g .u) x → take n (b .world .link) ≡ encode x ++ drop (length (encode x)) (take n (b .world .link))
+        → drop (length (encode x)) (b .world .link) ++ (take (b .world .primary .state .waiting) (b .world .primary .stream) ++ i .ghost .lost) ≡ encodeAll xs
+        → recordRefusal (b .world .standby .state) (length reply) (readAs u x) ≡ 0 → Inv g (bothBy (readAs u x))
+    by-message (message.page e p bs) xs first f whole rest z =
+        let x = message.page e p bs in
+        subst (Inv g) (sym (page-is e p bs (subst (λ (v : ℕ). message.Fits v x) (sym same-u) (f .0)) whole ∙ ap (λ (v : ℕ). stagedAfter b (pageEnd g b i v p bs) (length (encode x))) same-u))
+        (keep-page g b i e p bs xs (record { first = first; behind = rest; before = refl; fits = f .0; receives = on }) (page-accepted state e p z))
+    by-message (message.block e m bs) xs first f whole rest z =
+        let x = message.block e m bs in
+        subst (Inv g) (sym (block-is e m bs (subst (λ (v : ℕ). message.Fits v x) (sym same-u) (f .0)) whole ∙ ap (λ (v : ℕ). stagedAfter b (blockEnd g b i v m bs) (length (encode x))) same-u))
+        (keep-block g b i e m bs xs (record { first = first; behind = rest; before = refl; fits = f .0; receives = on }) (block-accepted state e m z))
+    by-message (message.state e bs) xs first f whole rest z =
+        let x = message.state e bs in
+        subst (Inv g) (sym (state-is e bs (subst (λ (v : ℕ). message.Fits v x) (sym same-u) (f .0)) whole))
+        (keep-state g b i e bs xs (record { first = first; behind = rest; before = refl; fits = f .0; receives = on }))
+    by-message (message.commit e p m) xs first f whole rest z =
+        let x = message.commit e p m in
+        let t = commit-accepted state (length reply) e p m z in
+        subst (Inv g) (sym (commit-is e p m (subst (λ (v : ℕ). message.Fits v x) (sym same-u) (f .0)) ∙ ap (λ (y : StandbySettings). commitAfter b e y (length (encode x)) (ackRecord e)) (i .holds .standbyKept .settings)))
+        (keep-commit g b e p m xs on (t .after-state) (t .epoch-next) i first rest)
+    by-message (message.ack e) xs first f whole rest z = absurd (false≢true (f .1))
+
+    -- ---- what is judged is the record read, or its refusal
+    module _ (accepted : numberOf (answerOf (readSeen (b .world) n reply)) ≡ 0) where
+      seen : (r : Record) → readRecord reader.Standby u (take n (b .world .link)) ≡ r → readSeen (b .world) n reply ≡ unlessRefused (recordRefusal (b .world .standby .state) (length reply) r) r
+      seen r z =
+          let e = b .world .standby in
+          judged-number (e .state) (readLent (e .memory) (e .stagedPages) (e .stagedMarks) (e .stagedBlocks) reply) (take n (b .world .link)) (i .holds .standbyKept .reached .inRange) lent on r (sym z)
+          (recordRefusal (e .state) (length reply) r) refl
+
+      by-next : (pending : List Message) → i .ghost .pending ≡ pending → All (Readable (g .u)) pending
+          → Reading reader.Standby u pending (b .world .link) (take (b .world .primary .state .waiting) (b .world .primary .stream) ++ i .ghost .lost) (take n (b .world .link))
+          → Inv g (bothBy (readSeen (b .world) n reply))
+      by-next pending same f (none z) = let a : _≡_ {A = ℕ} 256 0 = sym (ap (λ (r : Record). numberOf (answerOf r)) (seen record-of.Short z)) ∙ accepted in absurd (omega arith)
+      by-next pending same f (one x xs q z whole rest) =
+          let r = readAs u x in
+          let m = recordRefusal state (length reply) r in
+          let fx : All (Readable (g .u)) (x ∷ xs) = subst (All (Readable (g .u))) q f in
+          ⊎-elim
+          (λ (a : recordRefusal state (length reply) (readAs u x) ≡ 0).
+          subst (λ (y : Record). Inv g (bothBy y)) (sym (seen r z ∙ unless-accepted m r a)) (by-message x xs (same ∙ q) (fx .0) whole rest a))
+          (λ (a : recordRefusal state (length reply) (readAs u x) ≡ 0 → ⊥).
+          absurd (a (sym (ap (λ (y : Record). numberOf (answerOf y)) (seen r z ∙ unless-refused m r a)) ∙ accepted)))
+          (eq-or-ne m 0)
+
+pub keep-read : (g : Settings) (n : ℕ) (reply : List ℕ) → KeepsAccepted g (call.read n reply)
+keep-read g n reply b i e =
+    let s = b .world .standby in
+    let k = i .holds .standbyKept in
+    let h = i .ghost in
+    let behind = take (b .world .primary .state .waiting) (b .world .primary .stream) ++ h .lost in
+    let l = readLent (s .memory) (s .stagedPages) (s .stagedMarks) (s .stagedBlocks) reply in
+    let back = sym (same-u g b i n reply) in
+    let accepted : numberOf (answerOf (readSeen (b .world) n reply)) ≡ 0 = sym (ap (λ (x : Stepped). x .outcome .number) (read-step (b .world) n reply)) ∙ e in
+    subst (Inv g) (sym (run-is g b i n reply))
+    (⊎-elim
+    (λ (on : isReceiving (s .state .mode) ≡ true).
+    by-next g b i n reply on accepted (h .pending) refl (i .holds .link .readable)
+    (read-next reader.Standby (s .state .settings .u) (subst (λ (v : ℕ). unitOk v ≡ true) back (standby-unit g s k)) behind n (h .pending) (b .world .link)
+    (subst (λ (v : ℕ). All (Readable v) (h .pending)) back (i .holds .link .readable)) (i .holds .link .bytes)))
+    (λ (off : isReceiving (s .state .mode) ≡ false).
+    let a : _≡_ {A = ℕ} 13 0
+    = sym (ap (λ (r : Record). numberOf (answerOf r)) (judged-mode (s .state) l (take n (b .world .link)) (k .reached .inRange) (lent g b i n reply) off)) ∙ accepted in
+    absurd (omega arith))
+    (by-test (isReceiving (s .state .mode))))

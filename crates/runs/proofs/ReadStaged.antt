@@ -1,0 +1,245 @@
+-- An accepted PAGE, BLOCK or STATE keeps the invariant. Assumes nothing.
+use Prim.Native.Nat.{ℕ, _+_, _-_, _*_, _/_, _≤_, _<_}
+use mathlib.Core.Path.{_≡_, refl, sym, ap, ap₂, _∙_, subst}
+use mathlib.Core.Bool.{true, false, true≢false}
+use mathlib.Core.List.{List, [], _∷_, _++_, append-assoc}
+use native.Mathlib.Omega.{arith}
+use lib.ListN.{length, take, drop}
+use lib.Seq.{append-snoc}
+use Rattle.lists.specs.Page.{withPage}
+use Rattle.lists.proofs.PageLaws.{page-end, length-with-page}
+use Rattle.records.specs.Kind.{processorBytes}
+use Rattle.records.specs.Message.{Message, encode, encodeAll}
+use Rattle.records.specs.Message as message
+use Rattle.settings.specs.declared.Settings.{Settings}
+use Rattle.settings.specs.declared.StandbySettings.{StandbySettings}
+use Rattle.settings.proofs.RangeLaws.{standby-settings-facts}
+use Rattle.marks.specs.Mark.{withMark}
+use Rattle.marks.proofs.MarkLaws.{words-cover, length-withMark}
+use Rattle.staging.specs.Slot.{withBlock, withBlockBytes}
+use Rattle.staging.specs.SlotList.{Staged, slotList, dueList, storeAll}
+use Rattle.staging.proofs.SlotLaws.{slots-tests, array-with-block, slots-with-block}
+use Rattle.staging.proofs.ListLaws.{list-with-block, due-with-block}
+use Rattle.staging.proofs.FlushLaws.{store-all-append}
+use Rattle.rules.specs.declared.Standby.{Standby}
+use Rattle.rules.specs.StandbyState.{isReceiving, withPages, withSlots, withState}
+use Rattle.rules.specs.Reached.{StandbyReached}
+use Rattle.rules.specs.World.{StandbyEnd}
+use Rattle.rules.proofs.JudgeLaws.{PageTests, BlockTests, StateTests}
+use Rattle.rules.proofs.StandbyReachedLaws.{reached-tests, reached-pages, reached-slots, reached-state}
+use Rattle.runs.specs.Plain.{Checkpoint}
+use Rattle.runs.specs.Run.{Both}
+use Rattle.runs.proofs.Effects.{effect, effects, effects-append, All, all-append, Before, Readable}
+use Rattle.runs.proofs.Invariant.{Taker, StandbyKept, Inv}
+use Rattle.runs.proofs.KeptLaws.{standby-u, standby-m, standby-d, slots-fit}
+use Rattle.runs.proofs.StagedPages.{installed-more}
+
+-- the standby after a record that is staged
+abbrev pub stagedEnd : StandbyEnd → Standby → List ℕ → List ℕ → List ℕ → StandbyEnd
+stagedEnd e s pages marks blocks =
+    record { state = s; memory = e .memory; disk = e .disk; stagedPages = pages; stagedMarks = marks; stagedBlocks = blocks; area = e .area }
+
+-- the pair after it: `used` bytes leave the link
+abbrev pub stagedAfter : Both → StandbyEnd → ℕ → Both
+stagedAfter b e used =
+    record { world = record { primary = b .world .primary; standby = e; link = drop used (b .world .link); acks = b .world .acks }; plain = b .plain }
+
+-- the next record sent, and what lies behind it
+pub record Next (g : Settings) (b : Both) (i : Inv g b) (x : Message) (xs : List Message) : Type 0 where
+  pub first : i .ghost .pending ≡ x ∷ xs
+  pub behind : drop (length (encode x)) (b .world .link) ++ (take (b .world .primary .state .waiting) (b .world .primary .stream) ++ i .ghost .lost) ≡ encodeAll xs
+  pub before : Before x
+  pub fits : message.Fits (g .u) x
+  pub receives : isReceiving (b .world .standby .state .mode) ≡ true
+
+module _ (g : Settings) (b : Both) (i : Inv g b) where
+  -- every group but those of the standby
+  module _ (x : Message) (xs : List Message) (n : Next g b i x xs) where
+    pub keep-staged : (e : StandbyEnd) → Taker (g .u) (g .m) e (b .plain .activated) (b .plain .standbyMemory) (b .plain .standbyDisk) (i .ghost .base) (i .ghost .consumed ++ (x ∷ [])) (b .plain .r)
+        → StandbyKept g e → Inv g (stagedAfter b e (length (encode x)))
+    keep-staged e t k =
+        let v = i .holds in
+        let h = i .ghost in
+        let readable : All (Readable (g .u)) (x ∷ xs) = subst (All (Readable (g .u))) (n .first) (v .link .readable) in
+        record {
+          ghost = record { base = h .base; ahead = h .ahead; opened = h .opened; consumed = h .consumed ++ (x ∷ []); pending = xs; lost = h .lost; acks = h .acks };
+          holds = record {
+            history = v .history;
+            link = record {
+              records = append-snoc (h .consumed) x xs ∙ ap (λ (l : List Message). h .consumed ++ l) (sym (n .first)) ∙ v .link .records;
+              bytes = n .behind;
+              lossless = v .link .lossless;
+              readable = readable .1;
+              consumedBefore = all-append Before (h .consumed) (x ∷ []) (v .link .consumedBefore) (n .before, tt);
+              aheadBefore = v .link .aheadBefore;
+              openedBefore = v .link .openedBefore;
+            };
+            images = v .images;
+            detector = v .detector;
+            packets = v .packets;
+            taker = t;
+            primaryKept = v .primaryKept;
+            standbyKept = k;
+          };
+        }
+
+    -- what the records consumed do, with this one
+    done : effects (g .u) (i .ghost .base) (i .ghost .consumed ++ (x ∷ [])) ≡ effect (g .u) (effects (g .u) (i .ghost .base) (i .ghost .consumed)) x
+    done = effects-append (g .u) (i .ghost .base) (i .ghost .consumed) (x ∷ [])
+
+    memory-done : effect (g .u) (effects (g .u) (i .ghost .base) (i .ghost .consumed)) x .memory ≡ effects (g .u) (i .ghost .base) (i .ghost .consumed ++ (x ∷ [])) .memory
+    memory-done = ap (λ (c : Checkpoint). c .memory) (sym done)
+
+    disk-done : effect (g .u) (effects (g .u) (i .ghost .base) (i .ghost .consumed)) x .disk ≡ effects (g .u) (i .ghost .base) (i .ghost .consumed ++ (x ∷ [])) .disk
+    disk-done = ap (λ (c : Checkpoint). c .disk) (sym done)
+
+    processor-done : effect (g .u) (effects (g .u) (i .ghost .base) (i .ghost .consumed)) x .processor ≡ effects (g .u) (i .ghost .base) (i .ghost .consumed ++ (x ∷ [])) .processor
+    processor-done = ap (λ (c : Checkpoint). c .processor) (sym done)
+
+  -- ---- PAGE
+  abbrev pub pageEnd : ℕ → ℕ → List ℕ → StandbyEnd
+  pageEnd v p bs =
+      let e = b .world .standby in
+      stagedEnd e (withPages (e .state) (e .state .pages + 1) (p + 1)) (withPage v (e .stagedPages) p bs) (withMark (e .stagedMarks) p) (e .stagedBlocks)
+
+  pub keep-page : (epoch p : ℕ) (bs : List ℕ) (xs : List Message) → Next g b i (message.page epoch p bs) xs → PageTests (b .world .standby .state) epoch p
+      → Inv g (stagedAfter b (pageEnd (g .u) p bs) (length (encode (message.page epoch p bs))))
+  keep-page epoch p bs xs n f =
+      let x = message.page epoch p bs in
+      let e = b .world .standby in
+      let s = e .state in
+      let t = i .holds .taker in
+      let k = i .holds .standbyKept in
+      let c = effects (g .u) (i .ghost .base) (i .ghost .consumed) in
+      let below : p < g .m = omega (arith, f .page-low, standby-m g e k) in
+      let whole : length bs ≡ g .u = n .fits .2 in
+      let inside : p * g .u + g .u ≤ length (e .stagedPages) = omega (arith, page-end p (g .m) (g .u) below, k .stagedPages) in
+      let word : p / 64 < length (e .stagedMarks) = rw (k .stagedMarks) (words-cover (g .m) p below) in
+      keep-staged x xs n (pageEnd (g .u) p bs)
+      (record {
+        receivedIs = t .receivedIs;
+        modeIs = t .modeIs;
+        processorIs = t .processorIs;
+        memoryIs = t .memoryIs;
+        diskIs = t .diskIs;
+        stagedMemory = λ z.
+            installed-more (e .memory) (e .stagedPages) (e .stagedMarks) (g .u) (g .m) (k .memory) (k .stagedPages) p bs below word whole
+            ∙ ap (λ (l : List ℕ). withPage (g .u) l p bs) (t .stagedMemory z)
+            ∙ memory-done x xs n;
+        stagedDisk = λ z. t .stagedDisk z ∙ disk-done x xs n;
+        stagedProcessor = λ z y. t .stagedProcessor z y ∙ processor-done x xs n;
+        activeMemory = t .activeMemory;
+        activeDisk = t .activeDisk;
+        settled = t .settled;
+        areaIs = t .areaIs;
+      })
+      (record {
+        settings = k .settings;
+        patience = k .patience;
+        reached = reached-pages s (k .reached) (s .pages + 1) (p + 1) (omega (arith, k .reached .pagesBelow, f .rising)) (omega (arith, f .page-low));
+        memory = k .memory;
+        disk = k .disk;
+        stagedPages = length-with-page (g .u) p (e .stagedPages) bs whole inside ∙ k .stagedPages;
+        stagedMarks = length-withMark (e .stagedMarks) p ∙ k .stagedMarks;
+        stagedBlocks = k .stagedBlocks;
+        area = k .area;
+      })
+
+  -- ---- BLOCK
+  abbrev pub blockEnd : ℕ → ℕ → List ℕ → StandbyEnd
+  blockEnd v n bs =
+      let e = b .world .standby in
+      stagedEnd e (withSlots (e .state) (withBlock (e .state .slots) n) (e .state .blocks + 1)) (e .stagedPages) (e .stagedMarks) (withBlockBytes v (e .state .slots) (e .stagedBlocks) bs)
+
+  pub keep-block : (epoch m : ℕ) (bs : List ℕ) (xs : List Message) → Next g b i (message.block epoch m bs) xs → BlockTests (b .world .standby .state) epoch m
+      → Inv g (stagedAfter b (blockEnd (g .u) m bs) (length (encode (message.block epoch m bs))))
+  unfolding withBlockBytes withBlock storeAll
+  keep-block epoch m bs xs n f =
+      let x = message.block epoch m bs in
+      let e = b .world .standby in
+      let s = e .state in
+      let t = i .holds .taker in
+      let k = i .holds .standbyKept in
+      let r = k .reached in
+      let tests = reached-tests s r in
+      let few = standby-settings-facts (s .settings) (tests .settings-ok) .slots .s-high in
+      let slots = slots-tests (s .slots) (s .settings .s) (s .settings .d) (tests .slots-ok) in
+      let fits = slots-fit g e k in
+      let whole : length bs ≡ g .u = n .fits .2 in
+      let sizes = ap (λ (y : StandbySettings). y .s) (k .settings) in
+      let free : s .slots .staged < g .s = omega (arith, f .slot-free) in
+      let room : s .slots .staged * g .u + g .u ≤ length (e .stagedBlocks) = omega (arith, page-end (s .slots .staged) (g .s) (g .u) free, k .stagedBlocks) in
+      let less : s .slots .staged < 64 = omega arith in
+      let one : Staged = record { number = m; bytes = bs } in
+      let more = list-with-block (g .u) (s .slots) (e .stagedBlocks) (r .numbers) m bs less whole room in
+      keep-staged x xs n (blockEnd (g .u) m bs)
+      (record {
+        receivedIs = t .receivedIs;
+        modeIs = t .modeIs;
+        processorIs = t .processorIs;
+        memoryIs = t .memoryIs;
+        diskIs = λ z. ap (storeAll (g .u) (e .disk)) (due-with-block (g .u) (s .slots) (e .stagedBlocks) (r .numbers) m bs less whole room (slots .due-high)) ∙ t .diskIs z;
+        stagedMemory = λ z. t .stagedMemory z ∙ memory-done x xs n;
+        stagedDisk = λ z.
+            ap (storeAll (g .u) (e .disk)) more
+            ∙ store-all-append (g .u) (e .disk) (slotList (g .u) (s .slots) (e .stagedBlocks)) (one ∷ [])
+            ∙ ap (λ (l : List ℕ). withPage (g .u) l m bs) (t .stagedDisk z)
+            ∙ disk-done x xs n;
+        stagedProcessor = λ z y. t .stagedProcessor z y ∙ processor-done x xs n;
+        activeMemory = t .activeMemory;
+        activeDisk = t .activeDisk;
+        settled = t .settled;
+        areaIs = t .areaIs;
+      })
+      (record {
+        settings = k .settings;
+        patience = k .patience;
+        reached = reached-slots s r (withBlock (s .slots) m) (s .blocks + 1)
+            (slots-with-block (s .slots) (s .settings .s) (s .settings .d) (r .numbers) few m (tests .slots-ok) (f .slot-free) (f .block-low))
+            (array-with-block (s .slots) (r .numbers) m) (omega (arith, f .allowed)) (omega (arith, r .notDue, slots .due-high));
+        memory = k .memory;
+        disk = k .disk;
+        stagedPages = k .stagedPages;
+        stagedMarks = k .stagedMarks;
+        stagedBlocks = length-with-page (g .u) (s .slots .staged) (e .stagedBlocks) bs whole room ∙ k .stagedBlocks;
+        area = k .area;
+      })
+
+  -- ---- STATE
+  abbrev pub stateEnd : List ℕ → StandbyEnd
+  stateEnd bs = let e = b .world .standby in stagedEnd e (withState (e .state) bs) (e .stagedPages) (e .stagedMarks) (e .stagedBlocks)
+
+  pub keep-state : (epoch : ℕ) (bs : List ℕ) (xs : List Message) → Next g b i (message.state epoch bs) xs
+      → Inv g (stagedAfter b (stateEnd bs) (length (encode (message.state epoch bs))))
+  keep-state epoch bs xs n =
+      let x = message.state epoch bs in
+      let e = b .world .standby in
+      let s = e .state in
+      let t = i .holds .taker in
+      let k = i .holds .standbyKept in
+      keep-staged x xs n (stateEnd bs)
+      (record {
+        receivedIs = t .receivedIs;
+        modeIs = t .modeIs;
+        processorIs = t .processorIs;
+        memoryIs = t .memoryIs;
+        diskIs = t .diskIs;
+        stagedMemory = λ z. t .stagedMemory z ∙ memory-done x xs n;
+        stagedDisk = λ z. t .stagedDisk z ∙ disk-done x xs n;
+        stagedProcessor = λ z y. processor-done x xs n;
+        activeMemory = t .activeMemory;
+        activeDisk = t .activeDisk;
+        settled = t .settled;
+        areaIs = t .areaIs;
+      })
+      (record {
+        settings = k .settings;
+        patience = k .patience;
+        reached = reached-state s (k .reached) bs (n .fits .1);
+        memory = k .memory;
+        disk = k .disk;
+        stagedPages = k .stagedPages;
+        stagedMarks = k .stagedMarks;
+        stagedBlocks = k .stagedBlocks;
+        area = k .area;
+      })
