@@ -1,15 +1,15 @@
 -- Laws of the checkpoint: what acceptance says and what it needs, how many bytes are appended, and that the ranges are kept. Assumes nothing.
-use mathlib.Core.Path.{_≡_, refl, sym, ap, _∙_}
+use mathlib.Core.Path.{_≡_, refl, _∙_}
 use mathlib.Core.Bool.{true, _&&_}
 use mathlib.Core.List.{List, [], _∷_, _++_}
-use Prim.Native.Nat.{ℕ, _+_, _*_, _≤_, _<_}
+use Prim.Native.Nat.{ℕ, _+_, _≤_, _<_}
 use native.Mathlib.Omega.{arith}
 use lib.Dec.{leb, ltb, eqb}
 use lib.ListN.{length, length-append}
 use borrow.Author.Tests.{leb-true, le-leb, ltb-true, lt-ltb, eqb-true, eq-eqb}
 use Rattle.lists.specs.Refusal.{Test, test}
 use Rattle.lists.proofs.TestLaws.{both, join, accepted, accepts}
-use Rattle.records.specs.Kind.{PAGE, STATE, COMMIT, processorBytes, recordLength}
+use Rattle.records.specs.Kind.{processorBytes}
 use Rattle.records.specs.Write.{stateRecord, commitRecord}
 use Rattle.records.specs.Number.{outOfRange, wrongMode, streamFull, lastEpoch}
 use Rattle.records.proofs.FrameLaws.{length-state, length-commit}
@@ -19,7 +19,7 @@ use Rattle.pages.specs.Dirty.{dirtyRecords}
 use Rattle.pages.proofs.DirtyLaws.{length-dirty}
 use Rattle.queue.proofs.QueueLaws.{queue-later}
 use Rattle.rules.specs.declared.Primary.{Primary}
-use Rattle.rules.specs.PrimaryState.{primaryOk, protected, memoryLength, marksLength, withEpoch}
+use Rattle.rules.specs.PrimaryState.{primaryOk, protected, memoryLength, marksLength}
 use Rattle.rules.specs.Checkpoint.{dirtyCount, checkpointLength, checkpointBytes, checkpointRefusal, checkpointState, checkpointReply}
 use Rattle.rules.specs.Reached.{PrimaryReached}
 use Rattle.rules.proofs.PrimaryFacts.{primary-facts, primary-of, reached-pick}

@@ -1,15 +1,15 @@
 -- Laws of the standby's tick, of activation and of the guest's writes: what acceptance says, the tick by cases, and that what holds of a state reached
 -- holds after each of them. Assumes nothing.
-use mathlib.Core.Path.{_≡_, refl, sym, ap, _∙_}
+use mathlib.Core.Path.{_≡_, refl, ap, _∙_}
 use mathlib.Core.Bool.{Bool, true, false, _&&_, cond, false≢true}
-use mathlib.Core.List.{List, [], _∷_}
-use Prim.Native.Nat.{ℕ, _+_, _-_, _≤_, _<_}
+use mathlib.Core.List.{[], _∷_}
+use Prim.Native.Nat.{ℕ, _+_, _≤_, _<_}
 use native.Mathlib.Omega.{arith}
 use lib.Dec.{leb, ltb, eqb}
 use lib.ListN.{length}
-use borrow.Author.Tests.{eqb-true, ltb-true, leb-true, leb-false}
+use borrow.Author.Tests.{eqb-true, eq-eqb, ltb-true, leb-true, leb-false}
 use Rattle.lists.specs.Refusal.{test}
-use Rattle.lists.proofs.TestLaws.{both, accepted}
+use Rattle.lists.proofs.TestLaws.{both, join, accepted, accepts}
 use Rattle.records.specs.Area.{areaLength}
 use Rattle.records.specs.Number.{outOfRange, noSuchUnit, badSize, wrongMode, blocksDue}
 use Rattle.staging.specs.Slot.{onlyDue}
@@ -25,9 +25,9 @@ use Rattle.rules.specs.StandbyState.{standbyOk, isReceiving, isTakingOve
 use Rattle.rules.specs.Takeover.{standbyTickRefusal, dropped, takesOver, standbyTickState, standbyTickReply, activationRefusal, activationReply, activeMemoryWriteRefusal, activeMemoryWriteReply, activeDiskWriteRefusal, activeDiskWriteReply}
 use Rattle.rules.specs.Reached.{StandbyReached}
 use Rattle.rules.proofs.DetectorFacts.{detector-facts, detector-of}
-use Rattle.rules.proofs.StandbyFacts.{standby-tests, standby-tested, standby-facts, reply-reached}
+use Rattle.rules.proofs.StandbyFacts.{standby-tests, standby-tested, reply-reached}
 
--- ---- acceptance
+-- ---- acceptance: what it says, and for the calls of a takeover that it follows from that
 pub record TickAccepted (s : Standby) (marks : ℕ) : Type 0 where
   pub inRange : standbyOk s ≡ true
   pub marksLent : marks ≡ marksLength s
@@ -38,6 +38,11 @@ tick-accepted s marks e =
     let t = accepted (test outOfRange (standbyOk s && eqb marks (marksLength s)) ∷ []) refl e in
     let k = both (standbyOk s) (eqb marks (marksLength s)) (t .0) in
     record { inRange = k .0; marksLent = eqb-true marks (marksLength s) (k .1) }
+
+pub tick-accepts : (s : Standby) (marks : ℕ) → TickAccepted s marks → standbyTickRefusal s marks ≡ 0
+unfolding standbyTickRefusal
+tick-accepts s marks f =
+    accepts (test outOfRange (standbyOk s && eqb marks (marksLength s)) ∷ []) (join _ _ (f .inRange) (eq-eqb marks (marksLength s) (f .marksLent)), tt)
 
 pub record ActivationAccepted (s : Standby) (area : ℕ) : Type 0 where
   pub inRange : standbyOk s ≡ true
@@ -51,6 +56,12 @@ activation-accepted s area e =
     let t = accepted (test outOfRange (standbyOk s && eqb area areaLength) ∷ test wrongMode (isTakingOver (s .mode)) ∷ test blocksDue (eqb (s .slots .due) 0) ∷ []) refl e in
     let k = both (standbyOk s) (eqb area areaLength) (t .0) in
     record { inRange = k .0; areaLent = eqb-true area areaLength (k .1); takingOver = t .1 .0; noneDue = eqb-true (s .slots .due) 0 (t .1 .1 .0) }
+
+pub activation-accepts : (s : Standby) (area : ℕ) → ActivationAccepted s area → activationRefusal s area ≡ 0
+unfolding activationRefusal
+activation-accepts s area f =
+    accepts (test outOfRange (standbyOk s && eqb area areaLength) ∷ test wrongMode (isTakingOver (s .mode)) ∷ test blocksDue (eqb (s .slots .due) 0) ∷ [])
+    (join _ _ (f .inRange) (eq-eqb area areaLength (f .areaLent)), (f .takingOver, (eq-eqb (s .slots .due) 0 (f .noneDue), tt)))
 
 pub record ActiveMemoryWriteAccepted (s : Standby) (memory page offset n : ℕ) : Type 0 where
   pub inRange : standbyOk s ≡ true

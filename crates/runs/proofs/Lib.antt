@@ -37,3 +37,5 @@ pub mod ReadCall
 pub mod StartCall
 pub mod TakeoverCalls
 pub mod Proved
+pub mod PlainLaws
+pub mod Corollaries

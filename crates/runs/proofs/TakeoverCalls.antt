@@ -41,14 +41,11 @@ use Rattle.runs.proofs.Flush.{keep-flush}
 use Rattle.runs.proofs.Flush as flush
 use Rattle.runs.proofs.Activation.{keep-activation}
 use Rattle.runs.proofs.Activation as activation
+use Rattle.runs.proofs.PlainLaws.{run-append}
 use Rattle.runs.proofs.Frame.{Accepted, TakeoverLaw}
 
 -- ---- lists of calls, one after the other
 module _ (κ : Steps) (u : ℕ) where
-  run-append : (xs ys : List Call) (b : Both) → run κ u b (xs ++ ys) ≡ run κ u (run κ u b xs) ys
-  run-append [] ys b = refl
-  run-append (x ∷ xs) ys b = run-append xs ys (runCall κ u b x)
-
   accepted-append : (xs ys : List Call) (b : Both) → AllAccepted κ (b .world) xs → AllAccepted κ (run κ u b xs .world) ys → AllAccepted κ (b .world) (xs ++ ys)
   accepted-append [] ys b f h = h
   accepted-append (x ∷ xs) ys b f h = (f .0, accepted-append xs ys (runCall κ u b x) (f .1) h)

@@ -2,3 +2,4 @@ pub mod Plain
 pub mod Run
 pub mod Cut
 pub mod Demand3
+pub mod Corollaries

@@ -1,0 +1,124 @@
+-- The four claims of specs/Corollaries.antt, from demand 3. Assumes nothing.
+use Prim.Native.Nat.{ℕ, _≤_}
+use mathlib.Core.Path.{_≡_, refl, sym, ap, _∙_, subst}
+use mathlib.Core.Bool.{true, cond}
+use mathlib.Core.List.{List, [], _∷_, _++_}
+use native.Mathlib.Omega.{arith}
+use borrow.Author.Tests.{eq-eqb}
+use Rattle.settings.specs.declared.Settings.{Settings}
+use Rattle.rules.specs.declared.Choice.{Choice}
+use Rattle.rules.specs.declared.Choice.the-variants.{PrimaryDisk, StandbyDisk}
+use Rattle.rules.specs.Choose.{chosen}
+use Rattle.rules.specs.World.{Processor, Call, Buffers, startNumber}
+use Rattle.rules.specs.World as call
+use Rattle.rules.specs.Step.{step}
+use Rattle.runs.specs.Plain.{Plain, Checkpoint, receivedCheckpoint, plainAccepted, plainStep}
+use Rattle.runs.specs.Run.{Both, Steps, steps, runCall, run, startBoth}
+use Rattle.runs.specs.Cut.{countedCalls}
+use Rattle.runs.specs.Demand3.{active, CallRight, TakesRight, Holds, WholeRun}
+use Rattle.runs.specs.Corollaries.{IsCheckpoint, pairAfter, PacketSaved, AcknowledgedReceived, AcknowledgedKept, OneCheckpoint, PrimaryDiskUntilActivation, AfterStart}
+use Rattle.runs.proofs.CutLaws.{noCut, counted-uncut}
+use Rattle.runs.proofs.PlainLaws.{run-append, Later, nested-one, run-later, run-nested, received-nested, FirstOf, first-below, first-same}
+use Rattle.runs.proofs.Frame.{Accepted}
+use Rattle.runs.proofs.Proved.{demand-3}
+
+-- what demand 3 claims of a call inside a list
+call-at : (κ : Steps) (g : Settings) (xs : List Call) (c : Call) (ys : List Call) (b : Both) → TakesRight κ g b (xs ++ (c ∷ ys))
+    → CallRight κ (g .t) (run κ (g .u) b xs) c
+call-at κ g [] c ys b h = h .0
+call-at κ g (x ∷ xs) c ys b h = call-at κ g xs c ys (runCall κ (g .u) b x) (h .1)
+
+-- ---- what the plain pair does with an accepted ACK and an accepted activation
+ack-plain : (u : ℕ) (n : ℕ) (b : Both) → Accepted b (call.ack n) → runCall steps u b (call.ack n) .plain .a ≡ step (b .world) (call.ack n) .outcome .value
+unfolding plainStep plainAccepted
+ack-plain u n b e = rw (eq-eqb _ _ e)
+
+record Activated (p q : Plain) : Type 0 where
+  activated : q .activated ≡ true
+  memory : q .standbyMemory ≡ receivedCheckpoint p .memory
+  disk : q .standbyDisk ≡ receivedCheckpoint p .disk
+  checkpoint : receivedCheckpoint q ≡ receivedCheckpoint p
+
+activation-plain : (u : ℕ) (b : Both) → Accepted b call.activation → Activated (b .plain) (runCall steps u b call.activation .plain)
+unfolding plainStep plainAccepted
+activation-plain u b e = rw (eq-eqb _ _ e) (record { activated = refl; memory = refl; disk = refl; checkpoint = refl })
+
+module _ (g : Settings) (processor : Processor) (buffers : Buffers) (started : startNumber g buffers ≡ 0) where
+  -- demand 3 of a list, with no cut
+  whole : (calls : List Call) → WholeRun steps g (startBoth g processor buffers) calls
+  whole calls = subst (WholeRun steps g (startBoth g processor buffers)) (counted-uncut calls) (demand-3 g processor buffers started calls noCut)
+
+  -- after a list and one call more, and to a later point
+  after-call : (before : List Call) (c : Call) (later : List Call)
+      → pairAfter g processor buffers (before ++ (c ∷ later)) ≡ run steps (g .u) (runCall steps (g .u) (pairAfter g processor buffers before) c) later
+  after-call before c later = run-append steps (g .u) before (c ∷ later) (startBoth g processor buffers)
+
+  later-than : (before later : List Call) → Later (pairAfter g processor buffers before .plain) (pairAfter g processor buffers (before ++ later) .plain)
+  later-than before later =
+      subst (λ (b : Both). Later (pairAfter g processor buffers before .plain) (b .plain)) (sym (run-append steps (g .u) before later (startBoth g processor buffers)))
+      (run-later (g .u) later (pairAfter g processor buffers before))
+
+  packet-saved : PacketSaved g processor buffers
+  packet-saved before destination later e protected =
+      let calls = before ++ (call.take destination ∷ later) in
+      let p = pairAfter g processor buffers before .plain in
+      let q = pairAfter g processor buffers calls .plain in
+      let h = call-at steps g before (call.take destination) later (startBoth g processor buffers) (whole calls .takes) .accepted e in
+      let f : FirstOf (receivedCheckpoint p .packets) (receivedCheckpoint q .packets)
+      = received-nested p q (later-than before (call.take destination ∷ later)) (run-nested (g .u) calls (startBoth g processor buffers) (nested-one _))
+      (whole before .end .receivedExists) (whole calls .end .receivedExists) in
+      record {
+        below = first-below (p .taken) (receivedCheckpoint p .packets) (receivedCheckpoint q .packets) f (h .below protected);
+        same = h .saved protected ∙ first-same (p .taken) (receivedCheckpoint p .packets) (receivedCheckpoint q .packets) f (h .below protected);
+      }
+
+  acknowledged-kept : AcknowledgedKept g processor buffers
+  acknowledged-kept before n later e =
+      let b = pairAfter g processor buffers before in
+      let b₁ = runCall steps (g .u) b (call.ack n) in
+      let end = pairAfter g processor buffers (before ++ (call.ack n ∷ later)) in
+      let a : b₁ .plain .a ≤ b₁ .plain .r
+      = subst (λ (x : Both). x .plain .a ≤ x .plain .r) (after-call before (call.ack n) []) (whole (before ++ (call.ack n ∷ [])) .end .acknowledgedReceived) in
+      let l : Later (b₁ .plain) (end .plain) = subst (λ (x : Both). Later (b₁ .plain) (x .plain)) (sym (after-call before (call.ack n) later)) (run-later (g .u) later b₁) in
+      record {
+        received = omega (arith, a, ack-plain (g .u) n b e, l .received);
+        takeover = whole (before ++ (call.ack n ∷ later)) .end .takeover;
+      }
+
+  one-checkpoint : OneCheckpoint g processor buffers
+  one-checkpoint before e =
+      let b = pairAfter g processor buffers before in
+      let b₁ = runCall steps (g .u) b call.activation in
+      let s = subst (λ (x : Both). Holds steps g x) (after-call before call.activation []) (whole (before ++ (call.activation ∷ [])) .end) .standby in
+      let t = activation-plain (g .u) b e in
+      let on : active (b₁ .world) ≡ true = s .same ∙ t .activated in
+      subst (λ (x : Both). IsCheckpoint (x .world .standby) (receivedCheckpoint (b .plain))) (sym (after-call before call.activation []))
+      (record {
+        memory = s .memory on ∙ t .memory;
+        disk = s .disk on ∙ t .disk;
+        processor = s .processor on ∙ ap (λ (c : Checkpoint). c .processor) (t .checkpoint);
+      })
+
+  primary-disk : PrimaryDiskUntilActivation g processor buffers
+  primary-disk calls cut off =
+      let b = pairAfter g processor buffers (countedCalls cut calls) in
+      let d = demand-3 g processor buffers started calls cut .end .disks in
+      let choice = d .choice ∙ ap (λ x. cond x StandbyDisk PrimaryDisk) off in
+      let same = ap (λ (c : Choice). chosen c (b .world .primary .disk) (b .world .standby .disk) []) choice in
+      record { choice = choice; chosen = same; plain = sym same ∙ d .bytes ∙ ap (λ x. cond x (b .plain .standbyDisk) (b .plain .disk)) off }
+
+-- ---- the claims
+pub packet-never-lost : AfterStart PacketSaved
+packet-never-lost = packet-saved
+
+pub acknowledged-received : AfterStart AcknowledgedReceived
+acknowledged-received g processor buffers started calls cut = demand-3 g processor buffers started calls cut .end .acknowledgedReceived
+
+pub acknowledged-never-lost : AfterStart AcknowledgedKept
+acknowledged-never-lost = acknowledged-kept
+
+pub never-a-mixture : AfterStart OneCheckpoint
+never-a-mixture = one-checkpoint
+
+pub primary-disk-until-activation : AfterStart PrimaryDiskUntilActivation
+primary-disk-until-activation = primary-disk

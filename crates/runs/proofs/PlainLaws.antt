@@ -1,0 +1,146 @@
+-- The plain pair along a run: r never falls, checkpoints are added at the end, each with the packets of those before it. Assumes nothing.
+use Prim.Native.Nat.{ℕ, _+_, _≤_, _<_}
+use mathlib.Core.Path.{_≡_, refl, sym, ap, _∙_, subst}
+use mathlib.Core.Bool.{Bool, true, false, cond}
+use mathlib.Core.List.{List, [], _∷_, _++_, append-assoc, append-nil}
+use native.Mathlib.Omega.{arith}
+use lib.Dec.{eqb}
+use lib.ListN.{length, getD, length-append, List·getD-append}
+use Rattle.records.specs.Kind.{COMMIT}
+use Rattle.rules.specs.World.{Call}
+use Rattle.rules.specs.World as call
+use Rattle.rules.specs.Step.{Outcome}
+use Rattle.runs.specs.Plain.{Checkpoint, Plain, noCheckpoint, receivedCheckpoint, plainAccepted, plainStep}
+use Rattle.runs.specs.Run.{Both, Steps, steps, runCall, run}
+use Rattle.runs.proofs.PacketsLaws.{checkpoint-cases}
+
+-- ---- a list of calls and another after it
+pub run-append : (κ : Steps) (u : ℕ) (xs ys : List Call) (b : Both) → run κ u b (xs ++ ys) ≡ run κ u (run κ u b xs) ys
+run-append κ u [] ys b = refl
+run-append κ u (x ∷ xs) ys b = run-append κ u xs ys (runCall κ u b x)
+
+-- ---- from one plain pair to a later one
+pub record Later (p q : Plain) : Type 0 where
+  pub received : p .r ≤ q .r
+  pub more : List Checkpoint
+  pub added : p .checkpoints ++ more ≡ q .checkpoints
+
+unchanged : (p q : Plain) → p .r ≤ q .r → p .checkpoints ≡ q .checkpoints → Later p q
+unchanged p q l e = record { received = l; more = []; added = append-nil (p .checkpoints) ∙ e }
+
+pub later-refl : (p : Plain) → Later p p
+later-refl p = unchanged p p (omega arith) refl
+
+later-trans : (p q s : Plain) → Later p q → Later q s → Later p s
+later-trans p q s x y =
+    record {
+      received = omega (arith, x .received, y .received);
+      more = x .more ++ y .more;
+      added = sym (append-assoc (p .checkpoints) (x .more) (y .more)) ∙ ap (λ (l : List Checkpoint). l ++ y .more) (x .added) ∙ y .added;
+    }
+
+-- ---- the packets of a checkpoint are the first of each later one's, and of those accepted
+abbrev pub FirstOf : List (List ℕ) → List (List ℕ) → Type 0
+FirstOf xs ys = (rest : List (List ℕ)) × (xs ++ rest ≡ ys)
+
+pub record Nested (checkpoints : List Checkpoint) (accepted : List (List ℕ)) : Type 0 where
+  pub first : (i : ℕ) → i < length checkpoints → FirstOf (getD checkpoints i noCheckpoint .packets) accepted
+  pub later : (i j : ℕ) → i ≤ j → j < length checkpoints → FirstOf (getD checkpoints i noCheckpoint .packets) (getD checkpoints j noCheckpoint .packets)
+
+-- one checkpoint, with all packets accepted
+pub nested-one : (c : Checkpoint) → Nested (c ∷ []) (c .packets)
+nested-one c =
+    record {
+      first = λ i l. let z : i ≡ 0 = omega arith in rw z ([], append-nil (c .packets));
+      later = λ i j a l. let z : i ≡ 0 = omega arith in let y : j ≡ 0 = omega arith in rw (z, y) ([], append-nil (c .packets));
+    }
+
+nested-checkpoint : (checkpoints : List Checkpoint) (accepted : List (List ℕ)) (c : Checkpoint) → c .packets ≡ accepted → Nested checkpoints accepted
+    → Nested (checkpoints ++ (c ∷ [])) accepted
+nested-checkpoint checkpoints accepted c e k =
+    let self : FirstOf (c .packets) accepted = ([], append-nil (c .packets) ∙ e) in
+    let first : (i : ℕ) → i < length (checkpoints ++ (c ∷ [])) → FirstOf (getD (checkpoints ++ (c ∷ [])) i noCheckpoint .packets) accepted
+    = λ i l. checkpoint-cases checkpoints c (λ (z : Checkpoint). FirstOf (z .packets) accepted) i l (k .first i) self in
+    record {
+      first = first;
+      later = λ i j b l.
+          checkpoint-cases checkpoints c (λ (z : Checkpoint). FirstOf (getD (checkpoints ++ (c ∷ [])) i noCheckpoint .packets) (z .packets)) j l
+          (λ a. rw (List·getD-append checkpoints (c ∷ []) noCheckpoint i (omega arith)) (k .later i j b a))
+          (subst (FirstOf (getD (checkpoints ++ (c ∷ [])) i noCheckpoint .packets)) (sym e) (first i (omega arith)));
+    }
+
+nested-packet : (checkpoints : List Checkpoint) (accepted : List (List ℕ)) (x : List ℕ) → Nested checkpoints accepted → Nested checkpoints (accepted ++ (x ∷ []))
+nested-packet checkpoints accepted x k =
+    record {
+      first = λ i l.
+          let f = k .first i l in
+          (f .0 ++ (x ∷ []), sym (append-assoc (getD checkpoints i noCheckpoint .packets) (f .0) (x ∷ [])) ∙ ap (λ (l : List (List ℕ)). l ++ (x ∷ [])) (f .1));
+      later = k .later;
+    }
+
+-- ---- one call: of an accepted one, and of a refused one, which changes nothing
+record Kept (p q : Plain) : Type 0 where
+  later : Later p q
+  nested : Nested (p .checkpoints) (p .accepted) → Nested (q .checkpoints) (q .accepted)
+
+same : (p q : Plain) → p .r ≤ q .r → p .checkpoints ≡ q .checkpoints → p .accepted ≡ q .accepted → Kept p q
+same p q l c a = record { later = unchanged p q l c; nested = λ k. rw (sym c, sym a) k }
+
+one-more : (b : Bool) (n m : ℕ) → n ≤ m → n ≤ cond b m n
+one-more true n m l = l
+one-more false n m l = omega arith
+
+kept-accepted : (u : ℕ) (c : Call) (value : ℕ) (p : Plain) → Kept p (plainAccepted u c value p)
+unfolding plainAccepted
+kept-accepted u (call.memoryWrite page offset bytes) value p = same p _ (omega arith) refl refl
+kept-accepted u (call.diskWrite block bytes) value p = same p _ (omega arith) refl refl
+kept-accepted u (call.packet bytes) value p =
+    record { later = unchanged p _ (omega arith) refl; nested = nested-packet (p .checkpoints) (p .accepted) bytes }
+kept-accepted u (call.checkpoint processor) value p =
+    let c : Checkpoint = record { memory = p .memory; disk = p .disk; processor = processor .bytes; packets = p .accepted } in
+    record { later = record { received = omega arith; more = c ∷ []; added = refl }; nested = nested-checkpoint (p .checkpoints) (p .accepted) c refl }
+kept-accepted u (call.drain n destination) value p = same p _ (omega arith) refl refl
+kept-accepted u (call.ack n) value p = same p _ (omega arith) refl refl
+kept-accepted u (call.take destination) value p = same p _ (omega arith) refl refl
+kept-accepted u call.primaryTick value p = same p _ (omega arith) refl refl
+kept-accepted u (call.read n reply) value p = same p _ (one-more (eqb value COMMIT) (p .r) (p .r + 1) (omega arith)) refl refl
+kept-accepted u (call.flush n) value p = same p _ (omega arith) refl refl
+kept-accepted u call.standbyTick value p = same p _ (omega arith) refl refl
+kept-accepted u call.activation value p = same p _ (omega arith) refl refl
+kept-accepted u (call.activeMemoryWrite page offset bytes) value p = same p _ (omega arith) refl refl
+kept-accepted u (call.activeDiskWrite block bytes) value p = same p _ (omega arith) refl refl
+
+either : (P : Plain → Type 0) (b : Bool) (x y : Plain) → P x → P y → P (cond b x y)
+either P true x y f h = f
+either P false x y f h = h
+
+kept-step : (u : ℕ) (c : Call) (o : Outcome) (p : Plain) → Kept p (plainStep u c o p)
+unfolding plainStep
+kept-step u c o p =
+    either (Kept p) (eqb (o .number) 0) (plainAccepted u c (o .value) p) p (kept-accepted u c (o .value) p) (same p p (omega arith) refl refl)
+
+-- ---- every list of calls
+pub run-later : (u : ℕ) (cs : List Call) (b : Both) → Later (b .plain) (run steps u b cs .plain)
+run-later u [] b = later-refl (b .plain)
+run-later u (c ∷ cs) b =
+    let b₁ = runCall steps u b c in
+    later-trans (b .plain) (b₁ .plain) (run steps u b₁ cs .plain) (kept-step u c _ (b .plain) .later) (run-later u cs b₁)
+
+pub run-nested : (u : ℕ) (cs : List Call) (b : Both) → Nested (b .plain .checkpoints) (b .plain .accepted)
+    → Nested (run steps u b cs .plain .checkpoints) (run steps u b cs .plain .accepted)
+run-nested u [] b k = k
+run-nested u (c ∷ cs) b k = run-nested u cs (runCall steps u b c) (kept-step u c _ (b .plain) .nested k)
+
+-- ---- the packets of the received checkpoint are the first of the later received one's
+pub received-nested : (p q : Plain) → Later p q → Nested (q .checkpoints) (q .accepted) → p .r < length (p .checkpoints) → q .r < length (q .checkpoints)
+    → FirstOf (receivedCheckpoint p .packets) (receivedCheckpoint q .packets)
+received-nested p q l k below last =
+    rw (sym (sym (ap (λ (x : List Checkpoint). getD x (p .r) noCheckpoint) (l .added)) ∙ List·getD-append (p .checkpoints) (l .more) noCheckpoint (p .r) below))
+    (k .later (p .r) (q .r) (l .received) last)
+
+-- ---- a packet of the first part is one of the whole
+pub first-below : (n : ℕ) (xs ys : List (List ℕ)) → FirstOf xs ys → n < length xs → n < length ys
+first-below n xs ys f l = omega (arith, length-append xs (f .0), ap length (f .1))
+
+pub first-same : (n : ℕ) (xs ys : List (List ℕ)) → FirstOf xs ys → n < length xs → getD xs n [] ≡ getD ys n []
+first-same n xs ys f l = sym (List·getD-append xs (f .0) [] n l) ∙ ap (λ (z : List (List ℕ)). getD z n []) (f .1)

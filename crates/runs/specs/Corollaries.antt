@@ -1,0 +1,81 @@
+-- What a service engineer reads off demand 3: four claims about every run. Assumes nothing.
+-- The calls that count at a cut, `countedCalls cut calls`, are themselves a list of calls: a claim about every list holds at every cut.
+use Prim.Native.Nat.{ℕ, _≤_, _<_}
+use mathlib.Core.Path.{_≡_}
+use mathlib.Core.Bool.{false}
+use mathlib.Core.List.{List, [], _∷_, _++_}
+use lib.ListN.{length, getD}
+use Rattle.settings.specs.declared.Settings.{Settings}
+use Rattle.rules.specs.declared.Choice.the-variants.{PrimaryDisk}
+use Rattle.rules.specs.Choose.{choiceOf, chosenDisk}
+use Rattle.rules.specs.World.{StandbyEnd, Processor, Call, Buffers, startNumber}
+use Rattle.rules.specs.World as call
+use Rattle.rules.specs.Step.{Stepped, step}
+use Rattle.runs.specs.Plain.{Plain, Checkpoint, receivedCheckpoint, isAlone}
+use Rattle.runs.specs.Run.{Both, steps, run, startBoth}
+use Rattle.runs.specs.Cut.{Cut, countedCalls}
+use Rattle.runs.specs.Demand3.{active, TakeoverRight}
+
+-- a packet is the n-th, from 0, of checkpoint r's
+pub record Saved (packet : List ℕ) (n : ℕ) (p : Plain) : Type 0 where
+  pub below : n < length (receivedCheckpoint p .packets)
+  pub same : packet ≡ getD (receivedCheckpoint p .packets) n []
+
+-- a takeover there gives checkpoint r, and r is e or a later one
+pub record StillReceived (g : Settings) (e : ℕ) (b : Both) : Type 0 where
+  pub received : e ≤ b .plain .r
+  pub takeover : active (b .world) ≡ false → (n : ℕ) → b .world .standby .state .slots .due ≤ n → TakeoverRight steps g b n
+
+-- memory, disk and processor state are all those of one checkpoint
+pub record IsCheckpoint (s : StandbyEnd) (c : Checkpoint) : Type 0 where
+  pub memory : s .memory ≡ c .memory
+  pub disk : s .disk ≡ c .disk
+  pub processor : s .state .processor ≡ c .processor
+
+-- the disk choice gives the primary's disk, and that is the plain pair's
+pub record PrimaryDiskValid (b : Both) : Type 0 where
+  pub choice : choiceOf (length (b .world .primary .disk)) (length (b .world .standby .disk)) (b .world .standby .area) ≡ PrimaryDisk
+  pub chosen : chosenDisk (b .world .primary .disk) (b .world .standby .disk) (b .world .standby .area) ≡ b .world .primary .disk
+  pub plain : b .world .primary .disk ≡ b .plain .disk
+
+module _ (g : Settings) (processor : Processor) (buffers : Buffers) where
+  -- the pair after start and a list of calls, and what the real ends answer there to one call more
+  abbrev pub pairAfter : List Call → Both
+  pairAfter calls = run steps (g .u) (startBoth g processor buffers) calls
+
+  abbrev pub answerAfter : List Call → Call → Stepped
+  answerAfter calls c = step (pairAfter calls .world) c
+
+  -- ---- 1. a packet that left under protection is in checkpoint r ever after: the one that any later takeover gives
+  abbrev pub PacketSaved : Type 0
+  PacketSaved =
+      (before : List Call) (destination : List ℕ) (later : List Call)
+      → answerAfter before (call.take destination) .outcome .number ≡ 0
+      → isAlone (g .t) (pairAfter before .plain) ≡ false
+      → Saved (answerAfter before (call.take destination) .handed) (pairAfter before .plain .taken) (pairAfter (before ++ (call.take destination ∷ later)) .plain)
+
+  -- ---- 2. the acknowledged checkpoint is received, at every cut; and no takeover after an accepted ACK gives one before its epoch
+  abbrev pub AcknowledgedReceived : Type 0
+  AcknowledgedReceived = (calls : List Call) (cut : Cut) → pairAfter (countedCalls cut calls) .plain .a ≤ pairAfter (countedCalls cut calls) .plain .r
+
+  abbrev pub AcknowledgedKept : Type 0
+  AcknowledgedKept =
+      (before : List Call) (n : ℕ) (later : List Call)
+      → answerAfter before (call.ack n) .outcome .number ≡ 0
+      → StillReceived g (answerAfter before (call.ack n) .outcome .value) (pairAfter (before ++ (call.ack n ∷ later)))
+
+  -- ---- 3. an accepted activation leaves the standby with one whole checkpoint, the one received: never a mixture of two
+  abbrev pub OneCheckpoint : Type 0
+  OneCheckpoint =
+      (before : List Call)
+      → answerAfter before call.activation .outcome .number ≡ 0
+      → IsCheckpoint (pairAfter (before ++ (call.activation ∷ [])) .world .standby) (receivedCheckpoint (pairAfter before .plain))
+
+  -- ---- 4. while nothing was activated the primary's disk is the valid one, at every cut
+  abbrev pub PrimaryDiskUntilActivation : Type 0
+  PrimaryDiskUntilActivation =
+      (calls : List Call) (cut : Cut) → pairAfter (countedCalls cut calls) .plain .activated ≡ false → PrimaryDiskValid (pairAfter (countedCalls cut calls))
+
+-- for every accepted start
+abbrev pub AfterStart : (Settings → Processor → Buffers → Type 0) → Type 0
+AfterStart Claim = (g : Settings) (processor : Processor) (buffers : Buffers) → startNumber g buffers ≡ 0 → Claim g processor buffers
