@@ -1,0 +1,146 @@
+// The primary's checkpoint.
+ghost use mathlib.Core.Path.{_≡_};
+ghost use Prim.Native.Nat.{_+_, _*_, _^_, _≤_, _<_};
+ghost use lib.ListN.{length};
+ghost use Rattle.lists.specs.Part.{PutDone};
+ghost use Rattle.records.specs.Kind.{PAGE, recordLength};
+ghost use Rattle.records.specs.Write.{stateRecord, commitRecord};
+ghost use Rattle.marks.specs.Mark.{countMarks};
+ghost use Rattle.pages.specs.Dirty.{dirtyRecords};
+ghost use Rattle.rules.specs.PrimaryState.{withEpoch};
+ghost use Rattle.rules.specs.Checkpoint.{dirtyCount, checkpointBytes, checkpointRefusal, checkpointNumber, checkpointReply, checkpointDirty, checkpointStream};
+use crate::ranges::memory_ok;
+use rules::Primary;
+use rules::PrimaryReply;
+
+// What a checkpoint of this many dirty pages is refused with: 1 13 15 19.
+fn checkpoint_refusal(p: Primary, memory: usize, dirty: usize, stream: usize, pages: usize) -> u64
+    requires { ⌜ pages ≤ p .settings .m ⌝ }
+    ensures { λ r. ⌜ r ≡ checkpointRefusal p memory dirty stream pages ⌝ }
+{
+    let g = p.settings;
+    let epoch = p.epoch;
+    let alone = p.alone;
+    let waiting = p.waiting;
+    let u = g.u;
+    let l = g.l;
+    if !memory_ok(p, memory, dirty) {
+        return 1;
+    }
+    if stream != l {
+        return 1;
+    }
+    if alone {
+        return 13;
+    }
+    if l < waiting + (pages * (u + 10) + 84) {
+        return 15;
+    }
+    if 4294967295 <= epoch {
+        return 19;
+    }
+    0
+}
+
+// The dirty pages into the free end of the outgoing buffer, from at on; the position behind them.
+fn append_pages(
+    stream: &mut [u8],
+    at: usize,
+    memory: &[u8],
+    dirty: &[u64],
+    u: usize,
+    epoch: u32,
+    m: usize,
+) -> usize
+    requires { ⌜ (length (now memory) ≡ m * u) × (m ≤ 2 ^ 16) × (u + 6 < 2 ^ 16) × (at + countMarks (now dirty) m * recordLength u PAGE ≤ length (now stream)) ⌝ }
+    ensures { λ r. ⌜ PutDone (dirtyRecords (now (memory .entry)) (now (dirty .entry)) u epoch m) (now (stream .entry)) at (now (stream .exit)) r ⌝ }
+{
+    let n = pages::write_dirty(&mut stream[at..], memory, dirty, u, epoch, m);
+    at + n
+}
+
+// STATE, from at on; the position behind it.
+fn append_state(stream: &mut [u8], at: usize, epoch: u32, processor: [u8; 64]) -> usize
+    requires { ⌜ at + 72 ≤ length (now stream) ⌝ }
+    ensures { λ r. ⌜ PutDone (stateRecord epoch processor) (now (stream .entry)) at (now (stream .exit)) r ⌝ }
+{
+    let n = records::writing::write_state(&mut stream[at..], epoch, &processor);
+    at + n
+}
+
+// COMMIT with the counts, from at on; the position behind it.
+fn append_commit(stream: &mut [u8], at: usize, epoch: u32, pages: usize, blocks: usize) -> usize
+    requires { ⌜ (pages < 2 ^ 16) × (blocks < 2 ^ 16) × (at + 12 ≤ length (now stream)) ⌝ }
+    ensures { λ r. ⌜ PutDone (commitRecord epoch pages blocks) (now (stream .entry)) at (now (stream .exit)) r ⌝ }
+{
+    let n = records::writing::write_commit(&mut stream[at..], epoch, pages, blocks);
+    at + n
+}
+
+// The dirty pages, STATE and COMMIT behind what is waiting; the bytes then waiting.
+fn append_checkpoint(
+    p: Primary,
+    memory: &[u8],
+    dirty: &[u64],
+    stream: &mut [u8],
+    pages: usize,
+    processor: [u8; 64],
+) -> usize
+    requires { ⌜ (checkpointNumber p (now memory) (now dirty) (now stream) ≡ 0) × (pages ≡ dirtyCount p (now dirty)) ⌝ }
+    ensures { λ r. ⌜ PutDone (checkpointBytes p (now (memory .entry)) (now (dirty .entry)) processor) (now (stream .entry)) (p .waiting) (now (stream .exit)) r ⌝ }
+{
+    let g = p.settings;
+    let epoch = p.epoch;
+    let blocks = p.blocks;
+    let waiting = p.waiting;
+    let u = g.u;
+    let m = g.m;
+    let state = append_pages(stream, waiting, memory, dirty, u, epoch, m);
+    let commit = append_state(stream, state, epoch, processor);
+    append_commit(stream, commit, epoch, pages, blocks)
+}
+
+fn with_epoch(p: Primary, epoch: u32, waiting: usize) -> Primary
+    ensures { λ r. ⌜ r ≡ withEpoch p epoch waiting ⌝ }
+{
+    let mut next = p;
+    next.epoch = epoch;
+    next.blocks = 0;
+    next.waiting = waiting;
+    next
+}
+
+// Appends every dirty page, STATE and COMMIT, clears the marks and opens the next epoch.
+pub fn checkpoint(
+    p: Primary,
+    memory: &[u8],
+    dirty: &mut [u64],
+    stream: &mut [u8],
+    processor: [u8; 64],
+) -> PrimaryReply
+    ensures { λ r. ⌜ r ≡ checkpointReply p (length (now (memory .entry))) (length (now (dirty .entry))) (length (now (stream .entry))) (dirtyCount p (now (dirty .entry))) ⌝ }
+    ensures { λ _. ⌜ now (dirty .exit) ≡ checkpointDirty p (now (memory .entry)) (now (dirty .entry)) (now (stream .entry)) ⌝ }
+    ensures { λ _. ⌜ now (stream .exit) ≡ checkpointStream p (now (memory .entry)) (now (dirty .entry)) (now (stream .entry)) processor ⌝ }
+{
+    let g = p.settings;
+    let epoch = p.epoch;
+    let m = g.m;
+    let value = epoch as u64;
+    let pages = marks::count(dirty, m);
+    let number = checkpoint_refusal(p, memory.len(), dirty.len(), stream.len(), pages);
+    if number != 0 {
+        return PrimaryReply {
+            state: p,
+            number: number,
+            value: 0,
+        };
+    }
+    let waiting = append_checkpoint(p, memory, dirty, stream, pages, processor);
+    marks::clear(dirty, m);
+    let state = with_epoch(p, epoch + 1, waiting);
+    PrimaryReply {
+        state: state,
+        number: 0,
+        value: value,
+    }
+}

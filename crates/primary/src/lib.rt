@@ -1,0 +1,7 @@
+// The primary's calls: the guest's writes, packets, checkpoint, drain, ACK, take and tick.
+pub mod checkpoint;
+pub mod packets;
+pub mod ranges;
+pub mod stream;
+pub mod tick;
+pub mod writes;

@@ -1,0 +1,87 @@
+// Number 1: whether the primary's state, and what is lent, is in its ranges.
+ghost use mathlib.Core.Path.{_≡_};
+ghost use mathlib.Core.Bool.{_&&_};
+ghost use lib.Dec.{eqb};
+ghost use Rattle.rules.specs.Common.{detectorOk};
+ghost use Rattle.rules.specs.PrimaryState.{primaryOk, memoryLength, marksLength};
+use detector::Detector;
+use rules::Primary;
+
+// T's range, and a count that has not passed T, nor reached it while it is watching.
+pub fn detector_ok(d: Detector, watching: bool) -> bool
+    ensures { λ r. ⌜ r ≡ detectorOk d watching ⌝ }
+{
+    let patience = d.patience;
+    let count = d.count;
+    if patience < 1 {
+        return false;
+    }
+    if 60000 < patience {
+        return false;
+    }
+    if patience < count {
+        return false;
+    }
+    if !watching {
+        return true;
+    }
+    if patience <= count {
+        return false;
+    }
+    true
+}
+
+// Whether the state is in its ranges; the queue, whose packets are looked at one by one, comes last.
+pub fn primary_ok(p: Primary) -> bool
+    ensures { λ r. ⌜ r ≡ primaryOk p ⌝ }
+{
+    let g = p.settings;
+    let d = p.detector;
+    let epoch = p.epoch;
+    let acknowledged = p.acknowledged;
+    let alone = p.alone;
+    let blocks = p.blocks;
+    let waiting = p.waiting;
+    let k = p.queue;
+    let b = g.b;
+    let q = g.q;
+    let l = g.l;
+    if !settings::primary_settings_ok(g) {
+        return false;
+    }
+    if epoch <= acknowledged {
+        return false;
+    }
+    if l < waiting {
+        return false;
+    }
+    if b < blocks {
+        return false;
+    }
+    if !detector_ok(d, !alone) {
+        return false;
+    }
+    if !queue::queue_ok(k, epoch, q) {
+        return false;
+    }
+    true
+}
+
+// Number 1 of a call that is lent the memory and the dirty marks.
+pub(crate) fn memory_ok(p: Primary, memory: usize, dirty: usize) -> bool
+    ensures { λ r. ⌜ r ≡ (primaryOk p && eqb memory (memoryLength p) && eqb dirty (marksLength p)) ⌝ }
+{
+    let g = p.settings;
+    let u = g.u;
+    let m = g.m;
+    if !primary_ok(p) {
+        return false;
+    }
+    if memory != m * u {
+        return false;
+    }
+    if dirty != (m + 63) / 64 {
+        return false;
+    }
+    true
+}

@@ -1,0 +1,248 @@
+// What leaves the primary on the link, and what comes back: drain and ACK.
+ghost use mathlib.Core.Path.{_≡_};
+ghost use mathlib.Core.Bool.{_&&_};
+ghost use mathlib.Core.List.{[], _∷_};
+ghost use lib.Dec.{ltb};
+ghost use Prim.Native.Nat.{_≤_, min};
+ghost use lib.ListN.{length, take};
+ghost use Rattle.lists.specs.Part.{put, removed};
+ghost use Rattle.lists.specs.Refusal.{test, refusal};
+ghost use Rattle.records.specs.Number.{badAck};
+ghost use Rattle.rules.specs.PrimaryState.{withWaiting, withAcknowledged};
+ghost use Rattle.rules.specs.Reply.{answerOf};
+ghost use Rattle.rules.specs.Stream.{drainRefusal, drainReply, drainStream, drainDestination, ackRefusal, ackJudged, ackState, ackReply};
+use crate::ranges::primary_ok;
+use detector::Detector;
+use records::Reader;
+use records::Record;
+use rules::Answer;
+use rules::Primary;
+use rules::PrimaryAnswer;
+use rules::PrimaryReply;
+
+fn with_waiting(p: Primary, waiting: usize) -> Primary
+    ensures { λ r. ⌜ r ≡ withWaiting p waiting ⌝ }
+{
+    let mut next = p;
+    next.waiting = waiting;
+    next
+}
+
+// What a drain is refused with: 1.
+fn drain_refusal(p: Primary, stream: usize) -> u64
+    ensures { λ r. ⌜ r ≡ drainRefusal p stream ⌝ }
+{
+    let g = p.settings;
+    let l = g.l;
+    if !primary_ok(p) {
+        return 1;
+    }
+    if stream != l {
+        return 1;
+    }
+    0
+}
+
+// The bytes that leave: the least of the three.
+fn drain_count(n: usize, waiting: usize, room: usize) -> usize
+    ensures { λ r. ⌜ r ≡ min n (min waiting room) ⌝ }
+{
+    let mut least = n;
+    if waiting < least {
+        least = waiting;
+    }
+    if room < least {
+        least = room;
+    }
+    least
+}
+
+// Copies the first count bytes of the stream to the destination, and moves the rest of those waiting to the front.
+fn move_out(stream: &mut [u8], count: usize, waiting: usize, destination: &mut [u8])
+    requires { ⌜ (count ≤ waiting) × (waiting ≤ length (now stream)) × (count ≤ length (now destination)) ⌝ }
+    ensures { λ _. ⌜ now (stream .exit) ≡ removed 0 count waiting (now (stream .entry)) ⌝ }
+    ensures { λ _. ⌜ now (destination .exit) ≡ put (now (destination .entry)) 0 (take count (now (stream .entry))) ⌝ }
+{
+    lists::copy_front(destination, lists::part_of(stream, 0, count));
+    lists::remove(stream, 0, count, waiting);
+}
+
+// Moves the first min(n, waiting, destination length) bytes out and reports how many.
+pub fn drain(p: Primary, stream: &mut [u8], n: usize, destination: &mut [u8]) -> PrimaryReply
+    ensures { λ r. ⌜ r ≡ drainReply p (length (now (stream .entry))) n (length (now (destination .entry))) ⌝ }
+    ensures { λ _. ⌜ now (stream .exit) ≡ drainStream p (now (stream .entry)) n (length (now (destination .entry))) ⌝ }
+    ensures { λ _. ⌜ now (destination .exit) ≡ drainDestination p (now (stream .entry)) n (now (destination .entry)) ⌝ }
+{
+    let waiting = p.waiting;
+    let number = drain_refusal(p, stream.len());
+    if number != 0 {
+        return PrimaryReply {
+            state: p,
+            number: number,
+            value: 0,
+        };
+    }
+    let count = drain_count(n, waiting, destination.len());
+    move_out(stream, count, waiting, destination);
+    let state = with_waiting(p, waiting - count);
+    PrimaryReply {
+        state: state,
+        number: 0,
+        value: count as u64,
+    }
+}
+
+// What an ACK of this epoch is refused with: 11.
+fn epoch_refusal(p: Primary, epoch: u32) -> u64
+    ensures { λ r. ⌜ r ≡ refusal (test badAck (ltb (p .acknowledged) epoch && ltb epoch (p .epoch)) ∷ []) ⌝ }
+{
+    let acknowledged = p.acknowledged;
+    let last = p.epoch;
+    if epoch <= acknowledged {
+        return 11;
+    }
+    if last <= epoch {
+        return 11;
+    }
+    0
+}
+
+// What a record that was read is refused with: 6 for other kinds, 11, or its own number.
+fn ack_refusal(p: Primary, r: Record) -> u64
+    ensures { λ n. ⌜ n ≡ ackRefusal p r ⌝ }
+{
+    match r {
+        Record::Page {
+            epoch: _,
+            page: _,
+            at: _,
+        } => 6,
+        Record::Block {
+            epoch: _,
+            block: _,
+            at: _,
+        } => 6,
+        Record::State { epoch: _, at: _ } => 6,
+        Record::Commit {
+            epoch: _,
+            pages: _,
+            blocks: _,
+            at: _,
+        } => 6,
+        Record::Ack { epoch, at: _ } => epoch_refusal(p, epoch),
+        Record::Short => 0,
+        Record::Refused { number } => number,
+    }
+}
+
+// The record at the head of the bytes where it is accepted, else cut short or the number.
+fn ack_judged(p: Primary, bytes: &[u8]) -> Record
+    ensures { λ r. ⌜ r ≡ ackJudged p (now (bytes .entry)) ⌝ }
+{
+    let g = p.settings;
+    let u = g.u;
+    let alone = p.alone;
+    if !primary_ok(p) {
+        return Record::Refused { number: 1 };
+    }
+    if alone {
+        return Record::Refused { number: 13 };
+    }
+    let r = records::reading::read(Reader::Primary, u, bytes);
+    let n = ack_refusal(p, r);
+    if n != 0 {
+        return Record::Refused { number: n };
+    }
+    r
+}
+
+fn with_acknowledged(p: Primary, acknowledged: u32, d: Detector) -> Primary
+    ensures { λ r. ⌜ r ≡ withAcknowledged p acknowledged d ⌝ }
+{
+    let mut next = p;
+    next.acknowledged = acknowledged;
+    next.detector = d;
+    next
+}
+
+// The state after a judged record: an ACK acknowledges all epochs up to its own, and the count returns to 0.
+fn ack_state(p: Primary, r: Record) -> Primary
+    ensures { λ n. ⌜ n ≡ ackState p r ⌝ }
+{
+    let d = detector::reset(p.detector);
+    match r {
+        Record::Page {
+            epoch: _,
+            page: _,
+            at: _,
+        } => p,
+        Record::Block {
+            epoch: _,
+            block: _,
+            at: _,
+        } => p,
+        Record::State { epoch: _, at: _ } => p,
+        Record::Commit {
+            epoch: _,
+            pages: _,
+            blocks: _,
+            at: _,
+        } => p,
+        Record::Ack { epoch, at: _ } => with_acknowledged(p, epoch, d),
+        Record::Short => p,
+        Record::Refused { number: _ } => p,
+    }
+}
+
+// What the judged record answers.
+fn answer_of(r: Record) -> Answer
+    ensures { λ a. ⌜ a ≡ answerOf r ⌝ }
+{
+    match r {
+        Record::Page {
+            epoch: _,
+            page: _,
+            at,
+        } => Answer::Accepted {
+            value: 1,
+            used: at.end,
+        },
+        Record::Block {
+            epoch: _,
+            block: _,
+            at,
+        } => Answer::Accepted {
+            value: 2,
+            used: at.end,
+        },
+        Record::State { epoch: _, at } => Answer::Accepted {
+            value: 3,
+            used: at.end,
+        },
+        Record::Commit {
+            epoch: _,
+            pages: _,
+            blocks: _,
+            at,
+        } => Answer::Accepted {
+            value: 4,
+            used: at.end,
+        },
+        Record::Ack { epoch, at } => Answer::Accepted {
+            value: epoch as u64,
+            used: at.end,
+        },
+        Record::Short => Answer::Short,
+        Record::Refused { number } => Answer::Refused { number },
+    }
+}
+
+// Reads an ACK: it acknowledges all epochs up to its own.
+pub fn acknowledge(p: Primary, bytes: &[u8]) -> PrimaryAnswer
+    ensures { λ r. ⌜ r ≡ ackReply p (now (bytes .entry)) ⌝ }
+{
+    let r = ack_judged(p, bytes);
+    let state = ack_state(p, r);
+    let answer = answer_of(r);
+    PrimaryAnswer { state, answer }
+}
