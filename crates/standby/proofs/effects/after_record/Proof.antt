@@ -1,0 +1,89 @@
+use mathlib.Core.Path.{_∙_}
+use borrow.Author.Needs.{needs}
+use Rattle.standby.proofs.effects.after_record.Statement.{statement}
+use Rattle.standby.proofs.effects.after_record.Tie as tie
+
+enum-known-r : tie.Need-enum-known-r
+enum-known-r c = search needs
+
+with-page-requires : tie.Need-with-page-requires
+with-page-requires c κs = rw (c .before .r .given .1) at (c .before .before .before .before .pre)
+
+enum-known-r-2 : tie.Need-enum-known-r-2
+enum-known-r-2 c = search needs
+
+with-block-requires : tie.Need-with-block-requires
+with-block-requires c κs = rw (c .before .r2 .given .1) at (c .before .before .before .before .pre)
+
+enum-known-r-3 : tie.Need-enum-known-r-3
+enum-known-r-3 c = search needs
+
+processor-requires : tie.Need-processor-requires
+processor-requires c κs = rw (c .before .r3 .given .1) at (c .before .before .before .before .pre)
+
+with-state-requires : tie.Need-with-state-requires
+with-state-requires c κs = search needs
+
+enum-known-r-4 : tie.Need-enum-known-r-4
+enum-known-r-4 c = search needs
+
+with-no-records-requires : tie.Need-with-no-records-requires
+with-no-records-requires c κs = search needs
+
+installed-state-requires : tie.Need-installed-state-requires
+installed-state-requires c κs = search needs
+
+enum-told : tie.Need-enum-told
+enum-told c = search needs
+
+enum-told-2 : tie.Need-enum-told-2
+enum-told-2 c = search needs
+
+enum-told-3 : tie.Need-enum-told-3
+enum-told-3 c = search needs
+
+returns : tie.Need-returns
+returns c = rw (c .before .before .r .given .1) (c .with-page .ensures)
+
+returns-2 : tie.Need-returns-2
+returns-2 c = rw (c .before .before .r2 .given .1) (c .with-block .ensures)
+
+returns-3 : tie.Need-returns-3
+returns-3 c = rw (c .before .before .before .r3 .given .1) (c .with-state .ensures ∙ rw (c .before .processor .ensures))
+
+returns-4 : tie.Need-returns-4
+returns-4 c = rw (c .before .before .before .r4 .given .1) (c .installed-state .ensures ∙ rw (c .before .with-no-records .ensures))
+
+returns-5 : tie.Need-returns-5
+returns-5 c = rw (c .enum-told .given .1)
+
+returns-6 : tie.Need-returns-6
+returns-6 c = rw (c .enum-told2 .given .1)
+
+returns-7 : tie.Need-returns-7
+returns-7 c = rw (c .enum-told3 .given .1)
+
+pub after-record-spec : {M : Type 1} → statement M
+after-record-spec =
+    tie.close
+    (tie.spec
+    enum-known-r
+    with-page-requires
+    enum-known-r-2
+    with-block-requires
+    enum-known-r-3
+    processor-requires
+    with-state-requires
+    enum-known-r-4
+    with-no-records-requires
+    installed-state-requires
+    enum-told
+    enum-told-2
+    enum-told-3
+    returns
+    returns-2
+    returns-3
+    returns-4
+    returns-5
+    returns-6
+    returns-7)

@@ -1,0 +1,55 @@
+use mathlib.Core.Path.{_∙_}
+use Rattle.rules.specs.Read.{readReply, readMemory, readStagedPages, readStagedMarks, readStagedBlocks, readReplyBytes}
+use Rattle.standby.proofs.FitsLaws.{judged-fits}
+use borrow.Author.Needs.{needs}
+use Rattle.standby.proofs.read.read.Statement.{statement}
+use Rattle.standby.proofs.read.read.Tie as tie
+
+judged-requires : tie.Need-judged-requires
+judged-requires c κs = search needs
+
+read-state-requires : tie.Need-read-state-requires
+read-state-requires c κs = rw (c .judged .ensures) (judged-fits _ _ _ .0)
+
+answer-of-requires : tie.Need-answer-of-requires
+answer-of-requires c κs = search needs
+
+apply-requires : tie.Need-apply-requires
+apply-requires c κs = rw (c .before .before .before .before .before .before .before .judged .ensures) (judged-fits _ _ _ .1)
+
+same-length : tie.Need-same-length
+same-length c = search needs
+
+same-length-2 : tie.Need-same-length-2
+same-length-2 c = search needs
+
+same-length-3 : tie.Need-same-length-3
+same-length-3 c = search needs
+
+same-length-4 : tie.Need-same-length-4
+same-length-4 c = search needs
+
+same-length-5 : tie.Need-same-length-5
+same-length-5 c = search needs
+
+returns : tie.Need-returns
+unfolding readReply readMemory readStagedPages readStagedMarks readStagedBlocks readReplyBytes
+returns c =
+    let j = c .before .before .before .before .before .before .before .before .before .before .before .before .before .before .before .before .before .before .judged .ensures in
+    let w = c .before .before .before .before .before .before .before .before .before .before .apply .ensures in
+    (rw (c .before .before .before .before .before .before .before .before .before .before .before .before .before .before .before .before .before .read-state .ensures, c .before .before .before .before .before .before .before .before .before .before .before .before .before .before .before .before .answer-of .ensures, j), (w .0 ∙ rw j, (w .1 .0 ∙ rw j, (w .1 .1 .0 ∙ rw j, (w .1 .1 .1 .0 ∙ rw j, w .1 .1 .1 .1 ∙ rw j)))))
+
+pub read-spec : {M : Type 1} → statement M
+read-spec =
+    tie.close
+    (tie.spec
+    judged-requires
+    read-state-requires
+    answer-of-requires
+    apply-requires
+    same-length
+    same-length-2
+    same-length-3
+    same-length-4
+    same-length-5
+    returns)

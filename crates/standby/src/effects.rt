@@ -1,0 +1,247 @@
+// What a judged record does to the state and to each lent buffer.
+ghost use mathlib.Core.Path.{_≡_};
+ghost use Prim.Native.Nat.{_+_, _*_, _^_, _≤_, _<_};
+ghost use lib.ListN.{length};
+ghost use Rattle.lists.specs.Part.{put};
+ghost use Rattle.lists.specs.Page.{withPage};
+ghost use Rattle.records.specs.Kind.{processorBytes};
+ghost use Rattle.records.specs.Write.{ackRecord};
+ghost use Rattle.settings.specs.Range.{mostSlots};
+ghost use Rattle.marks.specs.Mark.{withMark, cleared};
+ghost use Rattle.pages.specs.Dirty.{installed};
+ghost use Rattle.staging.specs.Slot.{withBlock, withBlockBytes};
+ghost use Rattle.rules.specs.StandbyState.{withPages, withSlots};
+ghost use Rattle.rules.specs.Reply.{answerOf};
+ghost use Rattle.rules.specs.Read.{bytesAt, detectorAfter, installedState, afterRecord, readState, memoryAfter, stagedPagesAfter, stagedMarksAfter, stagedBlocksAfter, replyAfter, readLent};
+ghost use Rattle.standby.specs.Fits.{FieldFits, StateFits, BuffersFit};
+use crate::parts;
+use detector::Detector;
+use records::COMMIT;
+use records::Cursor;
+use records::Record;
+use rules::Answer;
+use rules::Standby;
+use staging::Slots;
+
+// The field of bytes of a record.
+fn field(bytes: &[u8], at: Cursor) -> &[u8]
+    requires { ⌜ (at .start ≤ at .end) × (at .end ≤ length (now bytes)) ⌝ }
+    ensures { λ r. ⌜ now r ≡ bytesAt at (now (bytes .entry)) ⌝ }
+{
+    let start = at.start;
+    let end = at.end;
+    lists::part_of(bytes, start, end - start)
+}
+
+// The processor state that a STATE brings.
+fn processor(bytes: &[u8], at: Cursor) -> [u8; 64]
+    requires { ⌜ FieldFits (length (now bytes)) processorBytes at ⌝ }
+    ensures { λ r. ⌜ r ≡ bytesAt at (now (bytes .entry)) ⌝ }
+{
+    let mut out = [0u8; 64];
+    lists::copy_front(&mut out, field(bytes, at));
+    out
+}
+
+// One page more of the epoch.
+fn with_page(s: Standby, page: usize) -> Standby
+    requires { ⌜ (s .pages + 1 < 2 ^ 64) × (page + 1 < 2 ^ 64) ⌝ }
+    ensures { λ r. ⌜ r ≡ withPages s (s .pages + 1) (page + 1) ⌝ }
+{
+    let pages = s.pages;
+    parts::with_pages(s, pages + 1, page + 1)
+}
+
+// One block more of the epoch, staged and not due.
+fn with_block(s: Standby, block: usize) -> Standby
+    requires { ⌜ (s .slots .staged < mostSlots) × (s .blocks + 1 < 2 ^ 64) ⌝ }
+    ensures { λ r. ⌜ r ≡ withSlots s (withBlock (s .slots) block) (s .blocks + 1) ⌝ }
+{
+    let k = s.slots;
+    let blocks = s.blocks;
+    let slots = staging::with_block(k, block);
+    parts::with_slots(s, slots, blocks + 1)
+}
+
+// A checkpoint is installed: "keeps the processor state, makes the epoch's staged blocks due"; its epoch is the last received.
+fn installed_state(s: Standby, epoch: u32) -> Standby
+    ensures { λ r. ⌜ r ≡ installedState s epoch ⌝ }
+{
+    let k = s.slots;
+    let pending = s.pending;
+    let due = staging::all_due(k);
+    parts::with_received(s, epoch, due, pending)
+}
+
+// The state after a record, but for the detector.
+fn after_record(s: Standby, bytes: &[u8], r: Record) -> Standby
+    requires { ⌜ StateFits s (length (now bytes)) r ⌝ }
+    ensures { λ n. ⌜ n ≡ afterRecord s (now (bytes .entry)) r ⌝ }
+{
+    match r {
+        Record::Page {
+            epoch: _,
+            page,
+            at: _,
+        } => with_page(s, page),
+        Record::Block {
+            epoch: _,
+            block,
+            at: _,
+        } => with_block(s, block),
+        Record::State { epoch: _, at } => parts::with_state(s, processor(bytes, at)),
+        Record::Commit {
+            epoch,
+            pages: _,
+            blocks: _,
+            at: _,
+        } => installed_state(parts::with_no_records(s), epoch),
+        Record::Ack { epoch: _, at: _ } => s,
+        Record::Short => s,
+        Record::Refused { number: _ } => s,
+    }
+}
+
+// "returns to 0 at each accepted COMMIT".
+fn detector_after(kind: u64, d: Detector) -> Detector
+    ensures { λ r. ⌜ r ≡ detectorAfter kind d ⌝ }
+{
+    if kind == COMMIT as u64 {
+        return detector::reset(d);
+    }
+    d
+}
+
+// The state after a record.
+pub(crate) fn read_state(s: Standby, bytes: &[u8], r: Record) -> Standby
+    requires { ⌜ StateFits s (length (now bytes)) r ⌝ }
+    ensures { λ n. ⌜ n ≡ readState s (now (bytes .entry)) r ⌝ }
+{
+    let d = s.detector;
+    let next = after_record(s, bytes, r);
+    let detector = detector_after(records::reading::kind_of(r), d);
+    parts::with_detector(next, detector)
+}
+
+// What a read answers, by the record judged: the kind is the value.
+pub(crate) fn answer_of(r: Record) -> Answer
+    ensures { λ a. ⌜ a ≡ answerOf r ⌝ }
+{
+    match r {
+        Record::Page {
+            epoch: _,
+            page: _,
+            at,
+        } => Answer::Accepted {
+            value: 1,
+            used: at.end,
+        },
+        Record::Block {
+            epoch: _,
+            block: _,
+            at,
+        } => Answer::Accepted {
+            value: 2,
+            used: at.end,
+        },
+        Record::State { epoch: _, at } => Answer::Accepted {
+            value: 3,
+            used: at.end,
+        },
+        Record::Commit {
+            epoch: _,
+            pages: _,
+            blocks: _,
+            at,
+        } => Answer::Accepted {
+            value: 4,
+            used: at.end,
+        },
+        Record::Ack { epoch, at } => Answer::Accepted {
+            value: epoch as u64,
+            used: at.end,
+        },
+        Record::Short => Answer::Short,
+        Record::Refused { number } => Answer::Refused { number },
+    }
+}
+
+// PAGE: the page is staged and marked.
+fn stage_page(pages: &mut [u8], marks: &mut [u64], bytes: &[u8], u: usize, page: usize, at: Cursor)
+    requires { ⌜ (page * u + u ≤ length (now pages)) × FieldFits (length (now bytes)) u at ⌝ }
+    ensures { λ _. ⌜ now (pages .exit) ≡ withPage u (now (pages .entry)) page (bytesAt at (now (bytes .entry))) ⌝ }
+    ensures { λ _. ⌜ now (marks .exit) ≡ withMark (now (marks .entry)) page ⌝ }
+{
+    lists::copy_into(pages, page * u, field(bytes, at));
+    marks::mark(marks, page);
+}
+
+// BLOCK: the block is staged in the next slot.
+fn stage_block(blocks: &mut [u8], bytes: &[u8], k: Slots, u: usize, at: Cursor)
+    requires { ⌜ (k .staged * u + u ≤ length (now blocks)) × FieldFits (length (now bytes)) u at ⌝ }
+    ensures { λ _. ⌜ now (blocks .exit) ≡ withBlockBytes u k (now (blocks .entry)) (bytesAt at (now (bytes .entry))) ⌝ }
+{
+    staging::stage_block(blocks, k, u, field(bytes, at));
+}
+
+// COMMIT: "copies the staged pages into memory, clears their marks", "writes the ACK into the first 8 bytes of the reply buffer".
+fn install(
+    memory: &mut [u8],
+    pages: &[u8],
+    marks: &mut [u64],
+    reply: &mut [u8],
+    u: usize,
+    m: usize,
+    epoch: u32,
+)
+    requires { ⌜ (length (now memory) ≡ m * u) × (length (now pages) ≡ m * u) × (8 ≤ length (now reply)) ⌝ }
+    ensures { λ _. ⌜ now (memory .exit) ≡ installed (now (memory .entry)) (now (pages .entry)) (now (marks .entry)) u m ⌝ }
+    ensures { λ _. ⌜ now (marks .exit) ≡ cleared (now (marks .entry)) m ⌝ }
+    ensures { λ _. ⌜ now (reply .exit) ≡ put (now (reply .entry)) 0 (ackRecord epoch) ⌝ }
+{
+    pages::install(memory, pages, marks, u, m);
+    marks::clear(marks, m);
+    records::writing::write_ack(reply, epoch);
+}
+
+// Each lent buffer after a record.
+pub(crate) fn apply(
+    s: Standby,
+    bytes: &[u8],
+    memory: &mut [u8],
+    pages: &mut [u8],
+    marks: &mut [u64],
+    blocks: &mut [u8],
+    reply: &mut [u8],
+    r: Record,
+)
+    requires { ⌜ BuffersFit s (readLent (now memory) (now pages) (now marks) (now blocks) (now reply)) (length (now bytes)) r ⌝ }
+    ensures { λ _. ⌜ now (memory .exit) ≡ memoryAfter s (now (memory .entry)) (now (pages .entry)) (now (marks .entry)) r ⌝ }
+    ensures { λ _. ⌜ now (pages .exit) ≡ stagedPagesAfter s (now (bytes .entry)) (now (pages .entry)) r ⌝ }
+    ensures { λ _. ⌜ now (marks .exit) ≡ stagedMarksAfter s (now (marks .entry)) r ⌝ }
+    ensures { λ _. ⌜ now (blocks .exit) ≡ stagedBlocksAfter s (now (bytes .entry)) (now (blocks .entry)) r ⌝ }
+    ensures { λ _. ⌜ now (reply .exit) ≡ replyAfter (now (reply .entry)) r ⌝ }
+{
+    let g = s.settings;
+    let k = s.slots;
+    let u = g.u;
+    let m = g.m;
+    match r {
+        Record::Page { epoch: _, page, at } => stage_page(pages, marks, bytes, u, page, at),
+        Record::Block {
+            epoch: _,
+            block: _,
+            at,
+        } => stage_block(blocks, bytes, k, u, at),
+        Record::State { epoch: _, at: _ } => {}
+        Record::Commit {
+            epoch,
+            pages: _,
+            blocks: _,
+            at: _,
+        } => install(memory, pages, marks, reply, u, m, epoch),
+        Record::Ack { epoch: _, at: _ } => {}
+        Record::Short => {}
+        Record::Refused { number: _ } => {}
+    }
+}

@@ -1,0 +1,186 @@
+// What a record is refused with: the record that an accepted read finds, else cut short or the number.
+ghost use mathlib.Core.Path.{_≡_};
+ghost use mathlib.Core.Bool.{true};
+ghost use Rattle.rules.specs.StandbyState.{standbyOk};
+ghost use Rattle.rules.specs.Judge.{readLentOk, pageRefusal, blockRefusal, stateRefusal, commitRefusal, recordRefusal, judged};
+use crate::ranges;
+use records::Reader;
+use records::Record;
+use rules::ReadLent;
+use rules::Standby;
+
+// PAGE: 2 8 9. The epoch is compared in 64 bits, so that the last received epoch may be the last that there is.
+fn page_refusal(s: Standby, epoch: u32, page: usize) -> u64
+    ensures { λ r. ⌜ r ≡ pageRefusal s epoch page ⌝ }
+{
+    let g = s.settings;
+    let m = g.m;
+    let received = s.received as u64;
+    let next = s.next;
+    let seen = s.seen;
+    if m <= page {
+        return 2;
+    }
+    if epoch as u64 != received + 1 {
+        return 8;
+    }
+    if page < next {
+        return 9;
+    }
+    if seen {
+        return 9;
+    }
+    0
+}
+
+// BLOCK: 2 8 9 14 17.
+fn block_refusal(s: Standby, epoch: u32, block: usize) -> u64
+    ensures { λ r. ⌜ r ≡ blockRefusal s epoch block ⌝ }
+{
+    let g = s.settings;
+    let d = g.d;
+    let most = g.b;
+    let room = g.s;
+    let slots = s.slots;
+    let received = s.received as u64;
+    let next = s.next;
+    let seen = s.seen;
+    let blocks = s.blocks;
+    let free = staging::free_slots(slots, room);
+    if d <= block {
+        return 2;
+    }
+    if epoch as u64 != received + 1 {
+        return 8;
+    }
+    if next != 0 {
+        return 9;
+    }
+    if seen {
+        return 9;
+    }
+    if most <= blocks {
+        return 14;
+    }
+    if free == 0 {
+        return 17;
+    }
+    0
+}
+
+// STATE: 8 9.
+fn state_refusal(s: Standby, epoch: u32) -> u64
+    ensures { λ r. ⌜ r ≡ stateRefusal s epoch ⌝ }
+{
+    let received = s.received as u64;
+    let seen = s.seen;
+    if epoch as u64 != received + 1 {
+        return 8;
+    }
+    if seen {
+        return 9;
+    }
+    0
+}
+
+// COMMIT: 5 8 9 10.
+fn commit_refusal(s: Standby, reply: usize, epoch: u32, pages: usize, blocks: usize) -> u64
+    ensures { λ r. ⌜ r ≡ commitRefusal s reply epoch pages blocks ⌝ }
+{
+    let received = s.received as u64;
+    let seen = s.seen;
+    let had_pages = s.pages;
+    let had_blocks = s.blocks;
+    if reply < 8 {
+        return 5;
+    }
+    if epoch as u64 != received + 1 {
+        return 8;
+    }
+    if !seen {
+        return 9;
+    }
+    if pages != had_pages {
+        return 10;
+    }
+    if blocks != had_blocks {
+        return 10;
+    }
+    0
+}
+
+fn record_refusal(s: Standby, reply: usize, r: Record) -> u64
+    ensures { λ n. ⌜ n ≡ recordRefusal s reply r ⌝ }
+{
+    match r {
+        Record::Page { epoch, page, at: _ } => page_refusal(s, epoch, page),
+        Record::Block {
+            epoch,
+            block,
+            at: _,
+        } => block_refusal(s, epoch, block),
+        Record::State { epoch, at: _ } => state_refusal(s, epoch),
+        Record::Commit {
+            epoch,
+            pages,
+            blocks,
+            at: _,
+        } => commit_refusal(s, reply, epoch, pages, blocks),
+        Record::Ack { epoch: _, at: _ } => 6,
+        Record::Short => 0,
+        Record::Refused { number } => number,
+    }
+}
+
+// "Lent lengths are exact", of a state in its ranges, so that no product wraps. The reply buffer may be of any length.
+fn lent_ok(s: Standby, l: ReadLent) -> bool
+    requires { ⌜ standbyOk s ≡ true ⌝ }
+    ensures { λ r. ⌜ r ≡ readLentOk s l ⌝ }
+{
+    let g = s.settings;
+    let u = g.u;
+    let m = g.m;
+    let slots = g.s;
+    let memory = l.memory;
+    let pages = l.pages;
+    let marks = l.marks;
+    let blocks = l.blocks;
+    if memory != m * u {
+        return false;
+    }
+    if pages != m * u {
+        return false;
+    }
+    if marks != (m + 63) / 64 {
+        return false;
+    }
+    if blocks != slots * u {
+        return false;
+    }
+    true
+}
+
+// The record at the head of the bytes where it is accepted, else cut short or the number.
+pub(crate) fn judged(s: Standby, l: ReadLent, bytes: &[u8]) -> Record
+    ensures { λ r. ⌜ r ≡ judged s l (now (bytes .entry)) ⌝ }
+{
+    let g = s.settings;
+    let mode = s.mode;
+    let u = g.u;
+    let reply = l.reply;
+    if !ranges::standby_ok(s) {
+        return Record::Refused { number: 1 };
+    }
+    if !lent_ok(s, l) {
+        return Record::Refused { number: 1 };
+    }
+    if !ranges::is_receiving(mode) {
+        return Record::Refused { number: 13 };
+    }
+    let r = records::reading::read(Reader::Standby, u, bytes);
+    let n = record_refusal(s, reply, r);
+    if n != 0 {
+        return Record::Refused { number: n };
+    }
+    r
+}

@@ -1,0 +1,88 @@
+// The standby's state with parts of it replaced.
+ghost use mathlib.Core.Path.{_≡_};
+ghost use Rattle.rules.specs.StandbyState.{withPages, withSlots, withState, withNoRecords, withReceived, withDetector, withMode};
+use detector::Detector;
+use rules::Mode;
+use rules::Standby;
+use staging::Slots;
+
+pub fn with_pages(s: Standby, pages: usize, next: usize) -> Standby
+    ensures { λ r. ⌜ r ≡ withPages s pages next ⌝ }
+{
+    let mut t = s;
+    t.pages = pages;
+    t.next = next;
+    t
+}
+
+pub fn with_slots(s: Standby, slots: Slots, blocks: usize) -> Standby
+    ensures { λ r. ⌜ r ≡ withSlots s slots blocks ⌝ }
+{
+    let mut t = s;
+    t.slots = slots;
+    t.blocks = blocks;
+    t
+}
+
+pub fn with_state(s: Standby, processor: [u8; 64]) -> Standby
+    ensures { λ r. ⌜ r ≡ withState s processor ⌝ }
+{
+    let mut t = s;
+    t.seen = true;
+    t.pending = processor;
+    t
+}
+
+// The epoch's counts, next page and STATE seen, as they are before its first record.
+pub fn with_no_records(s: Standby) -> Standby
+    ensures { λ r. ⌜ r ≡ withNoRecords s ⌝ }
+{
+    let mut t = s;
+    t.blocks = 0;
+    t.pages = 0;
+    t.next = 0;
+    t.seen = false;
+    t
+}
+
+pub fn with_received(s: Standby, received: u32, slots: Slots, processor: [u8; 64]) -> Standby
+    ensures { λ r. ⌜ r ≡ withReceived s received slots processor ⌝ }
+{
+    let mut t = s;
+    t.received = received;
+    t.slots = slots;
+    t.processor = processor;
+    t
+}
+
+pub fn with_detector(s: Standby, detector: Detector) -> Standby
+    ensures { λ r. ⌜ r ≡ withDetector s detector ⌝ }
+{
+    let mut t = s;
+    t.detector = detector;
+    t
+}
+
+// An enum field is not stored to: the struct is built anew.
+pub fn with_mode(s: Standby, mode: Mode) -> Standby
+    ensures { λ r. ⌜ r ≡ withMode s mode ⌝ }
+{
+    let settings = s.settings;
+    let detector = s.detector;
+    let slots = s.slots;
+    let pending = s.pending;
+    let processor = s.processor;
+    Standby {
+        settings: settings,
+        detector: detector,
+        mode: mode,
+        received: s.received,
+        slots: slots,
+        blocks: s.blocks,
+        pages: s.pages,
+        next: s.next,
+        seen: s.seen,
+        pending: pending,
+        processor: processor,
+    }
+}

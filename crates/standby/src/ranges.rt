@@ -1,0 +1,93 @@
+// Number 1: whether the standby's state is in its ranges, and its mode.
+ghost use mathlib.Core.Path.{_≡_};
+ghost use Rattle.rules.specs.Common.{detectorOk};
+ghost use Rattle.rules.specs.StandbyState.{isReceiving, isTakingOver, isActive, standbyOk};
+use detector::Detector;
+use rules::Mode;
+use rules::Standby;
+
+pub fn is_receiving(mode: Mode) -> bool
+    ensures { λ r. ⌜ r ≡ isReceiving mode ⌝ }
+{
+    match mode {
+        Mode::Receiving => true,
+        Mode::TakingOver => false,
+        Mode::Active => false,
+    }
+}
+
+pub fn is_taking_over(mode: Mode) -> bool
+    ensures { λ r. ⌜ r ≡ isTakingOver mode ⌝ }
+{
+    match mode {
+        Mode::Receiving => false,
+        Mode::TakingOver => true,
+        Mode::Active => false,
+    }
+}
+
+pub fn is_active(mode: Mode) -> bool
+    ensures { λ r. ⌜ r ≡ isActive mode ⌝ }
+{
+    match mode {
+        Mode::Receiving => false,
+        Mode::TakingOver => false,
+        Mode::Active => true,
+    }
+}
+
+// Whether the detector is in its ranges; watching is whether its ticks count.
+fn detector_ok(d: Detector, watching: bool) -> bool
+    ensures { λ r. ⌜ r ≡ detectorOk d watching ⌝ }
+{
+    let patience = d.patience;
+    let count = d.count;
+    if patience < 1 {
+        return false;
+    }
+    if 60000 < patience {
+        return false;
+    }
+    if patience < count {
+        return false;
+    }
+    if !watching {
+        return true;
+    }
+    if patience <= count {
+        return false;
+    }
+    true
+}
+
+// Whether the state is in its ranges.
+pub fn standby_ok(s: Standby) -> bool
+    ensures { λ r. ⌜ r ≡ standbyOk s ⌝ }
+{
+    let g = s.settings;
+    let d = s.detector;
+    let mode = s.mode;
+    let k = s.slots;
+    let blocks = s.blocks;
+    let pages = s.pages;
+    let most_pages = g.m;
+    let disk_blocks = g.d;
+    let most_blocks = g.b;
+    let most_slots = g.s;
+    if !settings::standby_settings_ok(g) {
+        return false;
+    }
+    if !staging::slots_ok(k, most_slots, disk_blocks) {
+        return false;
+    }
+    if most_blocks < blocks {
+        return false;
+    }
+    if most_pages < pages {
+        return false;
+    }
+    if !detector_ok(d, is_receiving(mode)) {
+        return false;
+    }
+    true
+}

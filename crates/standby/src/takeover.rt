@@ -1,0 +1,257 @@
+// The standby's tick, activation, and the guest's writes once it is active.
+ghost use mathlib.Core.Path.{_≡_};
+ghost use mathlib.Core.Bool.{cond};
+ghost use lib.ListN.{length};
+ghost use Rattle.marks.specs.Mark.{cleared};
+ghost use Rattle.detector.specs.Tick.{expired};
+ghost use Rattle.rules.specs.declared.Mode.the-variants.{TakingOver};
+ghost use Rattle.rules.specs.StandbyState.{withDetector, withMode};
+ghost use Rattle.rules.specs.Takeover.{dropped, standbyTickRefusal, standbyTickReply, standbyTickMarks, activationRefusal, activationReply, activationArea, activeMemoryWriteRefusal, activeMemoryWriteReply, activeMemoryWriteMemory, activeDiskWriteRefusal, activeDiskWriteReply, activeDiskWriteDisk};
+use crate::parts::with_detector;
+use crate::parts::with_mode;
+use crate::parts::with_no_records;
+use crate::parts::with_slots;
+use crate::ranges::is_active;
+use crate::ranges::is_receiving;
+use crate::ranges::is_taking_over;
+use crate::ranges::standby_ok;
+use detector::Detector;
+use rules::Mode;
+use rules::Standby;
+use rules::StandbyReply;
+
+// The refusal of a tick, from the length of the staged marks.
+fn tick_refusal(s: Standby, marks: usize) -> u64
+    ensures { λ r. ⌜ r ≡ standbyTickRefusal s marks ⌝ }
+{
+    let g = s.settings;
+    let m = g.m;
+    if !standby_ok(s) {
+        return 1;
+    }
+    if marks != (m + 63) / 64 {
+        return 1;
+    }
+    0
+}
+
+// Staged pages and blocks not yet due are dropped: the state.
+fn drop_staged(s: Standby) -> Standby
+    ensures { λ r. ⌜ r ≡ dropped s ⌝ }
+{
+    let k = s.slots;
+    with_no_records(with_slots(s, staging::only_due(k), 0))
+}
+
+// The same for the staged marks, where the standby takes over.
+fn drop_marks(marks: &mut [u64], m: usize, over: bool)
+    ensures { λ _. ⌜ now (marks .exit) ≡ cond over (cleared (now (marks .entry)) m) (now (marks .entry)) ⌝ }
+{
+    if over {
+        marks::clear(marks, m);
+    }
+}
+
+// The state of a standby that receives, with its detector ticked: at T it takes over.
+fn counted(s: Standby, d: Detector) -> Standby
+    ensures { λ r. ⌜ r ≡ cond (expired d) (withMode (dropped (withDetector s d)) TakingOver) (withDetector s d) ⌝ }
+{
+    let t = with_detector(s, d);
+    if !detector::expired(d) {
+        return t;
+    }
+    with_mode(drop_staged(t), Mode::TakingOver)
+}
+
+// The standby's tick.
+pub fn tick(s: Standby, marks: &mut [u64]) -> StandbyReply
+    ensures { λ r. ⌜ r ≡ standbyTickReply s (length (now (marks .entry))) ⌝ }
+    ensures { λ _. ⌜ now (marks .exit) ≡ standbyTickMarks s (now (marks .entry)) ⌝ }
+{
+    let g = s.settings;
+    let m = g.m;
+    let old = s.detector;
+    let mode = s.mode;
+    let number = tick_refusal(s, marks.len());
+    if number != 0 {
+        return StandbyReply {
+            state: s,
+            number: number,
+            value: 0,
+        };
+    }
+    if !is_receiving(mode) {
+        return StandbyReply {
+            state: s,
+            number: 0,
+            value: 0,
+        };
+    }
+    let d = detector::ticked_in_place(old, true);
+    let state = counted(s, d);
+    drop_marks(marks, m, detector::expired(d));
+    StandbyReply {
+        state: state,
+        number: 0,
+        value: 0,
+    }
+}
+
+// The refusal of an activation, from the length of the record area.
+fn activation_refusal(s: Standby, area: usize) -> u64
+    ensures { λ r. ⌜ r ≡ activationRefusal s area ⌝ }
+{
+    let mode = s.mode;
+    let k = s.slots;
+    let due = k.due;
+    if !standby_ok(s) {
+        return 1;
+    }
+    if area != 8 {
+        return 1;
+    }
+    if !is_taking_over(mode) {
+        return 13;
+    }
+    if due != 0 {
+        return 20;
+    }
+    0
+}
+
+// Activation: the record with the last received epoch is written, and the standby is active.
+pub fn activate(s: Standby, area: &mut [u8]) -> StandbyReply
+    ensures { λ r. ⌜ r ≡ activationReply s (length (now (area .entry))) ⌝ }
+    ensures { λ _. ⌜ now (area .exit) ≡ activationArea s (now (area .entry)) ⌝ }
+{
+    let received = s.received;
+    let value = received as u64;
+    let number = activation_refusal(s, area.len());
+    if number != 0 {
+        return StandbyReply {
+            state: s,
+            number: number,
+            value: 0,
+        };
+    }
+    records::writing::write_activation(area, received);
+    let state = with_mode(s, Mode::Active);
+    StandbyReply {
+        state: state,
+        number: 0,
+        value: value,
+    }
+}
+
+// The refusal of a memory write, from the lengths of the memory and of the bytes.
+fn memory_write_refusal(s: Standby, memory: usize, page: usize, offset: usize, n: usize) -> u64
+    ensures { λ r. ⌜ r ≡ activeMemoryWriteRefusal s memory page offset n ⌝ }
+{
+    let g = s.settings;
+    let u = g.u;
+    let m = g.m;
+    let mode = s.mode;
+    if !standby_ok(s) {
+        return 1;
+    }
+    if memory != m * u {
+        return 1;
+    }
+    if !is_active(mode) {
+        return 13;
+    }
+    if m <= page {
+        return 2;
+    }
+    if n < 1 {
+        return 3;
+    }
+    // no sum is made, so none can wrap
+    if u < offset {
+        return 3;
+    }
+    if u - offset < n {
+        return 3;
+    }
+    0
+}
+
+// The guest's memory write once the standby is active.
+pub fn memory_write(
+    s: Standby,
+    memory: &mut [u8],
+    page: usize,
+    offset: usize,
+    bytes: &[u8],
+) -> StandbyReply
+    ensures { λ r. ⌜ r ≡ activeMemoryWriteReply s (length (now (memory .entry))) page offset (length (now (bytes .entry))) ⌝ }
+    ensures { λ _. ⌜ now (memory .exit) ≡ activeMemoryWriteMemory s (now (memory .entry)) page offset (now (bytes .entry)) ⌝ }
+{
+    let g = s.settings;
+    let u = g.u;
+    let received = s.received;
+    let number = memory_write_refusal(s, memory.len(), page, offset, bytes.len());
+    if number != 0 {
+        return StandbyReply {
+            state: s,
+            number: number,
+            value: 0,
+        };
+    }
+    lists::copy_into(memory, page * u + offset, bytes);
+    StandbyReply {
+        state: s,
+        number: 0,
+        value: received as u64,
+    }
+}
+
+// The refusal of a disk write, from the lengths of the disk and of the bytes.
+fn disk_write_refusal(s: Standby, disk: usize, block: usize, n: usize) -> u64
+    ensures { λ r. ⌜ r ≡ activeDiskWriteRefusal s disk block n ⌝ }
+{
+    let g = s.settings;
+    let u = g.u;
+    let d = g.d;
+    let mode = s.mode;
+    if !standby_ok(s) {
+        return 1;
+    }
+    if disk != d * u {
+        return 1;
+    }
+    if !is_active(mode) {
+        return 13;
+    }
+    if d <= block {
+        return 2;
+    }
+    if n != u {
+        return 3;
+    }
+    0
+}
+
+// The guest's disk write once the standby is active.
+pub fn disk_write(s: Standby, disk: &mut [u8], block: usize, bytes: &[u8]) -> StandbyReply
+    ensures { λ r. ⌜ r ≡ activeDiskWriteReply s (length (now (disk .entry))) block (length (now (bytes .entry))) ⌝ }
+    ensures { λ _. ⌜ now (disk .exit) ≡ activeDiskWriteDisk s (now (disk .entry)) block (now (bytes .entry)) ⌝ }
+{
+    let g = s.settings;
+    let u = g.u;
+    let received = s.received;
+    let number = disk_write_refusal(s, disk.len(), block, bytes.len());
+    if number != 0 {
+        return StandbyReply {
+            state: s,
+            number: number,
+            value: 0,
+        };
+    }
+    lists::copy_into(disk, block * u, bytes);
+    StandbyReply {
+        state: s,
+        number: 0,
+        value: received as u64,
+    }
+}
