@@ -1,4 +1,4 @@
--- The four claims of specs/Corollaries.antt, from demand 3. Assumes nothing.
+-- The first four claims of specs/Corollaries.antt, from demand 3. Assumes nothing.
 use Prim.Native.Nat.{ℕ, _≤_}
 use mathlib.Core.Path.{_≡_, refl, sym, ap, _∙_, subst}
 use mathlib.Core.Bool.{true, cond}
@@ -45,11 +45,11 @@ activation-plain u b e = rw (eq-eqb _ _ e) (record { activated = refl; memory = 
 
 module _ (g : Settings) (processor : Processor) (buffers : Buffers) (started : startNumber g buffers ≡ 0) where
   -- demand 3 of a list, with no cut
-  whole : (calls : List Call) → WholeRun steps g (startBoth g processor buffers) calls
+  pub whole : (calls : List Call) → WholeRun steps g (startBoth g processor buffers) calls
   whole calls = subst (WholeRun steps g (startBoth g processor buffers)) (counted-uncut calls) (demand-3 g processor buffers started calls noCut)
 
   -- after a list and one call more, and to a later point
-  after-call : (before : List Call) (c : Call) (later : List Call)
+  pub after-call : (before : List Call) (c : Call) (later : List Call)
       → pairAfter g processor buffers (before ++ (c ∷ later)) ≡ run steps (g .u) (runCall steps (g .u) (pairAfter g processor buffers before) c) later
   after-call before c later = run-append steps (g .u) before (c ∷ later) (startBoth g processor buffers)
 

@@ -114,6 +114,9 @@ holds g t b i =
       standby = standby-right g b i;
       takeover = λ a n d. t b i a n d;
       disks = disks-right g b i;
+      protection = i .holds .detector .aloneIs;
+      received = i .holds .taker .receivedIs;
+      acknowledged = i .holds .detector .acknowledgedIs;
       receivedExists = received-exists g b i;
       acknowledgedReceived = acknowledged-received g b i;
     }

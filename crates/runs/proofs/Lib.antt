@@ -39,3 +39,4 @@ pub mod TakeoverCalls
 pub mod Proved
 pub mod PlainLaws
 pub mod Corollaries
+pub mod ActiveLaws

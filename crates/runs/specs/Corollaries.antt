@@ -1,8 +1,8 @@
--- What a service engineer reads off demand 3: four claims about every run. Assumes nothing.
+-- What a service engineer reads off demand 3: five claims about every run. Assumes nothing.
 -- The calls that count at a cut, `countedCalls cut calls`, are themselves a list of calls: a claim about every list holds at every cut.
 use Prim.Native.Nat.{ℕ, _≤_, _<_}
 use mathlib.Core.Path.{_≡_}
-use mathlib.Core.Bool.{false}
+use mathlib.Core.Bool.{true, false}
 use mathlib.Core.List.{List, [], _∷_, _++_}
 use lib.ListN.{length, getD}
 use Rattle.settings.specs.declared.Settings.{Settings}
@@ -46,7 +46,7 @@ module _ (g : Settings) (processor : Processor) (buffers : Buffers) where
   abbrev pub answerAfter : List Call → Call → Stepped
   answerAfter calls c = step (pairAfter calls .world) c
 
-  -- ---- 1. a packet that left under protection is in checkpoint r ever after: the one that any later takeover gives
+  -- ---- 1. a packet that left under protection is in checkpoint r ever after: by demand 3 the one that any later takeover gives
   abbrev pub PacketSaved : Type 0
   PacketSaved =
       (before : List Call) (destination : List ℕ) (later : List Call)
@@ -75,6 +75,12 @@ module _ (g : Settings) (processor : Processor) (buffers : Buffers) where
   abbrev pub PrimaryDiskUntilActivation : Type 0
   PrimaryDiskUntilActivation =
       (calls : List Call) (cut : Cut) → pairAfter (countedCalls cut calls) .plain .activated ≡ false → PrimaryDiskValid (pairAfter (countedCalls cut calls))
+
+  -- ---- 5. once the standby is active it stays so, and r is fixed: what leaves later under protection was accepted before the checkpoint that it took over
+  abbrev pub ReceivedFixed : Type 0
+  ReceivedFixed =
+      (before later : List Call) → active (pairAfter before .world) ≡ true
+      → (active (pairAfter (before ++ later) .world) ≡ true) × (pairAfter (before ++ later) .plain .r ≡ pairAfter before .plain .r)
 
 -- for every accepted start
 abbrev pub AfterStart : (Settings → Processor → Buffers → Type 0) → Type 0

@@ -98,6 +98,10 @@ pub record Holds (κ : Steps) (g : Settings) (b : Both) : Type 0 where
   pub standby : StandbyRight b
   pub takeover : active (b .world) ≡ false → (n : ℕ) → b .world .standby .state .slots .due ≤ n → TakeoverRight κ g b n
   pub disks : DisksRight b
+  -- the plain pair is alone, has received and has acknowledged as the real one
+  pub protection : b .world .primary .state .alone ≡ isAlone (g .t) (b .plain)
+  pub received : b .world .standby .state .received ≡ b .plain .r
+  pub acknowledged : b .world .primary .state .acknowledged ≡ b .plain .a
   pub receivedExists : b .plain .r < length (b .plain .checkpoints)
   pub acknowledgedReceived : b .plain .a ≤ b .plain .r
 
