@@ -72,6 +72,31 @@ static inline int record_cut_short(uint64_t word)
     return (word & 65535) == 0;
 }
 
+/*
+ * The disk choice: from which disk does the guest start again, after both boxes failed?
+ *
+ * primary and standby point to the bytes of the two disks, area to the record area of the standby's
+ * disk. Only the area's bytes are looked at; of the disks only the lengths. None is written. No
+ * pointer is ever null: for a length of 0, pass any valid pointer.
+ *
+ * The answer is one word:
+ *
+ *   1       the disks are not equally long, or the area is not 8 bytes
+ *   12      the area is neither all zero nor a record of length 4, kind 6
+ *   256     the primary's disk: the area is all zero
+ *   512     the standby's disk: the area holds an activation, 04 00 06 00 and any epoch
+ */
+uint64_t disk_choice(const uint8_t *primary, size_t primary_len, const uint8_t *standby,
+                     size_t standby_len, const uint8_t *area, size_t area_len);
+
+/* The answers of the disk choice. */
+enum {
+    DISK_BAD_LENGTH = 1,
+    DISK_BAD_AREA = 12,
+    DISK_PRIMARY = 256,
+    DISK_STANDBY = 512
+};
+
 #ifdef __cplusplus
 }
 #endif

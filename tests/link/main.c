@@ -1,5 +1,5 @@
 /*
- * Calls record_test as the link daemon does, on cases worked out by hand.
+ * Calls record_test and disk_choice as the link daemon does, on cases worked out by hand.
  *
  * A failing case is printed with its input; the last line is 'N passed, M failed'.
  */
@@ -37,15 +37,21 @@ static void make_edge(void)
     edge = area + half;
 }
 
-/* The input, of a very long one its head. */
-static void print_input(uint64_t u, const uint8_t *bytes, size_t len)
+/* The bytes, of very many their head. */
+static void print_bytes(const uint8_t *bytes, size_t len)
 {
     size_t head = len <= 512 ? len : 64;
 
-    printf("  U %llu, %zu bytes:", (unsigned long long)u, len);
+    printf(" %zu bytes:", len);
     for (size_t i = 0; i < head; i++)
         printf(" %02x", bytes[i]);
     printf("%s\n", head < len ? " .." : "");
+}
+
+static void print_input(uint64_t u, const uint8_t *bytes, size_t len)
+{
+    printf("  U %llu,", (unsigned long long)u);
+    print_bytes(bytes, len);
 }
 
 static void print_word(const char *who, uint64_t word)
@@ -500,6 +506,119 @@ static void daemon_walks(void)
     check_daemon("U 4096 less a byte", 4096, bytes, n - 1, 1500, "213", 11, 0);
 }
 
+/*
+ * One case of the disk choice. It is called twice: with the area where it lies, and with the area
+ * ending where the readable memory ends.
+ */
+static void check_choice(const char *what, const uint8_t *primary, size_t primary_len,
+                         const uint8_t *standby, size_t standby_len, const uint8_t *area,
+                         size_t area_len, uint64_t want)
+{
+    uint64_t got, again;
+
+    begin(what, 0, area, area_len);
+    got = disk_choice(primary, primary_len, standby, standby_len, area, area_len);
+    memcpy(edge - area_len, area, area_len);
+    again = disk_choice(primary, primary_len, standby, standby_len, edge - area_len, area_len);
+
+    if (got == want && again == want) {
+        passed++;
+        return;
+    }
+    failed++;
+    printf("FAILED the disk choice: %s, disks of %zu and %zu bytes\n", what, primary_len,
+           standby_len);
+    printf("  area,");
+    print_bytes(area, area_len);
+    printf("  wanted %llu, got %llu and %llu\n", (unsigned long long)want,
+           (unsigned long long)got, (unsigned long long)again);
+}
+
+/* What an area gives, with disks of several lengths that are equal, and that are not. */
+static void check_area(const char *what, const uint8_t *area, size_t len, uint64_t want)
+{
+    static const size_t lengths[] = {0, 1, 7, 8, 64, 128, 255, 256, 4096};
+    static uint8_t primary[4096], standby[4096];
+
+    memset(primary, 0x11, sizeof primary);
+    memset(standby, 0x22, sizeof standby);
+    for (size_t p = 0; p < SIZE(lengths); p++)
+        for (size_t s = 0; s < SIZE(lengths); s++)
+            check_choice(what, primary, lengths[p], standby, lengths[s], area, len,
+                         p == s ? want : DISK_BAD_LENGTH);
+}
+
+static void disk_choices(void)
+{
+    static const uint8_t zeros[64];
+    static const uint8_t disk[64] = {1};
+    /* Areas that are near an activation: by the header alone they are told apart. */
+    static const struct {
+        const char *what;
+        uint8_t area[8];
+        uint64_t want;
+    } rows[] = {
+        {"an activation at 0", {4, 0, 6, 0, 0, 0, 0, 0}, DISK_STANDBY},
+        {"an activation at 1", {4, 0, 6, 0, 1, 0, 0, 0}, DISK_STANDBY},
+        {"an activation at 256", {4, 0, 6, 0, 0, 1, 0, 0}, DISK_STANDBY},
+        {"an activation at the last epoch", {4, 0, 6, 0, 255, 255, 255, 255}, DISK_STANDBY},
+        {"an ACK", {4, 0, 5, 0, 1, 0, 0, 0}, DISK_BAD_AREA},
+        {"kind 7", {4, 0, 7, 0, 1, 0, 0, 0}, DISK_BAD_AREA},
+        {"kind 0", {4, 0, 0, 0, 1, 0, 0, 0}, DISK_BAD_AREA},
+        {"kind 262", {4, 0, 6, 1, 1, 0, 0, 0}, DISK_BAD_AREA},
+        {"length 0", {0, 0, 6, 0, 1, 0, 0, 0}, DISK_BAD_AREA},
+        {"length 3", {3, 0, 6, 0, 1, 0, 0, 0}, DISK_BAD_AREA},
+        {"length 5", {5, 0, 6, 0, 1, 0, 0, 0}, DISK_BAD_AREA},
+        {"length 8", {8, 0, 6, 0, 1, 0, 0, 0}, DISK_BAD_AREA},
+        {"length 260", {4, 1, 6, 0, 1, 0, 0, 0}, DISK_BAD_AREA},
+        {"big-endian fields", {0, 4, 0, 6, 0, 0, 0, 1}, DISK_BAD_AREA},
+        {"kind before length", {6, 0, 4, 0, 1, 0, 0, 0}, DISK_BAD_AREA},
+        {"an epoch alone", {0, 0, 0, 0, 1, 0, 0, 0}, DISK_BAD_AREA},
+        {"all ones", {255, 255, 255, 255, 255, 255, 255, 255}, DISK_BAD_AREA},
+    };
+    uint8_t area[8];
+    char what[80];
+
+    check_area("an area of zeros", zeros, 8, DISK_PRIMARY);
+    for (size_t r = 0; r < SIZE(rows); r++)
+        check_area(rows[r].what, rows[r].area, 8, rows[r].want);
+
+    /* Both disks empty, and one and the same disk twice. */
+    check_choice("empty disks, zeros", zeros, 0, zeros, 0, zeros, 8, 256);
+    check_choice("empty disks, E5's area", zeros, 0, zeros, 0, activation0, 8, 512);
+    check_choice("the same disk twice, zeros", disk, 64, disk, 64, zeros, 8, 256);
+    check_choice("the same disk twice, E5's area", disk, 64, disk, 64, activation0, 8, 512);
+
+    /* Another length of the area, with the disks equally long and not. */
+    for (size_t len = 0; len <= 16; len++) {
+        uint8_t longer[16] = {4, 0, 6, 0, 1, 0, 0, 0};
+
+        snprintf(what, sizeof what, "%zu zeros", len);
+        check_area(what, zeros, len, len == 8 ? 256 : 1);
+        snprintf(what, sizeof what, "an activation in %zu bytes", len);
+        check_area(what, longer, len, len == 8 ? 512 : 1);
+        snprintf(what, sizeof what, "an ACK in %zu bytes", len);
+        longer[2] = 5;
+        check_area(what, longer, len, len == 8 ? 12 : 1);
+    }
+
+    /* Each byte of an area of zeros, and of an activation, set to each value. */
+    for (size_t at = 0; at < 8; at++)
+        for (unsigned b = 0; b < 256; b++) {
+            memset(area, 0, 8);
+            area[at] = (uint8_t)b;
+            snprintf(what, sizeof what, "zeros, byte %zu is %u", at, b);
+            check_choice(what, disk, 64, zeros, 64, area, 8, b == 0 ? 256 : 12);
+            check_choice(what, disk, 64, zeros, 63, area, 8, 1);
+
+            memcpy(area, activation0, 8);
+            area[at] = (uint8_t)b;
+            snprintf(what, sizeof what, "an activation, byte %zu is %u", at, b);
+            check_choice(what, disk, 64, zeros, 64, area, 8,
+                         at >= 4 || b == activation0[at] ? 512 : 12);
+        }
+}
+
 int main(void)
 {
     make_edge();
@@ -511,6 +630,7 @@ int main(void)
     lengths_by_u();
     u_out_of_range();
     daemon_walks();
+    disk_choices();
     printf("%u passed, %u failed\n", passed, failed);
     return failed != 0;
 }

@@ -1,7 +1,10 @@
--- Laws of the record test's word. Assumes nothing.
+-- Laws of the record test's word and of the disk choice's. Assumes nothing.
 use mathlib.Core.Path.{_≡_, refl, ap}
 use mathlib.Core.Logic.{⊎-elim}
 use mathlib.Core.List.{List}
+use mathlib.Core.Bool.{Bool, true, false, cond, _&&_}
+use lib.Dec.{eqb}
+use lib.ListN.{length}
 use Prim.Native.Nat.{ℕ, _/_, _%_, _<_}
 use native.Mathlib.Omega.{arith}
 use Rattle.records.specs.declared.Reader.the-variants.{Test}
@@ -9,7 +12,14 @@ use Rattle.records.specs.declared.Record.{Record}
 use Rattle.records.specs.declared.Record.the-variants.{Page, Block, State, Commit, Ack, Short, Refused}
 use Rattle.records.specs.Read.{readRecord, numberOf, kindOf, usedOf}
 use Rattle.records.proofs.ReadLaws.{ReadFacts, read-facts, read-ranges}
-use Rattle.link.specs.Word.{wordOf, testWord}
+use Rattle.records.specs.declared.Area.{Area}
+use Rattle.records.specs.declared.Area.the-variants.{Zero, Activation, Neither}
+use Rattle.records.specs.Area.{areaOf, areaLength}
+use Rattle.records.specs.Number.{outOfRange}
+use Rattle.rules.specs.declared.Choice.{Choice}
+use Rattle.rules.specs.declared.Choice.the-variants as choice-of
+use Rattle.rules.specs.Choose.{areaChoice, choiceOf}
+use Rattle.link.specs.Word.{wordOf, testWord, choiceWord}
 
 -- what is not cut short has its number, kind and bytes used
 pub word-told : (r : Record) → (r ≡ Short → ⊥) → testWord r ≡ wordOf r
@@ -62,3 +72,21 @@ module _ (u : ℕ) (s : List ℕ) where
       go (Ack e c) f z = absurd (omega arith)
       go Short f z = refl
       go (Refused n) f z = absurd (⊎-elim (λ a. omega arith) (λ a. ⊎-elim (λ b. omega arith) (λ b. omega arith) (a .1)) f)
+
+-- the disk choice's word, and what the caller learns from it
+pub record ChoiceTold (c : Choice) (word : ℕ) : Type 0 where
+  pub primary : word ≡ 256 → c ≡ choice-of.PrimaryDisk
+  pub standby : word ≡ 512 → c ≡ choice-of.StandbyDisk
+  pub refused : word < 256 → c ≡ choice-of.Refused word
+
+-- a refusal is 1 or 12, so that no two answers have the same word
+pub choice-told : (p s : ℕ) (a : List ℕ) → ChoiceTold (choiceOf p s a) (choiceWord (choiceOf p s a))
+unfolding choiceOf
+choice-told p s a = go (eqb p s && eqb (length a) areaLength) (areaOf a)
+  where
+    go : (b : Bool) (r : Area) → let c = cond b (areaChoice r) (choice-of.Refused outOfRange) in ChoiceTold c (choiceWord c)
+    go true Zero = record { primary = λ e. refl; standby = λ e. absurd (omega arith); refused = λ e. absurd (omega arith) }
+    go true (Activation epoch) =
+        record { primary = λ e. absurd (omega arith); standby = λ e. refl; refused = λ e. absurd (omega arith) }
+    go true Neither = record { primary = λ e. absurd (omega arith); standby = λ e. absurd (omega arith); refused = λ e. refl }
+    go false r = record { primary = λ e. absurd (omega arith); standby = λ e. absurd (omega arith); refused = λ e. refl }

@@ -1,8 +1,10 @@
--- The answer of the record test as one number. Assumes nothing.
+-- The answers of the record test and of the disk choice, each as one number. Assumes nothing.
 use Prim.Native.Nat.{ℕ, _+_, _*_}
 use Rattle.records.specs.declared.Record.{Record}
 use Rattle.records.specs.declared.Record.the-variants.{Page, Block, State, Commit, Ack, Short, Refused}
 use Rattle.records.specs.Read.{numberOf, kindOf, usedOf}
+use Rattle.rules.specs.declared.Choice.{Choice}
+use Rattle.rules.specs.declared.Choice.the-variants as choice-of
 
 -- the number in the low 8 bits, the kind in the next 8, the bytes used above them
 abbrev pub wordOf : Record → ℕ
@@ -17,3 +19,9 @@ testWord (Commit e p b c) = wordOf (Commit e p b c)
 testWord (Ack e c) = wordOf (Ack e c)
 testWord Short = 0
 testWord (Refused n) = wordOf (Refused n)
+
+-- the primary's disk, the standby's, or the number
+abbrev pub choiceWord : Choice → ℕ
+choiceWord choice-of.PrimaryDisk = 256
+choiceWord choice-of.StandbyDisk = 512
+choiceWord (choice-of.Refused n) = n
