@@ -1,2 +1,3 @@
-// What is done with both ends at once: the choice of disk after both boxes fail.
+// Start, which makes both ends, and the choice of disk after both boxes fail.
 pub mod choice;
+pub mod start;

@@ -15,3 +15,4 @@ pub mod JudgeLaws
 pub mod ReadLaws
 pub mod FlushLaws
 pub mod TakeoverLaws
+pub mod StartLaws

@@ -1,0 +1,324 @@
+// Start: the standby gets the primary's memory, processor state and disk, the marks and the record area are cleared, and epoch 1 opens.
+ghost use mathlib.Core.Path.{_≡_};
+ghost use mathlib.Core.Bool.{true};
+ghost use lib.ListN.{length, replicate};
+ghost use Rattle.records.specs.Area.{areaLength};
+ghost use Rattle.settings.specs.Range.{settingsOk};
+ghost use Rattle.queue.specs.Held.{emptyQueue};
+ghost use Rattle.staging.specs.Slot.{emptySlots};
+ghost use Rattle.rules.specs.Start.{startLentOk, startRefusal, openedPrimary, openedStandby, noPrimary, noStandby, started, startCopy, startMarks, startArea};
+ghost use Rattle.ends.specs.Lent.{startLens};
+use detector::Detector;
+use queue::Packet;
+use queue::Queue;
+use rules::Mode;
+use rules::Primary;
+use rules::PrimaryLent;
+use rules::Standby;
+use rules::StandbyLent;
+use rules::StartLent;
+use rules::Started;
+use settings::PrimarySettings;
+use settings::Settings;
+use settings::StandbySettings;
+use staging::Slots;
+
+// "Lent lengths are exact", of settings in their ranges, so that no product wraps.
+fn lent_ok(g: Settings, l: StartLent) -> bool
+    requires { ⌜ settingsOk g ≡ true ⌝ }
+    ensures { λ r. ⌜ r ≡ startLentOk g l ⌝ }
+{
+    let u = g.u;
+    let m = g.m;
+    let d = g.d;
+    let slots = g.s;
+    let q = g.q;
+    let room = g.l;
+    let p = l.primary;
+    let s = l.standby;
+    let memory = p.memory;
+    let disk = p.disk;
+    let dirty = p.dirty;
+    let held = p.held;
+    let stream = p.stream;
+    let standby_memory = s.memory;
+    let standby_disk = s.disk;
+    let pages = s.pages;
+    let marks = s.marks;
+    let blocks = s.blocks;
+    let area = s.area;
+    let memory_bytes = m * u;
+    let disk_bytes = d * u;
+    let words = (m + 63) / 64;
+    if memory != memory_bytes {
+        return false;
+    }
+    if disk != disk_bytes {
+        return false;
+    }
+    if dirty != words {
+        return false;
+    }
+    if held != q {
+        return false;
+    }
+    if stream != room {
+        return false;
+    }
+    if standby_memory != memory_bytes {
+        return false;
+    }
+    if standby_disk != disk_bytes {
+        return false;
+    }
+    if pages != memory_bytes {
+        return false;
+    }
+    if marks != words {
+        return false;
+    }
+    if blocks != slots * u {
+        return false;
+    }
+    if area != 8 {
+        return false;
+    }
+    true
+}
+
+// The refusal of start, from the lengths of the lent buffers.
+fn start_refusal(g: Settings, l: StartLent) -> u64
+    ensures { λ r. ⌜ r ≡ startRefusal g l ⌝ }
+{
+    if !settings::settings_ok(g) {
+        return 1;
+    }
+    if !lent_ok(g, l) {
+        return 1;
+    }
+    0
+}
+
+// No packet is held.
+fn empty_queue() -> Queue
+    ensures { λ r. ⌜ r ≡ emptyQueue ⌝ }
+{
+    let none = Packet {
+        epoch: 0,
+        length: 0,
+    };
+    Queue {
+        count: 0,
+        bytes: 0,
+        packets: [none; 64],
+    }
+}
+
+// No block is staged.
+fn empty_slots() -> Slots
+    ensures { λ r. ⌜ r ≡ emptySlots ⌝ }
+{
+    Slots {
+        staged: 0,
+        due: 0,
+        numbers: [0; 64],
+    }
+}
+
+// The primary with epoch 1 open.
+fn opened_primary(g: Settings) -> Primary
+    ensures { λ r. ⌜ r ≡ openedPrimary g ⌝ }
+{
+    let t = g.t;
+    let settings = PrimarySettings {
+        u: g.u,
+        m: g.m,
+        d: g.d,
+        b: g.b,
+        q: g.q,
+        l: g.l,
+    };
+    let detector = Detector {
+        patience: t,
+        count: 0,
+    };
+    let queue = empty_queue();
+    Primary {
+        settings: settings,
+        detector: detector,
+        epoch: 1,
+        acknowledged: 0,
+        alone: false,
+        blocks: 0,
+        waiting: 0,
+        queue: queue,
+    }
+}
+
+// The standby with checkpoint 0 received.
+fn opened_standby(g: Settings, processor: [u8; 64]) -> Standby
+    ensures { λ r. ⌜ r ≡ openedStandby g processor ⌝ }
+{
+    let t = g.t;
+    let settings = StandbySettings {
+        u: g.u,
+        m: g.m,
+        d: g.d,
+        b: g.b,
+        s: g.s,
+    };
+    let detector = Detector {
+        patience: t,
+        count: 0,
+    };
+    let slots = empty_slots();
+    Standby {
+        settings: settings,
+        detector: detector,
+        mode: Mode::Receiving,
+        received: 0,
+        slots: slots,
+        blocks: 0,
+        pages: 0,
+        next: 0,
+        seen: false,
+        pending: [0; 64],
+        processor: processor,
+    }
+}
+
+// "A refused start gives the state with every setting 0".
+fn no_primary() -> Primary
+    ensures { λ r. ⌜ r ≡ noPrimary ⌝ }
+{
+    let settings = PrimarySettings {
+        u: 0,
+        m: 0,
+        d: 0,
+        b: 0,
+        q: 0,
+        l: 0,
+    };
+    let detector = Detector {
+        patience: 0,
+        count: 0,
+    };
+    let queue = empty_queue();
+    Primary {
+        settings: settings,
+        detector: detector,
+        epoch: 0,
+        acknowledged: 0,
+        alone: false,
+        blocks: 0,
+        waiting: 0,
+        queue: queue,
+    }
+}
+
+// The same of the standby.
+fn no_standby() -> Standby
+    ensures { λ r. ⌜ r ≡ noStandby ⌝ }
+{
+    let settings = StandbySettings {
+        u: 0,
+        m: 0,
+        d: 0,
+        b: 0,
+        s: 0,
+    };
+    let detector = Detector {
+        patience: 0,
+        count: 0,
+    };
+    let slots = empty_slots();
+    Standby {
+        settings: settings,
+        detector: detector,
+        mode: Mode::Receiving,
+        received: 0,
+        slots: slots,
+        blocks: 0,
+        pages: 0,
+        next: 0,
+        seen: false,
+        pending: [0; 64],
+        processor: [0; 64],
+    }
+}
+
+// Clears the record area.
+fn zero_area(area: &mut [u8])
+    requires { ⌜ length (now area) ≡ areaLength ⌝ }
+    ensures { λ _. ⌜ now (area .exit) ≡ replicate areaLength 0 ⌝ }
+{
+    let zeros = [0u8; 8];
+    lists::copy_front(area, &zeros);
+}
+
+// Start, lent every buffer of both ends; those that stay as they are are lent for their lengths or to be copied.
+pub fn start(
+    g: Settings,
+    processor: [u8; 64],
+    memory: &[u8],
+    disk: &[u8],
+    dirty: &mut [u64],
+    held: &[u8],
+    stream: &[u8],
+    standby_memory: &mut [u8],
+    standby_disk: &mut [u8],
+    staged_pages: &[u8],
+    staged_marks: &mut [u64],
+    staged_blocks: &[u8],
+    area: &mut [u8],
+) -> Started
+    ensures { λ r. ⌜ r ≡ started g (startLens (now (memory .entry)) (now (disk .entry)) (now (dirty .entry)) (now (held .entry)) (now (stream .entry)) (now («standby_memory» .entry)) (now («standby_disk» .entry)) (now («staged_pages» .entry)) (now («staged_marks» .entry)) (now («staged_blocks» .entry)) (now (area .entry))) processor ⌝ }
+    ensures { λ _. ⌜ now (dirty .exit) ≡ startMarks g (startLens (now (memory .entry)) (now (disk .entry)) (now (dirty .entry)) (now (held .entry)) (now (stream .entry)) (now («standby_memory» .entry)) (now («standby_disk» .entry)) (now («staged_pages» .entry)) (now («staged_marks» .entry)) (now («staged_blocks» .entry)) (now (area .entry))) (now (dirty .entry)) ⌝ }
+    ensures { λ _. ⌜ now («standby_memory» .exit) ≡ startCopy g (startLens (now (memory .entry)) (now (disk .entry)) (now (dirty .entry)) (now (held .entry)) (now (stream .entry)) (now («standby_memory» .entry)) (now («standby_disk» .entry)) (now («staged_pages» .entry)) (now («staged_marks» .entry)) (now («staged_blocks» .entry)) (now (area .entry))) (now (memory .entry)) (now («standby_memory» .entry)) ⌝ }
+    ensures { λ _. ⌜ now («standby_disk» .exit) ≡ startCopy g (startLens (now (memory .entry)) (now (disk .entry)) (now (dirty .entry)) (now (held .entry)) (now (stream .entry)) (now («standby_memory» .entry)) (now («standby_disk» .entry)) (now («staged_pages» .entry)) (now («staged_marks» .entry)) (now («staged_blocks» .entry)) (now (area .entry))) (now (disk .entry)) (now («standby_disk» .entry)) ⌝ }
+    ensures { λ _. ⌜ now («staged_marks» .exit) ≡ startMarks g (startLens (now (memory .entry)) (now (disk .entry)) (now (dirty .entry)) (now (held .entry)) (now (stream .entry)) (now («standby_memory» .entry)) (now («standby_disk» .entry)) (now («staged_pages» .entry)) (now («staged_marks» .entry)) (now («staged_blocks» .entry)) (now (area .entry))) (now («staged_marks» .entry)) ⌝ }
+    ensures { λ _. ⌜ now (area .exit) ≡ startArea g (startLens (now (memory .entry)) (now (disk .entry)) (now (dirty .entry)) (now (held .entry)) (now (stream .entry)) (now («standby_memory» .entry)) (now («standby_disk» .entry)) (now («staged_pages» .entry)) (now («staged_marks» .entry)) (now («staged_blocks» .entry)) (now (area .entry))) (now (area .entry)) ⌝ }
+{
+    let m = g.m;
+    let p = PrimaryLent {
+        memory: memory.len(),
+        disk: disk.len(),
+        dirty: dirty.len(),
+        held: held.len(),
+        stream: stream.len(),
+    };
+    let s = StandbyLent {
+        memory: standby_memory.len(),
+        disk: standby_disk.len(),
+        pages: staged_pages.len(),
+        marks: staged_marks.len(),
+        blocks: staged_blocks.len(),
+        area: area.len(),
+    };
+    let l = StartLent {
+        primary: p,
+        standby: s,
+    };
+    let number = start_refusal(g, l);
+    if number != 0 {
+        let none = no_primary();
+        let other = no_standby();
+        return Started {
+            primary: none,
+            standby: other,
+            number: number,
+        };
+    }
+    let primary = opened_primary(g);
+    let standby = opened_standby(g, processor);
+    lists::copy_front(standby_memory, memory);
+    lists::copy_front(standby_disk, disk);
+    marks::clear(dirty, m);
+    marks::clear(staged_marks, m);
+    zero_area(area);
+    Started {
+        primary: primary,
+        standby: standby,
+        number: 0,
+    }
+}
