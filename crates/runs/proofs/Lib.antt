@@ -40,3 +40,4 @@ pub mod Proved
 pub mod PlainLaws
 pub mod Corollaries
 pub mod ActiveLaws
+pub mod CallLaws
