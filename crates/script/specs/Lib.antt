@@ -1,3 +1,5 @@
 pub mod Command
 pub mod Pair
 pub mod Output
+pub mod Site
+pub mod Feed

@@ -14,8 +14,8 @@ use Rattle.marks.specs.Mark.{wordsFor}
 use Rattle.rules.specs.World.{World, Processor, Buffers, startWorld}
 use Rattle.rules.specs.World as call
 use Rattle.rules.specs.Step.{Outcome, Stepped, step, outcome}
-use Rattle.script.specs.Command.{Command}
-use Rattle.script.specs.Command as command
+use Rattle.script.specs.declared.Command.{Command}
+use Rattle.script.specs.declared.Command.the-variants as command
 
 -- "Settings: U 64, M 4, D 4, B 2, S 4, Q 256, L 1,024, T 3"
 abbrev pub pairSettings : Settings
@@ -99,13 +99,13 @@ takeoverDone w =
     record { next = s .next; outcome = s .outcome; last = true }
 
 unfoldable pub perform : World → Command → Done
-perform w (command.write p v) = done (step w (call.memoryWrite p 0 (v ∷ [])))
-perform w (command.disk b v) = done (step w (call.diskWrite b (replicate (pairSettings .u) v)))
-perform w (command.send n) = done (step w (call.packet (replicate (min n mostLent) 0)))
-perform w (command.close v) = done (step w (call.checkpoint (processorOf v)))
-perform w command.move = moveDone w
-perform w command.acknowledge = acknowledgeDone w
-perform w command.take = done (step w (call.take (replicate mostLent 0)))
-perform w command.flush = done (step w (call.flush 1))
-perform w command.takeover = takeoverDone w
-perform w command.other = refused w outOfRange
+perform w (command.Write p v) = done (step w (call.memoryWrite p 0 (v ∷ [])))
+perform w (command.Disk b v) = done (step w (call.diskWrite b (replicate (pairSettings .u) v)))
+perform w (command.Send n) = done (step w (call.packet (replicate (min n mostLent) 0)))
+perform w (command.Close v) = done (step w (call.checkpoint (processorOf v)))
+perform w command.Move = moveDone w
+perform w command.Acknowledge = acknowledgeDone w
+perform w command.Take = done (step w (call.take (replicate mostLent 0)))
+perform w command.Flush = done (step w (call.flush 1))
+perform w command.Takeover = takeoverDone w
+perform w command.Other = refused w outOfRange

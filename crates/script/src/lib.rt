@@ -1,1 +1,68 @@
-// The commands of the program pair.
+// The commands of the program `pair` on both ends and their link, at the settings of `pair`.
+use rules::Primary;
+use rules::Standby;
+
+pub mod commands;
+pub mod printing;
+
+// The primary's box: its state and every buffer that its calls are lent.
+pub struct PrimaryBox {
+    pub state: Primary,
+    pub memory: [u8; 256],
+    pub disk: [u8; 256],
+    pub dirty: [u64; 1],
+    pub held: [u8; 256],
+    pub stream: [u8; 1024],
+}
+
+// The standby's box.
+pub struct StandbyBox {
+    pub state: Standby,
+    pub memory: [u8; 256],
+    pub disk: [u8; 256],
+    pub pages: [u8; 256],
+    pub marks: [u64; 1],
+    pub blocks: [u8; 256],
+    pub area: [u8; 8],
+}
+
+// Both boxes and the link between them.
+pub struct Site {
+    pub primary: PrimaryBox,
+    pub standby: StandbyBox,
+    // the bytes drained and not yet used, and how many
+    pub link: [u8; 1024],
+    pub linked: usize,
+    // the epoch of the first unread ACK; the last unread is that of the last received epoch
+    pub unread: u64,
+}
+
+// A command, one a line.
+pub enum Command {
+    Write { page: u64, byte: u8 },
+    Disk { block: u64, byte: u8 },
+    Send { length: u64 },
+    Close { byte: u8 },
+    Move,
+    Acknowledge,
+    Take,
+    Flush,
+    Takeover,
+    Other,
+}
+
+// What a command gives: the site after it, what is printed of it, and whether it is the last.
+pub struct Performed {
+    pub site: Site,
+    pub number: u64,
+    pub value: u64,
+    pub last: bool,
+}
+
+// A line's answer: the site after it, the bytes printed, at the head of an array, and whether it is the last.
+pub struct Answered {
+    pub site: Site,
+    pub bytes: [u8; 44],
+    pub length: usize,
+    pub last: bool,
+}

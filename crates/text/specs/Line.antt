@@ -27,6 +27,11 @@ newline = 10
 abbrev pub space : ℕ
 space = 32
 
+-- the bytes before the first newline
+unfoldable pub firstLine : List ℕ → List ℕ
+firstLine [] = []
+firstLine (b ∷ bs) = cond (eqb b newline) [] (b ∷ firstLine bs)
+
 -- "one command a line"; the last line may lack its newline
 abbrev pub linesOf : List ℕ → List (List ℕ)
 linesOf text = dropEmptyLast (split newline text)

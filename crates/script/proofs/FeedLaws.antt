@@ -1,0 +1,159 @@
+-- Feeding the input byte by byte prints the output of the whole of it. Assumes nothing.
+use Prim.Native.Nat.{ℕ}
+use mathlib.Core.Path.{_≡_, refl, sym, ap, subst, _∙_}
+use mathlib.Core.Bool.{Bool, true, false, cond}
+use mathlib.Core.List.{List, [], _∷_, _++_, append-assoc, append-nil}
+use lib.Dec.{eqb}
+use lib.ListN.{length}
+use borrow.Author.Tests.{eqb-true, eqb-false, ne-eqb}
+use native.Mathlib.Omega.{arith}
+use Rattle.text.specs.declared.Line.{Line}
+use Rattle.text.specs.Line.{split, withFirst, dropEmptyLast, linesOf, newline}
+use Rattle.text.specs.Kept.{noLine, lineWith, lineWithAll, isEmptyLine}
+use Rattle.rules.specs.World.{World}
+use Rattle.script.specs.declared.Command.{Command}
+use Rattle.script.specs.Command.{commandOf, commandOfLine, letterOf}
+use Rattle.script.specs.Pair.{perform, pairStart}
+use Rattle.script.specs.Output.{printed, printedAll, outputOf}
+use Rattle.text.proofs.KeptLaws.{empty-line}
+use Rattle.script.proofs.CommandLaws.{command-of-line}
+use Rattle.script.specs.Feed.{Reading, reading, firstReading, lineDone, linePrinted, fed, fedPrinted, fedAll, fedAllPrinted, endPrinted}
+
+-- splitting gives one part at least
+record Parts (l : List ℕ) : Type 0 where
+  head : List ℕ
+  rest : List (List ℕ)
+  is : split newline l ≡ head ∷ rest
+
+parts-with : (b : ℕ) (bs : List ℕ) (t : Bool) → eqb b newline ≡ t → Parts bs → Parts (b ∷ bs)
+unfolding split
+parts-with b bs true e p = record { head = []; rest = split newline bs; is = rw e }
+parts-with b bs false e p = record { head = b ∷ p .head; rest = p .rest; is = rw (e, p .is) }
+
+parts : (l : List ℕ) → Parts l
+unfolding split
+parts [] = record { head = []; rest = []; is = refl }
+parts (b ∷ bs) = parts-with b bs (eqb b newline) refl (parts bs)
+
+-- the parts with these bytes in front of the first
+abbrev joined : List ℕ → List (List ℕ) → List (List ℕ)
+joined part [] = part ∷ []
+joined part (p ∷ ps) = (part ++ p) ∷ ps
+
+-- what follows bytes without a newline goes on with their line
+abbrev Unended : List ℕ → Type 0
+Unended part = (rest : List ℕ) → split newline (part ++ rest) ≡ joined part (split newline rest)
+
+unended-none : Unended []
+unended-none rest = let p = parts rest in rw (p .is)
+
+split-newline : (rest : List ℕ) → split newline (newline ∷ rest) ≡ [] ∷ split newline rest
+unfolding split
+split-newline rest = refl
+
+split-other : (b : ℕ) (rest : List ℕ) → eqb b newline ≡ false → split newline (b ∷ rest) ≡ withFirst b (split newline rest)
+unfolding split
+split-other b rest e = rw e
+
+unended-one : (part : List ℕ) (b : ℕ) → eqb b newline ≡ false → Unended part → Unended (part ++ b ∷ [])
+unended-one part b e u rest =
+    let p = parts rest in
+    rw (append-assoc part (b ∷ []) rest, u (b ∷ rest), split-other b rest e, p .is, append-assoc part (b ∷ []) (p .head))
+
+-- a part with another behind it is no last one
+drop-not-last : (part : List ℕ) (ps : List (List ℕ)) (q : List ℕ) (qs : List (List ℕ)) → ps ≡ q ∷ qs → dropEmptyLast (part ∷ ps) ≡ part ∷ dropEmptyLast ps
+drop-not-last [] ps q qs e = rw e
+drop-not-last (b ∷ bs) ps q qs e = refl
+
+split-ended : (part rest : List ℕ) → Unended part → split newline (part ++ newline ∷ rest) ≡ part ∷ split newline rest
+split-ended part rest u = rw (u (newline ∷ rest), split-newline rest, append-nil part)
+
+split-last : (part : List ℕ) → Unended part → split newline part ≡ part ∷ []
+unfolding split
+split-last part u =
+    let e : split newline (part ++ []) ≡ (part ++ []) ∷ [] = u [] in
+    rw (append-nil part) at e
+
+-- the lines of a line with its newline and what follows
+lines-newline : (part rest : List ℕ) → Unended part → linesOf (part ++ newline ∷ rest) ≡ part ∷ linesOf rest
+lines-newline part rest u =
+    let p = parts rest in
+    ap dropEmptyLast (split-ended part rest u) ∙ drop-not-last part (split newline rest) (p .head) (p .rest) (p .is)
+
+-- the lines of a last one without its newline
+lines-none : linesOf [] ≡ []
+unfolding split
+lines-none = refl
+
+lines-last : (b : ℕ) (bs : List ℕ) → Unended (b ∷ bs) → linesOf (b ∷ bs) ≡ (b ∷ bs) ∷ []
+lines-last b bs u = ap dropEmptyLast (split-last (b ∷ bs) u)
+
+-- ---- what is kept of a line
+kept-one : (l : Line) (part : List ℕ) (b : ℕ) → lineWithAll l (part ++ b ∷ []) ≡ lineWith (lineWithAll l part) b
+unfolding lineWithAll
+kept-one l [] b = refl
+kept-one l (c ∷ part) b = kept-one (lineWith l c) part b
+
+-- ---- after `k` nothing is printed
+over-printed : (w : World) (l : Line) (input : List ℕ) → fedAllPrinted (reading w l true) input ++ endPrinted (fedAll (reading w l true) input) ≡ []
+unfolding fedAllPrinted fedAll fed fedPrinted endPrinted
+over-printed w l [] = refl
+over-printed w l (b ∷ bs) = over-printed w l bs
+
+-- ---- from a line under way to the end of the input
+
+-- what is printed from here on
+abbrev Goes : World → List ℕ → List ℕ → Type 0
+Goes w part input =
+    let r = reading w (lineWithAll noLine part) false in
+    fedAllPrinted r input ++ endPrinted (fedAll r input) ≡ printedAll w (linesOf (part ++ input))
+
+-- the line under way is the line
+line-printed : (w : World) (part : List ℕ) → linePrinted (reading w (lineWithAll noLine part) false) ≡ printed (letterOf (commandOf part)) (perform w (commandOf part) .outcome)
+line-printed w part = rw (command-of-line part)
+
+at-end : (w : World) (part : List ℕ) → Unended part → Goes w part []
+unfolding fedAllPrinted fedAll endPrinted printedAll
+at-end w [] u = rw (lines-none, empty-line [])
+at-end w (b ∷ bs) u =
+    let lines : linesOf (b ∷ (bs ++ [])) ≡ (b ∷ bs) ∷ [] = ap (λ (l : List ℕ). linesOf (b ∷ l)) (append-nil bs) ∙ lines-last b bs u in
+    let some : eqb (length (b ∷ bs)) 0 ≡ false = ne-eqb _ _ (λ e. no-zero e) in
+    rw (lines, empty-line (b ∷ bs), some, line-printed w (b ∷ bs)) (sym (ends (printed (letterOf (commandOf (b ∷ bs))) (perform w (commandOf (b ∷ bs)) .outcome)) (perform w (commandOf (b ∷ bs)) .last)))
+  where
+    no-zero : length (b ∷ bs) ≡ 0 → ⊥
+    no-zero e = omega arith
+
+    ends : (printed : List ℕ) (last : Bool) → printed ++ cond last [] [] ≡ printed
+    ends printed true = append-nil printed
+    ends printed false = append-nil printed
+
+-- a newline: the line is answered, and what follows goes on from there
+at-newline : (bs : List ℕ) (w : World) (part : List ℕ) → Unended part → ((w : World) → Goes w [] bs) → Goes w part (newline ∷ bs)
+unfolding fedAllPrinted fedAll fedPrinted fed printedAll lineWithAll
+at-newline bs w part u next =
+    rw (lines-newline part bs u, command-of-line part, append-assoc here)
+    (ap (λ (l : List ℕ). here ++ l) (rest (perform w (commandOf part) .last) (perform w (commandOf part) .next)))
+  where
+    here : List ℕ
+    here = printed (letterOf (commandOf part)) (perform w (commandOf part) .outcome)
+
+    rest : (last : Bool) (w′ : World) → fedAllPrinted (reading w′ noLine last) bs ++ endPrinted (fedAll (reading w′ noLine last) bs) ≡ cond last [] (printedAll w′ (linesOf bs))
+    rest true w′ = over-printed w′ noLine bs
+    rest false w′ = next w′
+
+-- another byte: the line goes on
+at-other : (b : ℕ) (bs : List ℕ) (w : World) (part : List ℕ) → eqb b newline ≡ false → Goes w (part ++ b ∷ []) bs → Goes w part (b ∷ bs)
+unfolding fedAllPrinted fedAll fedPrinted fed
+at-other b bs w part e next = rw (e) (rw (append-assoc part (b ∷ []) bs, kept-one noLine part b) at next)
+
+at-byte : (b : ℕ) (bs : List ℕ) (t : Bool) → eqb b newline ≡ t → ((w : World) (part : List ℕ) → Unended part → Goes w part bs) → (w : World) (part : List ℕ) → Unended part → Goes w part (b ∷ bs)
+at-byte b bs true e next w part u = subst (λ (x : ℕ). Goes w part (x ∷ bs)) (sym (eqb-true _ _ e)) (at-newline bs w part u (λ w′. next w′ [] unended-none))
+at-byte b bs false e next w part u = at-other b bs w part e (next w (part ++ b ∷ []) (unended-one part b e u))
+
+goes : (input : List ℕ) (w : World) (part : List ℕ) → Unended part → Goes w part input
+goes [] w part u = at-end w part u
+goes (b ∷ bs) w part u = at-byte b bs (eqb b newline) refl (λ w′ part′ u′. goes bs w′ part′ u′) w part u
+
+pub output-fed : (input : List ℕ) → fedAllPrinted firstReading input ++ endPrinted (fedAll firstReading input) ≡ outputOf input
+unfolding outputOf lineWithAll
+output-fed input = goes input pairStart [] unended-none

@@ -1,0 +1,110 @@
+-- Laws of feeding a part of the input: parts one after the other, a line's bytes, a newline, and nothing after `k`. Assumes nothing.
+use Prim.Native.Nat.{ℕ, suc, _+_, _≤_, _<_}
+use mathlib.Core.Path.{_≡_, refl, sym, ap, ap₂, _∙_}
+use mathlib.Core.Bool.{Bool, true, false, cond}
+use mathlib.Core.List.{List, [], _∷_, _++_, append-assoc, append-nil}
+use native.Mathlib.Omega.{arith}
+use native.Mathlib.Numerals.{add-one}
+use lib.Dec.{eqb}
+use lib.ListN.{length, take, drop, getD, length-take}
+use borrow.Author.Tests.{eqb-true}
+use Rattle.text.specs.declared.Line.{Line}
+use Rattle.text.specs.Line.{firstLine, newline}
+use Rattle.text.specs.Kept.{noLine, lineWith, lineWithAll}
+use Rattle.rules.specs.World.{World}
+use Rattle.script.specs.Feed.{Reading, reading, lineDone, linePrinted, fed, fedPrinted, fedAll, fedAllPrinted}
+
+-- ---- parts, one after the other
+pub fed-append : (r : Reading) (a b : List ℕ) → fedAll r (a ++ b) ≡ fedAll (fedAll r a) b
+unfolding fedAll
+fed-append r [] b = refl
+fed-append r (x ∷ a) b = fed-append (fed r x) a b
+
+pub printed-append : (r : Reading) (a b : List ℕ) → fedAllPrinted r (a ++ b) ≡ fedAllPrinted r a ++ fedAllPrinted (fedAll r a) b
+unfolding fedAll fedAllPrinted
+printed-append r [] b = refl
+printed-append r (x ∷ a) b = ap (λ (l : List ℕ). fedPrinted r x ++ l) (printed-append (fed r x) a b) ∙ sym (append-assoc (fedPrinted r x) _ _)
+
+-- ---- after `k`
+module _ (w : World) (l : Line) where
+  pub fed-over : (bs : List ℕ) → fedAll (reading w l true) bs ≡ reading w l true
+  unfolding fedAll fed
+  fed-over [] = refl
+  fed-over (b ∷ bs) = fed-over bs
+
+  pub printed-over : (bs : List ℕ) → fedAllPrinted (reading w l true) bs ≡ []
+  unfolding fedAllPrinted fed fedPrinted
+  printed-over [] = refl
+  printed-over (b ∷ bs) = printed-over bs
+
+-- ---- the bytes of a line, and its newline
+module _ (w : World) where
+  -- one byte that is no newline
+  fed-other : (l : Line) (b : ℕ) → eqb b newline ≡ false → fed (reading w l false) b ≡ reading w (lineWith l b) false
+  unfolding fed
+  fed-other l b e = rw e
+
+  printed-other : (l : Line) (b : ℕ) → eqb b newline ≡ false → fedPrinted (reading w l false) b ≡ []
+  unfolding fedPrinted
+  printed-other l b e = rw e
+
+  pub fed-line : (l : Line) (bs : List ℕ) → fedAll (reading w l false) (firstLine bs) ≡ reading w (lineWithAll l (firstLine bs)) false
+  unfolding fedAll firstLine lineWithAll
+  fed-line l [] = refl
+  fed-line l (b ∷ bs) = by (eqb b newline) refl (λ m. fed-line m bs)
+    where
+      by : (t : Bool) → eqb b newline ≡ t → ((m : Line) → fedAll (reading w m false) (firstLine bs) ≡ reading w (lineWithAll m (firstLine bs)) false)
+          → fedAll (reading w l false) (cond t [] (b ∷ firstLine bs)) ≡ reading w (lineWithAll l (cond t [] (b ∷ firstLine bs))) false
+      by true e next = refl
+      by false e next = ap (λ (r : Reading). fedAll r (firstLine bs)) (fed-other l b e) ∙ next (lineWith l b)
+
+  pub printed-line : (l : Line) (bs : List ℕ) → fedAllPrinted (reading w l false) (firstLine bs) ≡ []
+  unfolding fedAllPrinted firstLine
+  printed-line l [] = refl
+  printed-line l (b ∷ bs) = by (eqb b newline) refl (λ m. printed-line m bs)
+    where
+      by : (t : Bool) → eqb b newline ≡ t → ((m : Line) → fedAllPrinted (reading w m false) (firstLine bs) ≡ []) → fedAllPrinted (reading w l false) (cond t [] (b ∷ firstLine bs)) ≡ []
+      by true e next = refl
+      by false e next = ap₂ (λ (p : List ℕ) (r : Reading). p ++ fedAllPrinted r (firstLine bs)) (printed-other l b e) (fed-other l b e) ∙ next (lineWith l b)
+
+-- a newline behind a line: it is answered
+pub fed-newline : (w : World) (l : Line) → let r = reading w l false in fedAll r (newline ∷ []) ≡ reading (lineDone r .next) noLine (lineDone r .last)
+unfolding fedAll fed
+fed-newline w l = refl
+
+pub printed-newline : (w : World) (l : Line) → fedAllPrinted (reading w l false) (newline ∷ []) ≡ linePrinted (reading w l false)
+unfolding fedAllPrinted fedPrinted
+printed-newline w l = append-nil _
+
+-- ---- where the first line of some bytes ends
+pub first-line-length : (bs : List ℕ) → length (firstLine bs) ≤ length bs
+unfolding firstLine
+first-line-length [] = omega arith
+first-line-length (b ∷ bs) = by (eqb b newline) (first-line-length bs)
+  where
+    by : (t : Bool) → length (firstLine bs) ≤ length bs → length (cond t [] (b ∷ firstLine bs)) ≤ length (b ∷ bs)
+    by true h = omega arith
+    by false h = omega arith
+
+pub first-line-is : (bs : List ℕ) → take (length (firstLine bs)) bs ≡ firstLine bs
+unfolding firstLine
+first-line-is [] = refl
+first-line-is (b ∷ bs) = by (eqb b newline) (first-line-is bs)
+  where
+    by : (t : Bool) → take (length (firstLine bs)) bs ≡ firstLine bs → take (length (cond t [] (b ∷ firstLine bs))) (b ∷ bs) ≡ cond t [] (b ∷ firstLine bs)
+    by true h = refl
+    by false h = ap (λ (l : List ℕ). b ∷ l) h
+
+-- with the newline, where there is one
+pub first-line-ended : (bs : List ℕ) → length (firstLine bs) < length bs → take (suc (length (firstLine bs))) bs ≡ firstLine bs ++ (newline ∷ [])
+unfolding firstLine
+first-line-ended [] h = absurd (none h)
+  where
+    none : 0 < 0 → ⊥
+    none k = omega arith
+first-line-ended (b ∷ bs) h = by (eqb b newline) refl h (λ k. first-line-ended bs k)
+  where
+    by : (t : Bool) → eqb b newline ≡ t → length (cond t [] (b ∷ firstLine bs)) < length (b ∷ bs) → (length (firstLine bs) < length bs → take (suc (length (firstLine bs))) bs ≡ firstLine bs ++ (newline ∷ []))
+        → take (suc (length (cond t [] (b ∷ firstLine bs)))) (b ∷ bs) ≡ cond t [] (b ∷ firstLine bs) ++ (newline ∷ [])
+    by true e h next = ap (λ (x : ℕ). x ∷ []) (eqb-true _ _ e)
+    by false e h next = ap (λ (l : List ℕ). b ∷ l) (next (omega arith))

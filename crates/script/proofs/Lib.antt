@@ -1,0 +1,4 @@
+pub mod CommandLaws
+pub mod FeedLaws
+pub mod FeedPartLaws
+pub mod PrintLaws
