@@ -1,5 +1,6 @@
 -- The laws of this crate's definitions, for its own proofs and for the crates above.
 pub mod TestLaws
 pub mod PartLaws
+pub mod ArrayLaws
 pub mod PageLaws
 pub mod LittleEndianLaws

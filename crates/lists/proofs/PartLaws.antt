@@ -1,12 +1,12 @@
 -- Laws of parts: putting, composing writers, a part of a slice coming back, and removal. Assumes nothing.
 use mathlib.Core.Path.{_≡_, refl, sym, ap, ap₂, _∙_, subst}
-use mathlib.Core.List.{List, [], _++_, append-assoc, append-nil}
-use Prim.Native.Nat.{ℕ, _+_, _-_, _≤_, _<_}
-use native.Mathlib.Nat.{zero-add, add-zero, add-assoc, le-refl}
+use mathlib.Core.List.{List, [], _∷_, _++_, append-assoc, append-nil}
+use Prim.Native.Nat.{ℕ, zero, suc, _+_, _-_, _≤_, _<_}
+use native.Mathlib.Nat.{zero-add, add-zero, add-assoc, le-refl, sub-zero, zero-sub, suc-sub-suc}
 use native.Mathlib.Numerals.{add-one}
 use native.Mathlib.Omega.{arith}
 use lib.ListN.{length, getD, set, take, drop, length-append, length-take, length-drop, take-append-drop, drop-of-length-le}
-use lib.Seq.{paste, paste-suc, length-paste, length-paste-head, drop-append-le, take-append-le, drop-append-add, take-length, take-all, length-take-le, drop-at, take-at, drop-drop, take-add, getD-drop, getD-append-add}
+use lib.Seq.{paste, paste-suc, length-paste, length-paste-head, drop-append-le, take-append-le, drop-append-add, take-nil, take-length, take-all, length-take-le, drop-at, take-at, drop-drop, take-add, getD-drop, getD-append-add}
 use borrow.Rule.Slice.PartMut.{putMid, midOf}
 use Rattle.lists.specs.Part.{part, put, removed, PutDone}
 
@@ -38,6 +38,13 @@ module _ {A : Type 0} where
   pub part-behind : (n : ℕ) (xs ys : List A) (k : ℕ) → part (length xs + k) n (xs ++ ys) ≡ part k n ys
   unfolding part
   part-behind n xs ys k = ap (take n) (drop-append-add xs ys k)
+
+  -- the first n elements without the first i of them
+  pub drop-take : (i n : ℕ) (l : List A) → drop i (take n l) ≡ take (n - i) (drop i l)
+  drop-take zero n l = ap (λ (k : ℕ). take k l) (sym (sub-zero n))
+  drop-take (suc i) zero l = ap (λ (k : ℕ). take k (drop (suc i) l)) (sym (zero-sub (suc i)))
+  drop-take (suc i) (suc n) [] = sym (take-nil (suc n - suc i))
+  drop-take (suc i) (suc n) (x ∷ l) = drop-take i n l ∙ ap (λ (k : ℕ). take k (drop i l)) (sym (suc-sub-suc n i))
 
   -- ---- put
   pub put-paste : (s : List A) (at : ℕ) (bs : List A) → paste s at bs (length bs) ≡ put s at bs
@@ -155,20 +162,14 @@ module _ {A : Type 0} where
       let e : length rest ≡ total - (at + n) = length-part (at + n) (total - (at + n)) l (omega arith) in
       ap (λ (m : ℕ). part at m (put l at rest)) (sym e) ∙ part-put l at rest (omega arith)
 
-  part-rest : (n total : ℕ) (l : List A) → n ≤ total → total ≤ length l → part n (total - n) l ≡ drop n (take total l)
-  unfolding part
-  part-rest n total l h k =
-      let e : n + (total - n) ≡ total = omega arith in
-      let f : length (take n l) ≡ n = length-take-le n l (omega arith) in
-      sym (ap (drop n) (ap (λ (m : ℕ). take m l) (sym e) ∙ take-add n (total - n) l) ∙ drop-at (take n l) (take (total - n) (drop n l)) n f)
-
   -- removed from the front: what is left stands first, in order
   pub take-removed : (n total : ℕ) (l : List A) → n ≤ total → total ≤ length l → take (total - n) (removed 0 n total l) ≡ drop n (take total l)
+  unfolding part
   take-removed n total l h k =
       let z : 0 + n ≡ n = zero-add n in
       sym (part-zero (total - n) (removed 0 n total l))
       ∙ rw z at (part-removed 0 n total l (omega arith) k)
-      ∙ part-rest n total l h k
+      ∙ sym (drop-take n total l)
 
   -- and the bytes behind stay
   pub drop-removed : (at n total : ℕ) (l : List A) → at + n ≤ total → total ≤ length l → drop (total - n) (removed at n total l) ≡ drop (total - n) l

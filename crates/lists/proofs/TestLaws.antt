@@ -1,6 +1,7 @@
 -- Laws of tests: what a test says as a fact, conjunctions taken apart, and lists of tests with their numbers. Assumes nothing.
 use mathlib.Core.Path.{_≡_, refl, sym, _∙_}
 use mathlib.Core.Bool.{Bool, true, false, cond, _&&_, false≢true, true≢false}
+pub use mathlib.Core.Bool.{and-false}
 use mathlib.Core.Logic.{_⊎_, inl, inr}
 use mathlib.Core.List.{List, [], _∷_}
 use Prim.Native.Nat.{ℕ, _≤_, _<_}
@@ -39,10 +40,6 @@ needed false f = f refl
 
 pub join : (a b : Bool) → a ≡ true → b ≡ true → a && b ≡ true
 join a b p q = simp (p, q)
-
-pub and-false : (b : Bool) → b && false ≡ false
-and-false true = refl
-and-false false = refl
 
 -- an order, and an equality, is decided
 pub lt-or-ge : (m n : ℕ) → (m < n) ⊎ (n ≤ m)

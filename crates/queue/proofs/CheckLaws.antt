@@ -8,10 +8,10 @@ use lib.Dec.{leb}
 use lib.ListN.{length, take, drop, getD}
 use borrow.Author.Tests.{leb-true, le-leb}
 use Rattle.lists.proofs.TestLaws.{both, within-facts, within-of}
+use Rattle.lists.proofs.ArrayLaws.{rest-cons, rest-none}
 use Rattle.settings.specs.Range.{packetLengthOk}
 use Rattle.queue.specs.declared.Packet.{Packet}
 use Rattle.queue.specs.Held.{noPacket, lengthsOk, sumLengths, epochsOk}
-use Rattle.queue.proofs.ArrayLaws.{rest-cons, rest-none}
 
 -- low is the epoch of the packet before, total the sum of the lengths passed
 pub record Left (n top : ℕ) (ps : List Packet) (low total i : ℕ) : Type 0 where

@@ -2,13 +2,13 @@
 use mathlib.Core.Path.{_≡_, refl, sym, ap, ap₂, _∙_}
 use mathlib.Core.Bool.{true}
 use mathlib.Core.List.{List, [], _∷_, _++_}
-use Prim.Native.Nat.{ℕ, zero, suc, _+_, _-_, _≤_, _<_}
-use native.Mathlib.Nat.{zero-add, suc-add}
+use Prim.Native.Nat.{ℕ, suc, _+_, _-_, _≤_, _<_}
+use native.Mathlib.Nat.{zero-add}
 use native.Mathlib.Omega.{arith}
 use lib.ListN.{length, take, drop}
-use lib.Seq.{length-take-le, take-nil, take-take, drop-drop, take-at}
+use lib.Seq.{length-take-le, take-take, drop-drop, take-at}
 use Rattle.lists.specs.Part.{part, put, removed}
-use Rattle.lists.proofs.PartLaws.{length-put, length-removed, put-front, take-put, part-put, part-removed}
+use Rattle.lists.proofs.PartLaws.{drop-take, length-put, length-removed, put-front, take-put, part-put, part-removed}
 use Rattle.settings.specs.Range.{mostPackets}
 use Rattle.queue.specs.declared.Packet.{Packet}
 use Rattle.queue.specs.declared.Queue.{Queue}
@@ -17,11 +17,6 @@ use Rattle.queue.specs.HeldList.{Held, heldFrom, heldList}
 use Rattle.queue.proofs.QueueLaws.{queue-tests, held-count, space-facts, held-split, held-more, oldest-within}
 
 -- ---- packets whose bytes stand in a list
-drop-take : {A : Type 0} (n m : ℕ) (l : List A) → drop n (take (n + m) l) ≡ take m (drop n l)
-drop-take zero m l = rw zero-add
-drop-take (suc n) m [] = rw suc-add (sym (take-nil m))
-drop-take (suc n) m (x ∷ l) = rw suc-add (drop-take n m l)
-
 length-held-from : (ps : List Packet) (s : List ℕ) → length (heldFrom ps s) ≡ length ps
 unfolding heldFrom
 length-held-from [] s = refl
@@ -43,7 +38,8 @@ held-from-same (p ∷ ps) s t e =
     let n = p .length in
     let m = sumLengths ps in
     let b : take n s ≡ take n t = sym (take-take n (n + m) s (omega arith)) ∙ ap (take n) e ∙ take-take n (n + m) t (omega arith) in
-    let r : take m (drop n s) ≡ take m (drop n t) = sym (drop-take n m s) ∙ ap (drop n) e ∙ drop-take n m t in
+    let o : n + m - n ≡ m = omega arith in
+    let r : take m (drop n s) ≡ take m (drop n t) = rw o at (sym (drop-take n (n + m) s) ∙ ap (drop n) e ∙ drop-take n (n + m) t) in
     ap₂ (λ (bs : List ℕ) (l : List Held). record { epoch = p .epoch; bytes = bs } ∷ l) b (held-from-same ps (drop n s) (drop n t) r)
 
 -- ---- the queue

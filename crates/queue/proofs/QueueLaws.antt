@@ -12,11 +12,11 @@ use lib.ListN.{length, getD, length-set}
 use lib.Seq.{take-suc-set, getD-take, length-take-le}
 use borrow.Author.Tests.{leb-true, le-leb, ltb-true, lt-ltb, eqb-true, eq-eqb}
 use Rattle.lists.proofs.TestLaws.{both, join}
+use Rattle.lists.proofs.ArrayLaws.{rest-cons, take-freed, length-freed}
 use Rattle.settings.specs.Range.{mostPackets, packetLengthOk}
 use Rattle.queue.specs.declared.Packet.{Packet}
 use Rattle.queue.specs.declared.Queue.{Queue}
 use Rattle.queue.specs.Held.{noPacket, emptyQueue, heldPackets, oldest, lengthsOk, sumLengths, epochsOk, queueOk, hasSpace, added, withoutOldest}
-use Rattle.queue.proofs.ArrayLaws.{rest-cons, take-freed, length-freed}
 use Rattle.queue.proofs.PacketLaws.{lengths-cons, lengths-at, lengths-of, lengths-more, sum-more, epochs-cons, epochs-high, epochs-rise, epochs-of, epochs-more, epochs-wider}
 
 -- ---- the range, test by test

@@ -8,13 +8,12 @@ use lib.ListN.{length, take, drop, length-drop}
 use lib.Seq.{take-take, take-all, take-append-le, drop-drop, length-take-le}
 use Rattle.lists.specs.Part.{part}
 use Rattle.lists.specs.Page.{page, withPage}
-use Rattle.lists.proofs.PartLaws.{take-put, length-removed, take-removed, drop-removed}
+use Rattle.lists.proofs.PartLaws.{drop-take, take-put, length-removed, take-removed, drop-removed}
 use Rattle.lists.proofs.PageLaws.{page-with-same}
 use Rattle.settings.specs.Range.{mostSlots}
 use Rattle.staging.specs.declared.Slots.{Slots}
 use Rattle.staging.specs.Slot.{withBlock, withBlockBytes, allDue, onlyDue, flushed, flushedBytes}
 use Rattle.staging.specs.SlotList.{stagedFrom, slotList, dueList}
-use Rattle.staging.proofs.ArrayLaws.{drop-take}
 use Rattle.staging.proofs.SlotLaws.{numbers-more, numbers-rest}
 
 module _ (u : ℕ) where

@@ -12,10 +12,10 @@ use lib.ListN.{length, take, drop, getD, length-set}
 use lib.Seq.{take-suc-set, take-take, getD-take, length-take-le}
 use borrow.Author.Tests.{leb-true, le-leb, ltb-true, lt-ltb, le-ltb}
 use Rattle.lists.proofs.TestLaws.{both, join}
+use Rattle.lists.proofs.ArrayLaws.{rest-cons, rest-none, take-freed, length-freed}
 use Rattle.settings.specs.Range.{mostSlots}
 use Rattle.staging.specs.declared.Slots.{Slots}
 use Rattle.staging.specs.Slot.{emptySlots, numbersOk, slotsOk, freeSlots, withBlock, allDue, onlyDue, flushed}
-use Rattle.staging.proofs.ArrayLaws.{rest-cons, rest-none, take-freed, length-freed}
 
 -- ---- numbers below d
 pub numbers-cons : (d n : ℕ) (ns : List ℕ) → numbersOk d (n ∷ ns) ≡ true → (n < d) × (numbersOk d ns ≡ true)

@@ -5,7 +5,8 @@ use native.Mathlib.Omega.{arith}
 use lib.ListN.{length, drop, length-set}
 use lib.Seq.{paste, paste-zero}
 use borrow.Author.Needs.{needs}
-use Rattle.staging.proofs.ArrayLaws.{front-turn, front-end}
+use Rattle.lists.proofs.ArrayLaws.{front-turn}
+use Rattle.staging.proofs.ArrayLaws.{front-end}
 use Rattle.staging.proofs.moved.Statement.{statement}
 use Rattle.staging.proofs.moved.Tie as tie
 
