@@ -1,10 +1,9 @@
-// The standby's block slots and staged pages.
+// The standby's block slots.
 ghost use mathlib.Core.Path.{_≡_};
 ghost use Prim.Native.Nat.{_+_, _*_, _≤_, _<_};
 ghost use lib.ListN.{length, take, replicate};
 ghost use Rattle.lists.specs.Part.{put, removed};
 ghost use Rattle.lists.specs.Page.{page, withPage};
-ghost use Rattle.marks.specs.Mark.{withMark};
 ghost use Rattle.settings.specs.Range.{mostSlots};
 ghost use Rattle.staging.specs.Slot.{numbersOk, slotsOk, freeSlots, withBlock, withBlockBytes, allDue, onlyDue, flushCount, stored, flushed, flushedBytes};
 ghost use Rattle.staging.specs.Fits.{StoreFits, FlushFits};
@@ -203,14 +202,4 @@ pub fn flush(slots: &mut [u8], disk: &mut [u8], k: Slots, u: usize, n: usize) ->
     store(disk, slots, k, u, count);
     free_bytes(slots, k, u, count);
     count
-}
-
-// Copies a page's bytes to its place among the staged pages, and marks it.
-pub fn stage_page(pages: &mut [u8], marks: &mut [u64], u: usize, p: usize, bytes: &[u8])
-    requires { ⌜ (length (now bytes) ≡ u) × (p * u + u ≤ length (now pages)) ⌝ }
-    ensures { λ _. ⌜ now (pages .exit) ≡ withPage u (now (pages .entry)) p (now (bytes .entry)) ⌝ }
-    ensures { λ _. ⌜ now (marks .exit) ≡ withMark (now (marks .entry)) p ⌝ }
-{
-    lists::copy_into(pages, p * u, bytes);
-    marks::mark(marks, p);
 }
