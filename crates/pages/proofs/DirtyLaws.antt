@@ -18,7 +18,7 @@ use Rattle.lists.proofs.PageLaws.{page-end, gather-none, gather-more, length-pa
 use Rattle.records.specs.Kind.{PAGE, bodyLength, recordLength}
 use Rattle.records.specs.Write.{pageRecord, fitsTwo, unitFits, Written}
 use Rattle.records.proofs.FrameLaws.{length-unit}
-use Rattle.records.proofs.WriteLaws.{part-room, written-part, written-length}
+use Rattle.records.proofs.WriteLaws.{written-done}
 use Rattle.marks.specs.Mark.{marked, countMarks}
 use Rattle.marks.specs.Next.{NextMarked}
 use Rattle.marks.proofs.MarkLaws.{count-zero, count-marked, count-unmarked, count-more}
@@ -78,12 +78,7 @@ one-written memory out body after at n u epoch p room inside number size e w =
     let k : length body ≡ u = rw e (length-part (p * u) u memory inside) in
     let j : length (pageRecord epoch p body) ≡ recordLength u PAGE = length-page-record u epoch p body k in
     let f : unitFits p body ≡ true = join (fitsTwo p) (fitsTwo (length body + 6)) (lt-ltb p (2 ^ 16) number) (lt-ltb (length body + 6) (2 ^ 16) (omega arith)) in
-    let h = part-room (unitFits p body) (pageRecord epoch p body) out at f (omega arith) in
-    rw (← e)
-    record {
-      bytes = written-part (unitFits p body) (pageRecord epoch p body) out at w (omega arith) h;
-      position = ap (λ (x : ℕ). at + x) (written-length w h);
-    }
+    rw (← e) (written-done (unitFits p body) (pageRecord epoch p body) out after at n f (omega arith) w)
 
 -- ---- the loop that writes them: the dirty pages below p are written, and p is the next dirty page, or m
 pub record Writing (memory dirty : List ℕ) (u epoch m : ℕ) (before after : List ℕ) (at p : ℕ) : Type 0 where

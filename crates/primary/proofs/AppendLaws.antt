@@ -1,6 +1,5 @@
--- Laws of appending to the outgoing buffer: one record, and the records of a checkpoint one after the other. Assumes nothing.
+-- Laws of appending to the outgoing buffer: the dirty pages, and the records of a checkpoint one after the other. Assumes nothing.
 use mathlib.Core.Path.{_≡_, sym, ap, _∙_}
-use mathlib.Core.Bool.{Bool, true}
 use mathlib.Core.List.{List, _++_}
 use Prim.Native.Nat.{ℕ, _+_, _-_, _*_, _^_, _≤_, _<_}
 use native.Mathlib.Omega.{arith}
@@ -9,9 +8,8 @@ use borrow.Rule.Slice.PartMut.{putMid, midOf}
 use Rattle.lists.specs.Part.{put, PutDone}
 use Rattle.lists.proofs.PartLaws.{part-back-front, put-done-more, put-done-length}
 use Rattle.records.specs.Kind.{PAGE, processorBytes, recordLength}
-use Rattle.records.specs.Write.{stateRecord, commitRecord, Written}
+use Rattle.records.specs.Write.{stateRecord, commitRecord}
 use Rattle.records.proofs.FrameLaws.{length-state}
-use Rattle.records.proofs.WriteLaws.{part-room, written-part, written-length}
 use Rattle.settings.proofs.RangeLaws.{page-record, state-commit-records}
 use Rattle.marks.specs.Mark.{countMarks}
 use Rattle.marks.proofs.MarkLaws.{count-le}
@@ -21,13 +19,6 @@ use Rattle.rules.specs.declared.Primary.{Primary}
 use Rattle.rules.specs.Checkpoint.{dirtyCount, checkpointLength, checkpointBytes}
 use Rattle.rules.proofs.PrimaryFacts.{PrimaryFacts, primary-facts}
 use Rattle.rules.proofs.CheckpointLaws.{CheckpointRoom}
-
--- a record with room, written into the part from at on
-pub written-done : (fits : Bool) (bs s after : List ℕ) (at r : ℕ) → fits ≡ true → at + length bs ≤ length s → Written fits bs (midOf at (length s - at) s) after r
-    → PutDone bs s at (putMid at (length s - at) s after) (at + r)
-written-done fits bs s after at r f h w =
-    let room = part-room fits bs s at f h in
-    record { bytes = written-part fits bs s at w (omega arith) room; position = ap (λ (x : ℕ). at + x) (written-length w room) }
 
 -- the dirty pages, written into the part from at on
 pub pages-done : (memory dirty s after : List ℕ) (u epoch m at r : ℕ) → length memory ≡ m * u → at ≤ length s

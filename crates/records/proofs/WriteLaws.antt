@@ -8,7 +8,7 @@ use lib.Dec.{leb}
 use lib.ListN.{length, length-append, length-take, length-drop}
 use borrow.Author.Tests.{leb-true, le-leb, ltb-true, lt-ltb}
 use borrow.Rule.Slice.PartMut.{putMid, midOf}
-use Rattle.lists.specs.Part.{put}
+use Rattle.lists.specs.Part.{put, PutDone}
 use Rattle.lists.specs.LittleEndian.{leBytes}
 use Rattle.lists.proofs.TestLaws.{both, join, refuted, cond-true, cond-false}
 use Rattle.lists.proofs.PartLaws.{put-next, part-back-front, part-back-same}
@@ -117,3 +117,10 @@ module _ (fits : Bool) (bs s : List ℕ) (at : ℕ) where
     -- without it the whole is as before
     pub unwritten-part : hasRoom fits bs (midOf at (length s - at) s) ≡ false → putMid at (length s - at) s after ≡ s
     unwritten-part e = ap (putMid at (length s - at) s) (unwritten-bytes w e) ∙ part-back-same s at
+
+-- with room, the record in its place and the position behind it
+pub written-done : (fits : Bool) (bs s after : List ℕ) (at r : ℕ) → fits ≡ true → at + length bs ≤ length s → Written fits bs (midOf at (length s - at) s) after r
+    → PutDone bs s at (putMid at (length s - at) s after) (at + r)
+written-done fits bs s after at r f h w =
+    let room = part-room fits bs s at f h in
+    record { bytes = written-part fits bs s at w (omega arith) room; position = ap (λ (x : ℕ). at + x) (written-length w room) }

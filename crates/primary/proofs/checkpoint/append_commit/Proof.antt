@@ -7,7 +7,7 @@ use borrow.Author.Tests.{lt-ltb}
 use Rattle.lists.proofs.TestLaws.{join}
 use Rattle.records.specs.Write.{fitsTwo, commitRecord}
 use Rattle.records.proofs.FrameLaws.{length-commit}
-use Rattle.primary.proofs.AppendLaws.{written-done}
+use Rattle.records.proofs.WriteLaws.{written-done}
 use Rattle.primary.proofs.checkpoint.append_commit.Statement.{statement}
 use Rattle.primary.proofs.checkpoint.append_commit.Tie as tie
 

@@ -6,7 +6,7 @@ use native.Mathlib.Omega.{arith}
 use lib.ListN.{length}
 use Rattle.records.specs.Write.{stateRecord}
 use Rattle.records.proofs.FrameLaws.{length-state}
-use Rattle.primary.proofs.AppendLaws.{written-done}
+use Rattle.records.proofs.WriteLaws.{written-done}
 use Rattle.primary.proofs.checkpoint.append_state.Statement.{statement}
 use Rattle.primary.proofs.checkpoint.append_state.Tie as tie
 

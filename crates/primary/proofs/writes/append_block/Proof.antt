@@ -11,7 +11,7 @@ use Rattle.lists.proofs.TestLaws.{join, cond-false}
 use Rattle.records.specs.Write.{unitFits, blockRecord}
 use Rattle.records.specs.Kind.{BLOCK}
 use Rattle.records.proofs.FrameLaws.{length-unit}
-use Rattle.primary.proofs.AppendLaws.{written-done}
+use Rattle.records.proofs.WriteLaws.{written-done}
 use Rattle.primary.proofs.writes.append_block.Statement.{statement}
 use Rattle.primary.proofs.writes.append_block.Tie as tie
 
