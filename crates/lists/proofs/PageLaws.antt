@@ -12,14 +12,11 @@ use lib.Seq.{take-all, length-take-le, drop-at, take-append-le, drop-append-le, 
 use Rattle.lists.specs.Part.{part, put}
 use Rattle.lists.specs.Page.{page, withPage, gather}
 use Rattle.lists.proofs.TestLaws.{lt-or-ge}
-use Rattle.lists.proofs.PartLaws.{length-part, length-put, part-put, put-same}
+use Rattle.lists.proofs.PartLaws.{length-part, length-put, part-put}
 
--- ---- sizes: p * u, where u is a variable. These are the only facts about the product that the rest uses
+-- ---- sizes: p * u, where u is a variable. This is the only fact about the product that the rest uses
 pub page-end : (p m u : ℕ) → p < m → p * u + u ≤ m * u
 page-end p m u h = subst (λ (x : ℕ). x ≤ m * u) (suc-mul p u) (mul-le-mul-right u h)
-
-pub page-next : (p u : ℕ) → (p + 1) * u ≡ p * u + u
-page-next p u = ap (λ (x : ℕ). x * u) (add-one p) ∙ suc-mul p u
 
 below-or-at : (p n : ℕ) → p < suc n → (p < n) ⊎ (p ≡ n)
 below-or-at p n l = ⊎-elim inr inl (eq-or-lt-of-le (le-of-suc-le-suc l))
@@ -42,18 +39,6 @@ module _ {A : Type 0} where
         length-append (gather f n) (f n)
         ∙ ap₂ _+_ (length-gather u n (λ p l. h p (omega arith))) (h n (le-refl (suc n)))
         ∙ sym (suc-mul n u)
-
-    pub length-gather-more : (n : ℕ) → length (gather f (n + 1)) ≡ length (gather f n) + length (f n)
-    length-gather-more n = ap length (gather-more n) ∙ length-append (gather f n) (f n)
-
-    gather-mono : (d n : ℕ) → length (gather f n) ≤ length (gather f (n + d))
-    gather-mono zero n = rw add-zero (le-refl _)
-    gather-mono (suc d) n =
-        let e : n + suc d ≡ n + d + 1 = omega arith in
-        omega (arith, gather-mono d n, ap (λ (k : ℕ). length (gather f k)) e, length-gather-more (n + d))
-
-    pub gather-le : (n m : ℕ) → n ≤ m → length (gather f n) ≤ length (gather f m)
-    gather-le n m h = let e : n + (m - n) ≡ m = omega arith in subst (λ (k : ℕ). length (gather f n) ≤ length (gather f k)) e (gather-mono (m - n) n)
 
     -- page p of what is gathered, where each part has u bytes
     pub page-gather : (u n p : ℕ) → ((q : ℕ) → q < n → length (f q) ≡ u) → p < n → page u (gather f n) p ≡ f p
@@ -156,8 +141,3 @@ module _ (u p : ℕ) (l bs : List ℕ) (size : length bs ≡ u) (fits : p * u + 
   unfolding withPage
   page-with-other q ne =
       ap (λ (n : ℕ). page u (put l n bs) q) (sym (add-zero (p * u))) ∙ page-put-other l u p q 0 bs ne (omega (arith, zero-add (length bs))) fits
-
--- storing a page where it was changes nothing
-pub with-page-same : (u p : ℕ) (l : List ℕ) → p * u + u ≤ length l → withPage u l p (page u l p) ≡ l
-unfolding page withPage
-with-page-same u p l h = put-same l (p * u) u h

@@ -5,8 +5,8 @@ use Prim.Native.Nat.{ℕ, zero, suc, _+_, _-_, _≤_, _<_}
 use native.Mathlib.Nat.{zero-add, add-zero, add-assoc, le-refl, sub-zero, zero-sub, suc-sub-suc}
 use native.Mathlib.Numerals.{add-one}
 use native.Mathlib.Omega.{arith}
-use lib.ListN.{length, getD, set, take, drop, length-append, length-take, length-drop, take-append-drop, drop-of-length-le}
-use lib.Seq.{paste, paste-suc, length-paste, length-paste-head, drop-append-le, take-append-le, drop-append-add, take-nil, take-length, take-all, length-take-le, drop-at, take-at, drop-drop, take-add, getD-drop, getD-append-add}
+use lib.ListN.{length, getD, set, take, drop, length-append, length-drop, take-append-drop, drop-of-length-le}
+use lib.Seq.{paste, paste-suc, length-paste, length-paste-head, take-nil, take-length, take-all, length-take-le, drop-at, take-at, drop-drop, take-add, getD-drop, getD-append-add}
 use borrow.Rule.Slice.PartMut.{putMid, midOf}
 use Rattle.lists.specs.Part.{part, put, removed, PutDone}
 
@@ -20,24 +20,10 @@ module _ {A : Type 0} where
   unfolding part
   part-zero n l = refl
 
-  pub part-none : (at : ℕ) (l : List A) → part at 0 l ≡ []
-  unfolding part
-  part-none at l = refl
-
   -- the part that `&s[at..e]` lends
   pub part-lent : (at n : ℕ) (l : List A) → take (at + n - at) (drop at l) ≡ part at n l
   unfolding part
   part-lent at n l = let e : at + n - at ≡ n = omega arith in rw e
-
-  pub part-in-front : (at n : ℕ) (xs ys : List A) → at + n ≤ length xs → part at n (xs ++ ys) ≡ part at n xs
-  unfolding part
-  part-in-front at n xs ys h =
-      let k : n ≤ length (drop at xs) = rw length-drop (omega arith) in
-      ap (take n) (drop-append-le at xs ys (omega arith)) ∙ take-append-le n (drop at xs) ys k
-
-  pub part-behind : (n : ℕ) (xs ys : List A) (k : ℕ) → part (length xs + k) n (xs ++ ys) ≡ part k n ys
-  unfolding part
-  part-behind n xs ys k = ap (take n) (drop-append-add xs ys k)
 
   -- the first n elements without the first i of them
   pub drop-take : (i n : ℕ) (l : List A) → drop i (take n l) ≡ take (n - i) (drop i l)
@@ -133,18 +119,6 @@ module _ {A : Type 0} where
       → putMid at (length s - at) s ys ≡ put s at bs
   part-back-front s at ys bs h e =
       part-back s at 0 ys bs (omega arith) e ∙ ap (λ (n : ℕ). put s n bs) (add-zero at)
-
-  -- a part that comes back as it was
-  pub part-back-same : (s : List A) (at : ℕ) → putMid at (length s - at) s (midOf at (length s - at) s) ≡ s
-  part-back-same s at = rw (take-append-drop (length s - at) (drop at s), take-append-drop)
-
-  -- `&mut s[a..a + k]`, all of it replaced
-  pub mid-back : (s : List A) (a k : ℕ) (ys bs : List A) → a + k ≤ length s → length bs ≡ k → ys ≡ put (midOf a k s) 0 bs → putMid a k s ys ≡ put s a bs
-  unfolding put
-  mid-back s a k ys bs h l e =
-      let le : length (take k (drop a s)) ≤ length bs = simp (length-take, length-drop) (omega arith) in
-      let e′ : ys ≡ bs = e ∙ rw (zero-add, drop-of-length-le (take k (drop a s)) le) (append-nil bs) in
-      rw (e′, drop-drop, ← l) (sym (append-assoc (take a s) bs (drop (a + length bs) s)))
 
   -- ---- removal
   pub length-removed : (at n total : ℕ) (l : List A) → at + n ≤ total → total ≤ length l → length (removed at n total l) ≡ length l

@@ -89,10 +89,6 @@ bit-with-same w k = bit-with w k k ∙ omega (arith, bit-one-same k, bit-lt w k)
 pub bit-with-other : (w k j : ℕ) → j ≢ k → bit (withBit w k) j ≡ bit w j
 bit-with-other w k j ne = bit-with w k j ∙ omega (arith, bit-one-other k j ne)
 
-pub with-set : (w k : ℕ) → bit w k ≡ 1 → withBit w k ≡ w
-unfolding withBit
-with-set w k e = rw (e, zero-mul) (omega arith)
-
 -- ---- low bits cleared
 pub bit-below : (w m k : ℕ) → k < m → bit (w / 2 ^ m * 2 ^ m) k ≡ 0
 bit-below w m k h = low-zero (w / 2 ^ m) m k h

@@ -7,15 +7,14 @@ use Prim.Native.Nat.{ℕ, zero, suc, _+_, _*_, _^_, _≤_, _<_}
 use native.Mathlib.Nat.{suc-mul}
 use native.Mathlib.Numerals.{add-one}
 use native.Mathlib.Omega.{arith}
-use lib.ListN.{length, length-append}
+use lib.ListN.{length}
 use Rattle.lists.specs.Page.{page}
 use Rattle.lists.proofs.TestLaws.{by-test}
 use Rattle.lists.proofs.PageLaws.{gather-none, gather-more, length-page}
 use Rattle.records.specs.Message.{Message, encodeAll}
 use Rattle.records.specs.Message as message
 use Rattle.records.proofs.MessageLaws.{encodeAll-append}
-use Rattle.marks.specs.Mark.{marked, countMarks}
-use Rattle.marks.proofs.MarkLaws.{count-zero, count-marked, count-unmarked}
+use Rattle.marks.specs.Mark.{marked}
 use Rattle.pages.specs.Dirty.{dirtyRecords}
 use Rattle.pages.specs.DirtyMessages.{dirtyMessage, dirtyMessages, AllFit}
 use Rattle.pages.proofs.DirtyLaws.{dirty-none, dirty-marked, dirty-unmarked}
@@ -47,16 +46,6 @@ module _ (memory dirty : List ℕ) (u epoch : ℕ) where
       (⊎-elim
       (λ e. rw (messages-marked m e, dirty-marked memory dirty u epoch m e, encodeAll-append, dirty-encode m, append-nil))
       (λ e. rw (messages-unmarked m e, dirty-unmarked memory dirty u epoch m e) (dirty-encode m))
-      (by-test (marked dirty m)))
-
-  -- as many as are marked
-  pub length-messages : (m : ℕ) → length (dirtyMessages memory dirty u epoch m) ≡ countMarks dirty m
-  length-messages zero = rw (messages-none, count-zero)
-  length-messages (suc m) =
-      rw (← add-one m)
-      (⊎-elim
-      (λ e. rw (messages-marked m e, count-marked dirty m e, length-append, length-messages m))
-      (λ e. rw (messages-unmarked m e, count-unmarked dirty m e) (length-messages m))
       (by-test (marked dirty m)))
 
   -- and each fits

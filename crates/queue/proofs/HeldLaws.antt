@@ -2,7 +2,7 @@
 use mathlib.Core.Path.{_≡_, refl, sym, ap, ap₂, _∙_}
 use mathlib.Core.Bool.{true}
 use mathlib.Core.List.{List, [], _∷_, _++_}
-use Prim.Native.Nat.{ℕ, suc, _+_, _-_, _≤_, _<_}
+use Prim.Native.Nat.{ℕ, _+_, _-_, _≤_, _<_}
 use native.Mathlib.Nat.{zero-add}
 use native.Mathlib.Omega.{arith}
 use lib.ListN.{length, take, drop}
@@ -14,14 +14,9 @@ use Rattle.queue.specs.declared.Packet.{Packet}
 use Rattle.queue.specs.declared.Queue.{Queue}
 use Rattle.queue.specs.Held.{emptyQueue, heldPackets, oldest, sumLengths, queueOk, hasSpace, added, addedBytes, withoutOldest, withoutOldestBytes, oldestBytes}
 use Rattle.queue.specs.HeldList.{Held, heldFrom, heldList}
-use Rattle.queue.proofs.QueueLaws.{queue-tests, held-count, space-facts, held-split, held-more, oldest-within}
+use Rattle.queue.proofs.QueueLaws.{queue-tests, space-facts, held-split, held-more, oldest-within}
 
 -- ---- packets whose bytes stand in a list
-length-held-from : (ps : List Packet) (s : List ℕ) → length (heldFrom ps s) ≡ length ps
-unfolding heldFrom
-length-held-from [] s = refl
-length-held-from (p ∷ ps) s = ap suc (length-held-from ps (drop (p .length) s))
-
 held-from-more : (ps : List Packet) (p : Packet) (s : List ℕ)
     → heldFrom (ps ++ (p ∷ [])) s ≡ heldFrom ps s ++ (record { epoch = p .epoch; bytes = part (sumLengths ps) (p .length) s } ∷ [])
 unfolding heldFrom sumLengths part
@@ -48,18 +43,6 @@ unfolding heldList heldFrom
 held-empty held = refl
 
 module _ (k : Queue) (array : length (k .packets) ≡ mostPackets) (epoch q : ℕ) (ok : queueOk k epoch q ≡ true) (held : List ℕ) (size : length held ≡ q) where
-  pub length-held : length (heldList k held) ≡ k .count
-  unfolding heldList
-  length-held =
-      length-held-from (heldPackets k) held ∙ held-count k array (queue-tests k epoch q ok .count-high)
-
-  -- only the bytes held matter
-  pub held-same : (s : List ℕ) → take (k .bytes) s ≡ take (k .bytes) held → heldList k s ≡ heldList k held
-  unfolding heldList
-  held-same s e =
-      let b = queue-tests k epoch q ok .sum-is in
-      held-from-same (heldPackets k) s held (rw b e)
-
   -- ---- one packet more
   module _ (packet : List ℕ) (space : hasSpace k q (length packet) ≡ true) where
     pub length-added-bytes : length (addedBytes k held packet) ≡ length held
@@ -117,6 +100,3 @@ module _ (k : Queue) (array : length (k .packets) ≡ mostPackets) (epoch q : �
         let h : Held = record { epoch = oldest k .epoch; bytes = take n held } in
         ap (λ (l : List Packet). heldFrom l held) split
         ∙ ap (λ (l : List Held). h ∷ l) (held-from-same ps (drop n held) (removed 0 n (k .bytes) held) (rw sum (sym moved)))
-
-    pub held-removed : heldList (withoutOldest k) (withoutOldestBytes k held) ≡ drop 1 (heldList k held)
-    held-removed = sym (ap (drop 1) held-oldest)

@@ -8,8 +8,8 @@ use native.Mathlib.Nat.{le-refl}
 use native.Mathlib.Numerals.{add-one}
 use native.Mathlib.Omega.{arith}
 use lib.Dec.{leb, ltb, eqb}
-use lib.ListN.{length, getD, length-set}
-use lib.Seq.{take-suc-set, getD-take, length-take-le}
+use lib.ListN.{length, length-set}
+use lib.Seq.{take-suc-set}
 use borrow.Author.Tests.{leb-true, le-leb, ltb-true, lt-ltb, eqb-true, eq-eqb}
 use Rattle.lists.proofs.TestLaws.{both, join}
 use Rattle.lists.proofs.ArrayLaws.{rest-cons, take-freed, length-freed}
@@ -17,7 +17,7 @@ use Rattle.settings.specs.Range.{mostPackets, packetLengthOk}
 use Rattle.queue.specs.declared.Packet.{Packet}
 use Rattle.queue.specs.declared.Queue.{Queue}
 use Rattle.queue.specs.Held.{noPacket, emptyQueue, heldPackets, oldest, lengthsOk, sumLengths, epochsOk, queueOk, hasSpace, added, withoutOldest}
-use Rattle.queue.proofs.PacketLaws.{lengths-cons, lengths-at, lengths-of, lengths-more, sum-more, epochs-cons, epochs-high, epochs-rise, epochs-of, epochs-more, epochs-wider}
+use Rattle.queue.proofs.PacketLaws.{lengths-cons, lengths-more, sum-more, epochs-cons, epochs-more, epochs-wider}
 
 -- ---- the range, test by test
 pub record QueueTests (k : Queue) (epoch q : ℕ) : Type 0 where
@@ -48,16 +48,6 @@ module _ (k : Queue) (epoch q : ℕ) where
   queue-tested f =
       simp (le-leb (k .count) mostPackets (f .count-high), f .lengths-ok, eq-eqb (sumLengths (heldPackets k)) (k .bytes) (f .sum-is), le-leb (k .bytes) q (f .bytes-high), f .epochs-ok)
 
--- ---- the range as facts about each packet that is held
-pub record QueueFacts (k : Queue) (epoch q : ℕ) : Type 0 where
-  pub count-high : k .count ≤ mostPackets
-  pub length-low : (i : ℕ) → i < k .count → 1 ≤ getD (k .packets) i noPacket .length
-  pub length-high : (i : ℕ) → i < k .count → getD (k .packets) i noPacket .length ≤ 1514
-  pub sum-is : sumLengths (heldPackets k) ≡ k .bytes
-  pub bytes-high : k .bytes ≤ q
-  pub epoch-rise : (i j : ℕ) → i ≤ j → j < k .count → getD (k .packets) i noPacket .epoch ≤ getD (k .packets) j noPacket .epoch
-  pub epoch-high : (i : ℕ) → i < k .count → getD (k .packets) i noPacket .epoch ≤ epoch
-
 -- ---- room for one packet more
 module _ (k : Queue) (q n : ℕ) where
   pub space-facts : hasSpace k q n ≡ true → (k .count < mostPackets) × (k .bytes + n ≤ q)
@@ -70,42 +60,6 @@ module _ (k : Queue) (q n : ℕ) where
 
 -- ---- a queue whose array has its 64 entries
 module _ (k : Queue) (array : length (k .packets) ≡ mostPackets) where
-  pub held-count : k .count ≤ mostPackets → length (heldPackets k) ≡ k .count
-  held-count h = length-take-le (k .count) (k .packets) (omega arith)
-
-  held-at : (i : ℕ) → i < k .count → getD (heldPackets k) i noPacket ≡ getD (k .packets) i noPacket
-  held-at i h = getD-take (k .count) (k .packets) i noPacket h
-
-  pub queue-facts : (epoch q : ℕ) → queueOk k epoch q ≡ true → QueueFacts k epoch q
-  queue-facts epoch q ok =
-      let t = queue-tests k epoch q ok in
-      let n = held-count (t .count-high) in
-      record {
-        count-high = t .count-high;
-        length-low = λ i h. rw (held-at i h) at (lengths-at (heldPackets k) i (t .lengths-ok) (omega arith) .0);
-        length-high = λ i h. rw (held-at i h) at (lengths-at (heldPackets k) i (t .lengths-ok) (omega arith) .1);
-        sum-is = t .sum-is;
-        bytes-high = t .bytes-high;
-        epoch-rise = λ i j g h.
-            let h′ : i < k .count = omega arith in
-            rw (held-at i h′, held-at j h) at (epochs-rise (heldPackets k) 0 epoch i j (t .epochs-ok) g (omega arith));
-        epoch-high = λ i h. rw (held-at i h) at (epochs-high (heldPackets k) 0 epoch i (t .epochs-ok) (omega arith));
-      }
-
-  pub queue-of : (epoch q : ℕ) → QueueFacts k epoch q → queueOk k epoch q ≡ true
-  queue-of epoch q f =
-      let n = held-count (f .count-high) in
-      let at : (i : ℕ) → i < length (heldPackets k) → getD (heldPackets k) i noPacket ≡ getD (k .packets) i noPacket = λ i h. held-at i (omega arith) in
-      queue-tested k epoch q
-      (record {
-        count-high = f .count-high;
-        lengths-ok = lengths-of (heldPackets k) (λ i h. rw (at i h) (f .length-low i (omega arith), f .length-high i (omega arith)));
-        sum-is = f .sum-is;
-        bytes-high = f .bytes-high;
-        epochs-ok = epochs-of (heldPackets k) 0 epoch (omega arith) (λ i h. omega arith) (λ i h. rw (at i h) (f .epoch-high i (omega arith)))
-            (λ i j a h. let h′ : i < length (heldPackets k) = omega arith in rw (at i h′, at j h) (f .epoch-rise i j a (omega arith)));
-      })
-
   -- ---- one packet more
   module _ (epoch n : ℕ) where
     pub held-more : k .count < mostPackets → heldPackets (added k epoch n) ≡ heldPackets k ++ (record { epoch = epoch; length = n } ∷ [])
@@ -133,15 +87,6 @@ module _ (k : Queue) (array : length (k .packets) ≡ mostPackets) where
 
   -- ---- the oldest, where there is one
   module _ (epoch q : ℕ) (ok : queueOk k epoch q ≡ true) (some : 0 < k .count) where
-    pub oldest-low : 1 ≤ oldest k .length
-    oldest-low = queue-facts epoch q ok .length-low 0 some
-
-    pub oldest-high : oldest k .length ≤ 1514
-    oldest-high = queue-facts epoch q ok .length-high 0 some
-
-    pub oldest-epoch : oldest k .epoch ≤ epoch
-    oldest-epoch = queue-facts epoch q ok .epoch-high 0 some
-
     -- the packets held are the oldest and those that stay
     pub held-split : heldPackets k ≡ oldest k ∷ heldPackets (withoutOldest k)
     unfolding withoutOldest
@@ -195,6 +140,3 @@ unfolding lengthsOk sumLengths epochsOk
 queue-empty epoch q =
     queue-tested emptyQueue epoch q
     (record { count-high = omega arith; lengths-ok = refl; sum-is = refl; bytes-high = omega arith; epochs-ok = le-leb 0 epoch (omega arith) })
-
-pub array-empty : length (emptyQueue .packets) ≡ mostPackets
-array-empty = refl

@@ -1,7 +1,6 @@
 -- Laws of the record area: what it reads as, and what all zero means. Assumes nothing.
 use mathlib.Core.Path.{_≡_, refl, sym, ap, _∙_}
 use mathlib.Core.Bool.{true, false}
-use mathlib.Core.Logic.{⊎-elim}
 use mathlib.Core.List.{List, [], _∷_}
 use Prim.Native.Nat.{ℕ, zero, suc, _^_, _<_}
 use native.Mathlib.Omega.{arith}
@@ -9,7 +8,7 @@ use lib.Dec.{eqb}
 use lib.ListN.{length, getD, replicate}
 use borrow.Author.Tests.{eqb-true, eq-eqb, ne-eqb}
 use Rattle.lists.specs.LittleEndian.{leAt, leBytes}
-use Rattle.lists.proofs.TestLaws.{both, join, refuted, and-false, eq-or-ne}
+use Rattle.lists.proofs.TestLaws.{both, refuted, and-false}
 use Rattle.lists.proofs.LittleEndianLaws.{leAt-leBytes}
 use Rattle.records.specs.declared.Area.the-variants.{Zero, Activation, Neither}
 use Rattle.records.specs.Kind.{ACTIVATION}
@@ -24,13 +23,6 @@ all-zero-at [] e i = refl
 all-zero-at (b ∷ s) e zero = eqb-true b 0 (both (eqb b 0) (allZero s) e .0)
 all-zero-at (b ∷ s) e (suc i) = all-zero-at s (both (eqb b 0) (allZero s) e .1) i
 
--- and back
-pub all-zero-of : (s : List ℕ) → ((i : ℕ) → i < length s → getD s i 0 ≡ 0) → allZero s ≡ true
-unfolding allZero
-all-zero-of [] f = refl
-all-zero-of (b ∷ s) f =
-    join (eqb b 0) (allZero s) (eq-eqb b 0 (f 0 (omega arith))) (all-zero-of s (λ i h. f (suc i) (omega arith)))
-
 pub all-zero-replicate : (n : ℕ) → allZero (replicate n 0) ≡ true
 unfolding allZero
 all-zero-replicate zero = refl
@@ -41,10 +33,6 @@ module _ (s : List ℕ) where
   pub area-other-length : (length s ≡ areaLength → ⊥) → areaOf s ≡ Neither
   unfolding areaOf
   area-other-length h = rw (ne-eqb _ _ h)
-
-  -- anything but neither has 8 bytes
-  pub area-length : (areaOf s ≡ Neither → ⊥) → length s ≡ areaLength
-  area-length f = ⊎-elim (λ e. e) (λ n. absurd (f (area-other-length n))) (eq-or-ne (length s) areaLength)
 
   module _ (h : length s ≡ areaLength) where
     pub area-of-zero : allZero s ≡ true → areaOf s ≡ Zero

@@ -1,7 +1,7 @@
 -- Laws of messages and streams of them: a message is read back, a first part of it is cut short, and its bytes stand at the cursor. Assumes nothing.
 use mathlib.Core.Path.{_≡_, refl, sym, ap, _∙_}
 use mathlib.Core.Bool.{true, cond}
-use mathlib.Core.Logic.{_⊎_, inl, inr, ⊎-elim}
+use mathlib.Core.Logic.{⊎-elim}
 use mathlib.Core.List.{List, [], _∷_, _++_, append-assoc, append-nil}
 use Prim.Native.Nat.{ℕ, _+_, _-_, _≤_, _<_}
 use native.Mathlib.Omega.{arith}
@@ -148,12 +148,7 @@ module _ (reader : Reader) (u : ℕ) (v : unitOk u ≡ true) where
         let e : length (encode m) + (n - length (encode m)) ≡ n = omega arith in
         rw (rw e at (take-append-add (encode m) rest (n - length (encode m)))) (read-message (take (n - length (encode m)) rest))
 
-    -- any first part of a stream that starts with it is cut short or the message; cut-message and stream-cut say which
-    pub part-message : (n : ℕ) (rest : List ℕ)
-        → (readRecord reader u (take n (encode m ++ rest)) ≡ Short) ⊎ (readRecord reader u (take n (encode m ++ rest)) ≡ readAs u m)
-    part-message n rest =
-        ⊎-elim (λ h. inl (short-message n rest h)) (λ h. inr (whole-message n rest h)) (lt-or-ge n (length (encode m)))
-
+    -- any first part of a stream that starts with it is cut short or the message, by where the cut is
     pub cut-message : (n : ℕ) (rest : List ℕ) → readRecord reader u (take n (encode m ++ rest)) ≡ cond (leb (length (encode m)) n) (readAs u m) Short
     cut-message n rest =
         ⊎-elim

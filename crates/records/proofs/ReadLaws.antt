@@ -11,7 +11,7 @@ use lib.Seq.{length-take-le}
 use borrow.Author.Tests.{leb-true, eqb-true, le-leb, lt-leb, eq-eqb, ne-eqb}
 use Rattle.lists.specs.Refusal.{within}
 use Rattle.lists.specs.LittleEndian.{leBytes, leAt}
-use Rattle.lists.proofs.TestLaws.{both, by-test, lt-or-ge, within-facts, within-of}
+use Rattle.lists.proofs.TestLaws.{both, lt-or-ge, within-facts, within-of}
 use Rattle.lists.proofs.LittleEndianLaws.{leAt-leBytes, leAt-lt, leAt-append, leAt-skip, leAt-take}
 use Rattle.records.specs.declared.Cursor.{Cursor}
 use Rattle.records.specs.declared.Reader.{Reader}
@@ -132,27 +132,6 @@ pub fields-cases : (P : Record → Type 0) (u kind : ℕ) (s : List ℕ) → isF
 unfolding fieldsOf
 fields-cases P u kind s h f1 f2 f3 f4 f5 =
     kind-cases (λ (k : ℕ). kind ≡ k → P (fieldsOf u k s)) f1 f2 f3 f4 f5 kind h refl
-
--- ---- the reader matters for 6 only
-
--- a kind that is for the reader is read as the record test reads it
-pub read-as-test : (reader : Reader) (u : ℕ) (s : List ℕ) → isFor reader (leAt 2 s 2) ≡ true → readRecord reader u s ≡ readRecord Test u s
-unfolding readRecord
-read-as-test reader u s k = rw (k, for-test reader (leAt 2 s 2) k)
-
-pub reader-or-six : (reader : Reader) (u : ℕ) (s : List ℕ)
-    → (readRecord reader u s ≡ readRecord Test u s) ⊎ ((isFor reader (leAt 2 s 2) ≡ false) × (readRecord reader u s ≡ Refused 6))
-reader-or-six reader u s =
-    ⊎-elim
-    (λ k. inl (read-as-test reader u s k))
-    (λ k. ⊎-elim
-    (λ v. ⊎-elim
-    (λ h. inl (read-no-header reader u s v h ∙ sym (read-no-header Test u s v h)))
-    (λ h. inr (k, read-kind reader u s v h k))
-    (lt-or-ge (length s) headerLength))
-    (λ v. inl (read-unit reader u s v ∙ sym (read-unit Test u s v)))
-    (by-test (unitOk u)))
-    (by-test (isFor reader (leAt 2 s 2)))
 
 -- ---- what is framed is read back
 flat : (kind : ℕ) (body rest : List ℕ) → frame kind body ++ rest ≡ leBytes 2 (length body) ++ (leBytes 2 kind ++ (body ++ rest))

@@ -10,8 +10,8 @@ use borrow.Author.Tests.{leb-true, le-leb, ltb-true, lt-ltb}
 use borrow.Rule.Slice.PartMut.{putMid, midOf}
 use Rattle.lists.specs.Part.{put, PutDone}
 use Rattle.lists.specs.LittleEndian.{leBytes}
-use Rattle.lists.proofs.TestLaws.{both, join, refuted, cond-true, cond-false}
-use Rattle.lists.proofs.PartLaws.{put-next, part-back-front, part-back-same}
+use Rattle.lists.proofs.TestLaws.{both, join, refuted, cond-true}
+use Rattle.lists.proofs.PartLaws.{put-next, part-back-front}
 use Rattle.lists.proofs.LittleEndianLaws.{length-leBytes}
 use Rattle.records.specs.Write.{frame, epochRecord, fitsTwo, hasRoom, Written}
 use Rattle.records.proofs.FrameLaws.{head-frame}
@@ -93,32 +93,17 @@ module _ {fits : Bool} {bs before after : List ℕ} {r : ℕ} where
   pub unwritten-of : hasRoom fits bs before ≡ false → after ≡ before → r ≡ 0 → Written fits bs before after r
   unwritten-of h e n = record { content = rw h e; count = rw h n }
 
-  pub unwritten-bytes : Written fits bs before after r → hasRoom fits bs before ≡ false → after ≡ before
-  unwritten-bytes w h = w .content ∙ cond-false _ _ _ h
-
-  pub unwritten-length : Written fits bs before after r → hasRoom fits bs before ≡ false → r ≡ 0
-  unwritten-length w h = w .count ∙ cond-false _ _ _ h
-
 -- ---- what comes back to a caller that lent `&mut s[at..]`
 module _ (fits : Bool) (bs s : List ℕ) (at : ℕ) where
   pub part-room : fits ≡ true → at + length bs ≤ length s → hasRoom fits bs (midOf at (length s - at) s) ≡ true
   part-room f h = room-of fits bs (midOf at (length s - at) s) f (simp (length-take, length-drop) (omega arith))
-
-  pub part-no-room : at ≤ length s → (fits ≡ true → at + length bs ≤ length s → ⊥) → hasRoom fits bs (midOf at (length s - at) s) ≡ false
-  part-no-room h f =
-      no-room fits bs (midOf at (length s - at) s)
-      (λ e k. f e (let j : length bs ≤ length s - at = omega (arith, simp (length-take, length-drop) at k) in omega arith))
 
   module _ {after : List ℕ} {r : ℕ} (w : Written fits bs (midOf at (length s - at) s) after r) where
     -- with room the record stands at at of the whole
     pub written-part : at ≤ length s → hasRoom fits bs (midOf at (length s - at) s) ≡ true → putMid at (length s - at) s after ≡ put s at bs
     written-part h e = part-back-front s at after bs h (written-bytes w e)
 
-    -- without it the whole is as before
-    pub unwritten-part : hasRoom fits bs (midOf at (length s - at) s) ≡ false → putMid at (length s - at) s after ≡ s
-    unwritten-part e = ap (putMid at (length s - at) s) (unwritten-bytes w e) ∙ part-back-same s at
-
--- with room, the record in its place and the position behind it
+-- the same with the position behind it
 pub written-done : (fits : Bool) (bs s after : List ℕ) (at r : ℕ) → fits ≡ true → at + length bs ≤ length s → Written fits bs (midOf at (length s - at) s) after r
     → PutDone bs s at (putMid at (length s - at) s after) (at + r)
 written-done fits bs s after at r f h w =

@@ -1,8 +1,8 @@
--- Laws of the ranges: what each test of the settings says, by name, and back; what the ends keep is in its ranges; room in the stream; lengths. Assumes nothing.
+-- Laws of the ranges: what each test of the settings says, by name, and back; what the ends keep is in its ranges; the least length of the stream; lengths. Assumes nothing.
 use mathlib.Core.Path.{_≡_, refl}
 use mathlib.Core.Bool.{Bool, true, _&&_}
 use Prim.Native.Nat.{ℕ, _+_, _*_, _%_, _≤_}
-use native.Mathlib.Nat.{mul-le-mul, le-refl}
+use native.Mathlib.Nat.{mul-le-mul}
 use native.Mathlib.Omega.{arith}
 use lib.Dec.{eqb}
 use borrow.Author.Tests.{leb-true, le-leb, eqb-true, eq-eqb}
@@ -128,13 +128,6 @@ module _ (g : Settings) where
         t-high = t .1;
       }
 
-  pub settings-of : SettingsFacts g → settingsOk g ≡ true
-  unfolding settingsOk
-  settings-of f =
-      join _ _
-      (join _ _ (join _ _ (join _ _ (shared-of _ _ _ _ (f .shared)) (slots-of _ _ (f .slots))) (held-of _ _ _ _ _ (f .stream))) (stream-of _ _ _ _ _ (f .stream)))
-      (within-of 1 60000 (g .t) (f .t-low) (f .t-high))
-
 module _ (g : PrimarySettings) where
   pub primary-settings-facts : primarySettingsOk g ≡ true → PrimarySettingsFacts g
   unfolding primarySettingsOk
@@ -171,7 +164,7 @@ module _ (g : Settings) (e : settingsOk g ≡ true) where
       let f = settings-facts g e in
       standby-settings-of (ofStandby g) (record { shared = f .shared; slots = f .slots })
 
--- ---- room in the stream
+-- ---- the least length of the stream
 
 -- the bytes of each kind that a checkpoint sends
 pub page-record : (u : ℕ) → recordLength u PAGE ≡ u + 10
@@ -190,16 +183,6 @@ state-commit-records u = refl
 pub least-stream : (u m b : ℕ) → leastStream u m b ≡ m * (u + 10) + b * (u + 10) + 84
 unfolding leastStream
 least-stream u m b = rw (page-record u, block-record u, state-commit-records u)
-
-module _ (u m b n : ℕ) (h : n ≤ m) where
-  -- n pages, k blocks, STATE and COMMIT
-  pub stream-room : (k : ℕ) → k ≤ b → n * recordLength u PAGE + k * recordLength u BLOCK + (recordLength u STATE + recordLength u COMMIT) ≤ leastStream u m b
-  unfolding leastStream
-  stream-room k j = omega (arith, mul-le-mul h (le-refl (recordLength u PAGE)), mul-le-mul j (le-refl (recordLength u BLOCK)))
-
-  -- a checkpoint of n pages
-  pub checkpoint-room : n * recordLength u PAGE + (recordLength u STATE + recordLength u COMMIT) ≤ leastStream u m b
-  checkpoint-room = omega (arith, stream-room 0 (omega arith))
 
 -- ---- lengths in bytes, far below 2 ^ 64
 pub bytes-le : (u n : ℕ) → u ≤ 4096 → n ≤ 4096 → n * u ≤ 4096 * 4096

@@ -3,11 +3,11 @@
 use mathlib.Core.Path.{_≡_, refl, sym, ap, ap₂, _∙_}
 use mathlib.Core.Bool.{true}
 use mathlib.Core.List.{List, [], _∷_, _++_}
-use Prim.Native.Nat.{ℕ, zero, suc, _+_, _-_, _*_, _≤_, min}
+use Prim.Native.Nat.{ℕ, zero, suc, _+_, _-_, _*_, _≤_}
 use native.Mathlib.Nat.{mul-le-mul-right, zero-mul, sub-zero, add-zero, zero-min}
 use native.Mathlib.Omega.{arith}
-use lib.ListN.{length, take, drop, getD, replicate, take-append-drop}
-use lib.Seq.{take-suc, take-add, take-all, drop-drop, length-take-le}
+use lib.ListN.{length, take, drop, getD, replicate}
+use lib.Seq.{take-suc, take-add, drop-drop, length-take-le}
 use Rattle.lists.specs.Part.{part, put, removed}
 use Rattle.lists.specs.Page.{page, withPage}
 use Rattle.lists.proofs.PartLaws.{removed-none}
@@ -19,7 +19,7 @@ use Rattle.staging.specs.Flushes.{Flushing, flushBy, flushOnes, SameLive
 use Rattle.staging.proofs.ArrayLaws.{take-min, freed-none, freed-freed}
 use Rattle.staging.proofs.SlotLaws.{slots-tests, array-flushed}
 use Rattle.staging.proofs.StoreLaws.{stored-none}
-use Rattle.staging.proofs.ListLaws.{staged-append, due-count, take-slot-list, take-due-list, list-flushed, due-flushed, length-bytes}
+use Rattle.staging.proofs.ListLaws.{staged-append, take-slot-list, list-flushed, length-bytes}
 
 -- ---- a list of blocks stored
 pub store-all-append : (u : ℕ) (disk : List ℕ) (a b : List Staged) → storeAll u disk (a ++ b) ≡ storeAll u (storeAll u disk a) b
@@ -44,22 +44,6 @@ module _ (u : ℕ) (k : Slots) (slots disk : List ℕ) (array : length (k .numbe
   pub flush-disk : (n : ℕ) → k .due ≤ k .staged → stored u (k .numbers) slots disk (flushCount k n) ≡ storeAll u disk (take n (dueList u k slots))
   unfolding dueList
   flush-disk n h = stored-slots (flushCount k n) (omega arith) ∙ ap (storeAll u disk) (sym (take-min n (k .due) (slotList u k slots)))
-
-  -- all due
-  pub flush-all : (n : ℕ) → k .due ≤ k .staged → k .due ≤ n → stored u (k .numbers) slots disk (flushCount k n) ≡ storeAll u disk (dueList u k slots)
-  flush-all n h g =
-      let m : length (dueList u k slots) ≡ k .due = due-count u k slots h (omega arith) in
-      flush-disk n h ∙ ap (storeAll u disk) (take-all n (dueList u k slots) (omega arith))
-
-  -- the disk with the due blocks stored is one before and after a flush
-  pub flush-keeps : (count : ℕ) → count ≤ k .due → k .due ≤ k .staged → k .staged * u ≤ length slots
-      → storeAll u (stored u (k .numbers) slots disk count) (dueList u (flushed k count) (flushedBytes u k count slots)) ≡ storeAll u disk (dueList u k slots)
-  flush-keeps count h g room =
-      ap₂ (storeAll u)
-      (stored-slots count (omega arith) ∙ ap (storeAll u disk) (sym (take-due-list u k slots count h)))
-      (due-flushed u k slots array count (omega arith) few room)
-      ∙ sym (store-all-append u disk (take count (dueList u k slots)) (drop count (dueList u k slots)))
-      ∙ ap (storeAll u disk) (take-append-drop count (dueList u k slots))
 
 -- "No block reaches the disk before it is due": slots that agree on the due blocks give one disk
 pub flush-only-due : (u n : ℕ) (k k′ : Slots) (slots slots′ disk : List ℕ) → length (k .numbers) ≡ mostSlots → length (k′ .numbers) ≡ mostSlots

@@ -3,5 +3,4 @@ pub mod ArrayLaws
 pub mod SlotLaws
 pub mod StoreLaws
 pub mod ListLaws
-pub mod BlockLaws
 pub mod FlushLaws

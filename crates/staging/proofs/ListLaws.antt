@@ -8,7 +8,7 @@ use lib.ListN.{length, take, drop, length-drop}
 use lib.Seq.{take-take, take-all, take-append-le, drop-drop, length-take-le}
 use Rattle.lists.specs.Part.{part}
 use Rattle.lists.specs.Page.{page, withPage}
-use Rattle.lists.proofs.PartLaws.{drop-take, take-put, length-removed, take-removed, drop-removed}
+use Rattle.lists.proofs.PartLaws.{drop-take, take-put, length-removed, take-removed}
 use Rattle.lists.proofs.PageLaws.{page-with-same}
 use Rattle.settings.specs.Range.{mostSlots}
 use Rattle.staging.specs.declared.Slots.{Slots}
@@ -62,10 +62,6 @@ module _ (u : ℕ) where
     pub slot-count : k .staged ≤ length (k .numbers) → length (slotList u k slots) ≡ k .staged
     unfolding slotList
     slot-count h = length-staged (take (k .staged) (k .numbers)) slots ∙ length-take-le (k .staged) (k .numbers) h
-
-    pub due-count : k .due ≤ k .staged → k .staged ≤ length (k .numbers) → length (dueList u k slots) ≡ k .due
-    unfolding dueList
-    due-count h g = length-take-le (k .due) (slotList u k slots) (omega (arith, slot-count g))
 
     -- "makes the epoch's staged blocks due"
     pub list-all-due : slotList u (allDue k) slots ≡ slotList u k slots
@@ -127,14 +123,10 @@ module _ (u : ℕ) where
           let t : (k .staged - count + count) * u ≡ k .staged * u = rw e in
           omega arith
 
-      -- "What .. flush leaves waiting moves to the front of its buffer in order, and the bytes behind it stay"
+      -- "What .. flush leaves waiting moves to the front of its buffer in order"
       pub bytes-front : take ((k .staged - count) * u) (flushedBytes u k count slots) ≡ drop (count * u) (take (k .staged * u) slots)
       unfolding flushedBytes
       bytes-front = rw rest-bytes (take-removed (count * u) (k .staged * u) slots (mul-le-mul-right u h) room)
-
-      pub bytes-behind : drop ((k .staged - count) * u) (flushedBytes u k count slots) ≡ drop ((k .staged - count) * u) slots
-      unfolding flushedBytes
-      bytes-behind = rw rest-bytes (drop-removed 0 (count * u) (k .staged * u) slots (omega (arith, mul-le-mul-right u h)) room)
 
       pub length-bytes : length (flushedBytes u k count slots) ≡ length slots
       unfolding flushedBytes
@@ -152,10 +144,3 @@ module _ (u : ℕ) where
       pub due-flushed : dueList u (flushed k count) (flushedBytes u k count slots) ≡ drop count (dueList u k slots)
       unfolding dueList flushed
       due-flushed = ap (take (k .due - count)) list-flushed ∙ sym (drop-take count (k .due) (slotList u k slots))
-
-      -- those not due stay
-      pub not-due-flushed : count ≤ k .due → drop (flushed k count .due) (slotList u (flushed k count) (flushedBytes u k count slots)) ≡ drop (k .due) (slotList u k slots)
-      unfolding flushed
-      not-due-flushed g =
-          let e : count + (k .due - count) ≡ k .due = omega arith in
-          ap (drop (k .due - count)) list-flushed ∙ drop-drop (k .due - count) count (slotList u k slots) ∙ ap (λ (i : ℕ). drop i (slotList u k slots)) e

@@ -3,7 +3,7 @@
 use mathlib.Core.Path.{_≡_, refl, sym, ap, _∙_}
 use mathlib.Core.Bool.{Bool, true, false, _&&_, and-assoc}
 use mathlib.Core.List.{List, [], _∷_, _++_}
-use Prim.Native.Nat.{ℕ, zero, suc, _+_, _-_, _≤_, _<_}
+use Prim.Native.Nat.{ℕ, zero, suc, _+_, _≤_, _<_}
 use native.Mathlib.Nat.{le-of-suc-le-suc, not-suc-le-zero}
 use native.Mathlib.Numerals.{add-one}
 use native.Mathlib.Omega.{arith}
@@ -26,11 +26,6 @@ pub numbers-at : (d : ℕ) (ns : List ℕ) → numbersOk d ns ≡ true → (i : 
 numbers-at d [] e i h = absurd (not-suc-le-zero h)
 numbers-at d (n ∷ ns) e zero h = numbers-cons d n ns e .0
 numbers-at d (n ∷ ns) e (suc i) h = numbers-at d ns (numbers-cons d n ns e .1) i (le-of-suc-le-suc h)
-
-pub numbers-of : (d : ℕ) (ns : List ℕ) → ((i : ℕ) → i < length ns → getD ns i 0 < d) → numbersOk d ns ≡ true
-unfolding numbersOk
-numbers-of d [] f = refl
-numbers-of d (n ∷ ns) f = join (ltb n d) (numbersOk d ns) (lt-ltb n d (f 0 (omega arith))) (numbers-of d ns (λ i h. f (suc i) (omega arith)))
 
 pub numbers-append : (d : ℕ) (a b : List ℕ) → numbersOk d (a ++ b) ≡ numbersOk d a && numbersOk d b
 unfolding numbersOk
@@ -121,18 +116,6 @@ module _ (k : Slots) (s d : ℕ) (array : length (k .numbers) ≡ mostSlots) (fe
         number-low = λ i h. rw (getD-take (k .staged) (k .numbers) i 0 h) at (numbers-at d (take (k .staged) (k .numbers)) (t .numbers-ok) i (omega arith));
       }
 
-  pub slots-of : SlotsFacts k s d → slotsOk k s d ≡ true
-  slots-of f =
-      let e = f .staged-high in
-      let n = length-take-le (k .staged) (k .numbers) (omega arith) in
-      slots-tested k s d
-      (record {
-        staged-high = f .staged-high;
-        due-high = f .due-high;
-        numbers-ok = numbers-of d (take (k .staged) (k .numbers))
-            (λ i h. let h′ : i < k .staged = omega arith in rw (getD-take (k .staged) (k .numbers) i 0 h′) (f .number-low i h′));
-      })
-
   pub slots-with-block : (n : ℕ) → slotsOk k s d ≡ true → 0 < freeSlots k s → n < d → slotsOk (withBlock k n) s d ≡ true
   unfolding withBlock numbersOk
   slots-with-block n ok free low =
@@ -158,10 +141,6 @@ module _ (k : Slots) (s d : ℕ) (array : length (k .numbers) ≡ mostSlots) (fe
       })
 
 -- ---- the free slots
-pub free-with-block : (k : Slots) (n s : ℕ) → freeSlots (withBlock k n) s ≡ freeSlots k s - 1
-unfolding withBlock
-free-with-block k n s = omega arith
-
 -- "freed slots are used again"
 pub free-flushed : (k : Slots) (s count : ℕ) → count ≤ k .staged → k .staged ≤ s → freeSlots (flushed k count) s ≡ freeSlots k s + count
 unfolding flushed
@@ -198,6 +177,3 @@ module _ (k : Slots) where
 pub slots-empty : (s d : ℕ) → slotsOk emptySlots s d ≡ true
 unfolding numbersOk
 slots-empty s d = slots-tested emptySlots s d (record { staged-high = omega arith; due-high = omega arith; numbers-ok = refl })
-
-pub array-empty : length (emptySlots .numbers) ≡ mostSlots
-array-empty = refl

@@ -2,7 +2,7 @@
 use mathlib.Core.Path.{_≡_, refl, _∙_}
 use mathlib.Core.Bool.{true}
 use mathlib.Core.List.{List}
-use Prim.Native.Nat.{ℕ, zero, suc, _+_, _*_, _≤_, _<_}
+use Prim.Native.Nat.{ℕ, zero, suc, _+_, _*_, _≤_}
 use native.Mathlib.Nat.{mul-le-mul-right}
 use native.Mathlib.Numerals.{add-one}
 use native.Mathlib.Omega.{arith}
@@ -11,7 +11,7 @@ use Rattle.lists.specs.Page.{page, withPage}
 use Rattle.lists.proofs.PageLaws.{page-end, length-page, length-with-page}
 use Rattle.settings.specs.Range.{mostSlots}
 use Rattle.staging.specs.declared.Slots.{Slots}
-use Rattle.staging.specs.Slot.{slotsOk, freeSlots, stored, flushCount}
+use Rattle.staging.specs.Slot.{slotsOk, stored, flushCount}
 use Rattle.staging.specs.Fits.{StoreFits, FlushFits}
 use Rattle.staging.proofs.SlotLaws.{slots-facts}
 
@@ -45,10 +45,6 @@ store-of-flush u k n slots disk f =
     let h : flushCount k n ≤ k .staged = omega (arith, f .due-high) in
     let m = mul-le-mul-right u h in
     record { few = omega (arith, f .few); in-slots = omega (arith, f .in-slots); in-disk = λ i g. f .in-disk i (omega arith) }
-
--- a slot free is room for a block
-pub stage-fits : (u s : ℕ) (k : Slots) (slots : ℕ) → 0 < freeSlots k s → slots ≡ s * u → k .staged * u + u ≤ slots
-stage-fits u s k slots free e = omega (arith, page-end (k .staged) s u (omega arith))
 
 -- slots and a disk of the lengths that the settings ask, with the slots in range
 pub flush-fits : (u s d : ℕ) (k : Slots) (slots disk : ℕ) → length (k .numbers) ≡ mostSlots → s ≤ mostSlots → slotsOk k s d ≡ true → slots ≡ s * u → disk ≡ d * u → FlushFits u k slots disk
