@@ -1,36 +1,19 @@
--- Laws of the primary's tick: what acceptance says, the new state in each case, and that the ranges are kept. Assumes nothing.
+-- Laws of the primary's tick: the new state in each case, and that the ranges are kept. Assumes nothing.
 use mathlib.Core.Path.{_≡_, refl, _∙_}
 use mathlib.Core.Bool.{Bool, true, false, cond, true≢false}
-use mathlib.Core.List.{[], _∷_}
 use Prim.Native.Nat.{ℕ, _+_, _≤_, _<_}
 use native.Mathlib.Nat.{le-refl}
 use native.Mathlib.Omega.{arith}
 use borrow.Author.Tests.{not-true, leb-false, le-leb, lt-leb}
-use Rattle.lists.specs.Refusal.{test}
-use Rattle.lists.proofs.TestLaws.{accepted, accepts}
-use Rattle.records.specs.Number.{outOfRange}
 use Rattle.detector.specs.Tick.{withCount, reset, expired, ticked}
 use Rattle.detector.proofs.TickLaws.{ticked-counts, ticked-rests, ticked-patience, ticked-le}
 use Rattle.rules.specs.declared.Primary.{Primary}
-use Rattle.rules.specs.PrimaryState.{primaryOk, withDetector}
+use Rattle.rules.specs.PrimaryState.{withDetector}
 use Rattle.rules.specs.PrimaryTick.{primaryTickRefusal, outstanding, aloneAt, primaryTickState, primaryTickReply}
 use Rattle.rules.specs.Reached.{PrimaryReached}
 use Rattle.rules.proofs.PrimaryFacts.{primary-facts, primary-of, reached-pick}
 
-pub record TickFacts (p : Primary) : Type 0 where
-  pub ok : primaryOk p ≡ true
-
 module _ (p : Primary) where
-  pub tick-accepted : primaryTickRefusal p ≡ 0 → TickFacts p
-  unfolding primaryTickRefusal
-  tick-accepted e = record { ok = accepted (test outOfRange (primaryOk p) ∷ []) refl e .0 }
-
-  pub tick-accepts : TickFacts p → primaryTickRefusal p ≡ 0
-  unfolding primaryTickRefusal
-  tick-accepts f = accepts (test outOfRange (primaryOk p) ∷ []) (f .ok, tt)
-
-  -- ---- the new state
-
   -- "Once alone, a tick changes nothing"
   pub tick-alone : p .alone ≡ true → primaryTickState p ≡ p
   unfolding primaryTickState

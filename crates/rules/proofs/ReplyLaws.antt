@@ -5,7 +5,6 @@ use mathlib.Core.Logic.{⊎-elim}
 use Prim.Native.Nat.{ℕ}
 use borrow.Author.Tests.{eq-eqb, ne-eqb}
 use Rattle.lists.proofs.TestLaws.{eq-or-ne}
-use Rattle.records.specs.Read as read
 use Rattle.records.specs.declared.Record.{Record}
 use Rattle.records.specs.declared.Record.the-variants.{Page, Block, State, Commit, Ack, Short, Refused}
 use Rattle.rules.specs.declared.Primary.{Primary}
@@ -52,34 +51,6 @@ module _ (number : ℕ) (r : Record) where
   -- a fact of it is shown at both
   pub unless-cases : (P : Record → Type 0) → (number ≡ 0 → P r) → ((number ≡ 0 → ⊥) → P (Refused number)) → P (unlessRefused number r)
   unless-cases P f g = ⊎-elim (λ e. rw (eq-eqb number 0 e) (f e)) (λ e. rw (ne-eqb number 0 e) (g e)) (eq-or-ne number 0)
-
--- ---- the answer has the record's number, value and bytes used
-pub answer-number : (r : Record) → numberOf (answerOf r) ≡ read.numberOf r
-answer-number (Page e p c) = refl
-answer-number (Block e n c) = refl
-answer-number (State e c) = refl
-answer-number (Commit e p b c) = refl
-answer-number (Ack e c) = refl
-answer-number Short = refl
-answer-number (Refused n) = refl
-
-pub answer-value : (r : Record) → valueOf (answerOf r) ≡ read.valueOf r
-answer-value (Page e p c) = refl
-answer-value (Block e n c) = refl
-answer-value (State e c) = refl
-answer-value (Commit e p b c) = refl
-answer-value (Ack e c) = refl
-answer-value Short = refl
-answer-value (Refused n) = refl
-
-pub answer-used : (r : Record) → usedOf (answerOf r) ≡ read.usedOf r
-answer-used (Page e p c) = refl
-answer-used (Block e n c) = refl
-answer-used (State e c) = refl
-answer-used (Commit e p b c) = refl
-answer-used (Ack e c) = refl
-answer-used Short = refl
-answer-used (Refused n) = refl
 
 -- "Every refusal's value is 0", and "A record cut short or refused uses 0"
 pub answer-refused : (r : Record) → (numberOf (answerOf r) ≡ 0 → ⊥) → (valueOf (answerOf r) ≡ 0) × (usedOf (answerOf r) ≡ 0)

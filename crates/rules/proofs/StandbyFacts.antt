@@ -4,19 +4,18 @@ use mathlib.Core.Bool.{true}
 use mathlib.Core.Logic.{⊎-elim}
 use Prim.Native.Nat.{ℕ, _≤_}
 use lib.Dec.{leb}
-use lib.ListN.{length}
 use borrow.Author.Tests.{leb-true, le-leb, eq-eqb, ne-eqb}
 use Rattle.lists.proofs.TestLaws.{both, join, eq-or-ne}
-use Rattle.settings.specs.Range.{standbySettingsOk, mostSlots}
-use Rattle.settings.proofs.RangeLaws.{StandbySettingsFacts, standby-settings-facts, standby-settings-of}
+use Rattle.settings.specs.Range.{standbySettingsOk}
+use Rattle.settings.proofs.RangeLaws.{StandbySettingsFacts, standby-settings-facts}
 use Rattle.staging.specs.Slot.{slotsOk}
-use Rattle.staging.proofs.SlotLaws.{SlotsTests, SlotsFacts, slots-tests, slots-tested, slots-facts}
+use Rattle.staging.proofs.SlotLaws.{SlotsTests, slots-tests}
 use Rattle.rules.specs.declared.Standby.{Standby}
 use Rattle.rules.specs.Common.{detectorOk}
 use Rattle.rules.specs.StandbyState.{isReceiving, standbyOk}
 use Rattle.rules.specs.Reply.{standbyReply}
 use Rattle.rules.specs.Reached.{StandbyReached}
-use Rattle.rules.proofs.DetectorFacts.{DetectorFacts, detector-facts, detector-of}
+use Rattle.rules.proofs.DetectorFacts.{DetectorFacts, detector-facts}
 
 -- ---- test by test
 pub record StandbyTests (s : Standby) : Type 0 where
@@ -26,7 +25,7 @@ pub record StandbyTests (s : Standby) : Type 0 where
   pub pages-high : s .pages ≤ s .settings .m
   pub detector-ok : detectorOk (s .detector) (isReceiving (s .mode)) ≡ true
 
--- ---- as facts; the number of each staged block is in `slots-facts`, which wants the array's length
+-- ---- as facts; the number of each staged block is in staging's `slots-facts`, which wants the array's length
 pub record StandbyFacts (s : Standby) : Type 0 where
   pub settings : StandbySettingsFacts (s .settings)
   pub slots : SlotsTests (s .slots) (s .settings .s) (s .settings .d)
@@ -69,21 +68,6 @@ module _ (s : Standby) where
         pages-high = t .pages-high;
         detector = detector-facts (s .detector) (isReceiving (s .mode)) (t .detector-ok);
       }
-
-  pub standby-of : StandbyFacts s → standbyOk s ≡ true
-  standby-of f =
-      standby-tested
-      (record {
-        settings-ok = standby-settings-of (s .settings) (f .settings);
-        slots-ok = slots-tested (s .slots) (s .settings .s) (s .settings .d) (f .slots);
-        blocks-high = f .blocks-high;
-        pages-high = f .pages-high;
-        detector-ok = detector-of (s .detector) (isReceiving (s .mode)) (f .detector);
-      })
-
-  -- the staged blocks one by one, where the array has its entries
-  pub standby-slots : length (s .slots .numbers) ≡ mostSlots → standbyOk s ≡ true → SlotsFacts (s .slots) (s .settings .s) (s .settings .d)
-  standby-slots array e = slots-facts (s .slots) (s .settings .s) (s .settings .d) array (standby-facts e .settings .slots .s-high) (standby-tests e .slots-ok)
 
 -- ---- what holds of a state reached holds after a call, accepted or refused
 pub reply-reached : (number : ℕ) (old new : Standby) (value : ℕ) → StandbyReached old → (number ≡ 0 → StandbyReached new) → StandbyReached (standbyReply number old new value .state)

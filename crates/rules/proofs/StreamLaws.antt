@@ -5,9 +5,9 @@ use mathlib.Core.List.{List, [], _∷_}
 use Prim.Native.Nat.{ℕ, _-_, _<_}
 use native.Mathlib.Omega.{arith}
 use lib.Dec.{ltb, eqb}
-use borrow.Author.Tests.{ltb-true, eqb-true, eq-eqb}
+use borrow.Author.Tests.{ltb-true, eqb-true}
 use Rattle.lists.specs.Refusal.{test}
-use Rattle.lists.proofs.TestLaws.{both, join, accepted, accepts}
+use Rattle.lists.proofs.TestLaws.{both, accepted}
 use Rattle.records.specs.declared.Cursor.{Cursor}
 use Rattle.records.specs.declared.Record.{Record}
 use Rattle.records.specs.declared.Record.the-variants.{Page, Block, State, Commit, Ack, Short, Refused}
@@ -35,12 +35,6 @@ module _ (p : Primary) (stream : ℕ) where
       let h = accepted (test outOfRange (primaryOk p && eqb stream (p .settings .l)) ∷ []) refl e in
       let r = both (primaryOk p) (eqb stream (p .settings .l)) (h .0) in
       record { ok = r .0; stream-is = eqb-true stream (p .settings .l) (r .1) }
-
-  pub drain-accepts : DrainFacts p stream → drainRefusal p stream ≡ 0
-  unfolding drainRefusal
-  drain-accepts f =
-      accepts (test outOfRange (primaryOk p && eqb stream (p .settings .l)) ∷ [])
-      (join (primaryOk p) (eqb stream (p .settings .l)) (f .ok) (eq-eqb stream (p .settings .l) (f .stream-is)), tt)
 
 -- ---- ACK
 

@@ -32,13 +32,6 @@ pub record TickAccepted (s : Standby) (marks : ℕ) : Type 0 where
   pub inRange : standbyOk s ≡ true
   pub marksLent : marks ≡ marksLength s
 
-pub tick-accepted : (s : Standby) (marks : ℕ) → standbyTickRefusal s marks ≡ 0 → TickAccepted s marks
-unfolding standbyTickRefusal
-tick-accepted s marks e =
-    let t = accepted (test outOfRange (standbyOk s && eqb marks (marksLength s)) ∷ []) refl e in
-    let k = both (standbyOk s) (eqb marks (marksLength s)) (t .0) in
-    record { inRange = k .0; marksLent = eqb-true marks (marksLength s) (k .1) }
-
 pub tick-accepts : (s : Standby) (marks : ℕ) → TickAccepted s marks → standbyTickRefusal s marks ≡ 0
 unfolding standbyTickRefusal
 tick-accepts s marks f =

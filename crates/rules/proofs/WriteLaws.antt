@@ -1,4 +1,4 @@
--- Laws of the guest's writes at the primary: what acceptance says and what it needs, and that the ranges are kept. Assumes nothing.
+-- Laws of the guest's writes at the primary: what acceptance says, what a disk write needs, and that the ranges are kept. Assumes nothing.
 use mathlib.Core.Path.{_≡_, refl}
 use mathlib.Core.Bool.{Bool, true, false, cond, _&&_, _||_, true≢false}
 use mathlib.Core.List.{List, [], _∷_}
@@ -52,17 +52,6 @@ module _ (p : Primary) (memory dirty page offset n : ℕ) where
       }
 
   module _ (f : MemoryWriteRoom p memory dirty page offset n) where
-    pub memory-write-accepts : memoryWriteRefusal p memory dirty page offset n ≡ 0
-    unfolding memoryWriteRefusal
-    memory-write-accepts =
-        accepts memoryWriteTests (
-          join _ _ (join _ _ (f .ok) (eq-eqb memory (memoryLength p) (f .memory-is))) (eq-eqb dirty (marksLength p) (f .dirty-is)),
-          (
-            lt-ltb page (p .settings .m) (f .below),
-            (join _ _ (le-leb 1 n (f .some)) (le-leb (offset + n) (p .settings .u) (f .inside)), tt),
-          ),
-        )
-
     -- the bytes written lie in the memory
     pub memory-write-end : page * p .settings .u + offset + n ≤ memory
     memory-write-end = omega (arith, page-end page (p .settings .m) (p .settings .u) (f .below), f .memory-is, f .inside)
