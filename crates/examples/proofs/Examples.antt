@@ -18,7 +18,7 @@ packet-of : (g : Settings) (c : Processor) (b : Buffers) (content : List ℕ) (n
     let r = packetReply (openedPrimary g) (g .q) n in
     step (startWorld g c b) (packet content) .outcome ≡ outcome (r .number) (r .value)
 unfolding step startWorld
-packet-of g c b content n h e = rw (opened g b h c, lent g b h .held, e)
+packet-of g c b content n h e = rw (opened g b h c, lent g b h .held-is, e)
 
 pub examples : Examples
 unfolding definitions

@@ -1,6 +1,6 @@
 -- E10: with D 0 every block gives 2. Assumes nothing.
 use Prim.Native.Nat.{ℕ, _+_}
-use mathlib.Core.Path.{_≡_, refl}
+use mathlib.Core.Path.{_≡_, refl, sym}
 use mathlib.Core.Bool.{true, false}
 use mathlib.Core.List.{List, _++_}
 use native.Mathlib.Omega.{arith}
@@ -8,33 +8,29 @@ use lib.Dec.{ltb}
 use lib.ListN.{length, length-append}
 use borrow.Author.Tests.{eq-eqb, le-ltb}
 use Rattle.lists.specs.LittleEndian.{leBytes, leAt}
-use Rattle.lists.proofs.TestLaws.{needed}
+use Rattle.lists.proofs.LittleEndianLaws.{length-leBytes}
 use Rattle.records.specs.declared.Record.the-variants.{Block}
 use Rattle.records.specs.declared.Reader.the-variants as reader
 use Rattle.records.specs.Kind.{unitOk, BLOCK, bodyLength, recordLength}
 use Rattle.records.specs.Read.{cursor, fieldsOf, readRecord}
 use Rattle.records.specs.Write.{unitRecord, blockRecord}
-use Rattle.settings.specs.Range.{standbySettingsOk}
+use Rattle.records.proofs.ReadLaws.{frame-read}
+use Rattle.settings.proofs.RangeLaws.{shared-unit}
 use Rattle.rules.specs.declared.Standby.{Standby}
-use Rattle.rules.specs.StandbyState.{standbyOk, isReceiving, diskLength}
+use Rattle.rules.specs.StandbyState.{isReceiving, diskLength}
 use Rattle.rules.specs.PrimaryWrites.{diskWriteRefusal, diskWriteReply}
-use Rattle.rules.specs.Judge.{blockRefusal, judged}
+use Rattle.rules.specs.Judge.{blockRefusal}
 use Rattle.rules.specs.Takeover.{activeDiskWriteRefusal}
 use Rattle.rules.specs.World.{startWorld}
 use Rattle.rules.specs.Step.{step}
+use Rattle.rules.proofs.StandbyFacts.{standby-facts}
+use Rattle.rules.proofs.JudgeLaws.{judged-number}
 use Rattle.examples.specs.Table.{NoBlocks}
-use Rattle.records.proofs.ReadLaws.{frame-read}
-use Rattle.lists.proofs.LittleEndianLaws.{length-leBytes}
 use Rattle.examples.proofs.StartLaws.{opened, in-range, lent}
 
 -- no number is below 0
 below-zero : (n d : ℕ) → d ≡ 0 → ltb n d ≡ false
 below-zero n d e = le-ltb n d (omega arith)
-
--- U of a standby in range
-unit-ok : (s : Standby) → standbyOk s ≡ true → unitOk (s .settings .u) ≡ true
-unfolding standbyOk standbySettingsOk
-unit-ok s ok = needed (unitOk (s .settings .u)) (λ n. simp (standbyOk, standbySettingsOk, n) at ok)
 
 abbrev whole : ℕ → ℕ → List ℕ → List ℕ → List ℕ
 whole epoch block content rest = blockRecord epoch block content ++ rest
@@ -55,16 +51,16 @@ unfolding blockRefusal
 refused s epoch block e = rw (below-zero block (s .settings .d) e)
 
 pub no-blocks : NoBlocks
-unfolding step startWorld diskWriteReply diskWriteRefusal activeDiskWriteRefusal judged
+unfolding step startWorld diskWriteReply diskWriteRefusal activeDiskWriteRefusal
 no-blocks =
     record {
       primary = λ g c b block content e h.
           let f = lent g b h in
-          rw (opened g b h c, in-range g b h, eq-eqb _ _ (f .disk), eq-eqb _ _ (f .stream), below-zero block (g .d) e);
+          rw (opened g b h c, in-range g b h, eq-eqb _ _ (f .disk-is), eq-eqb _ _ (f .stream-is), below-zero block (g .d) e);
       active = λ s block n e ok active.
           rw (ok, eq-eqb (diskLength s) (diskLength s) refl, active, below-zero block (s .settings .d) e);
       received = λ s l epoch block content rest e ok exact mode size.
           let m : isReceiving (s .mode) ≡ true = rw mode in
-          let r = read-block (s .settings .u) epoch block content rest (unit-ok s ok) size in
-          rw (ok, exact, m, r, refused s _ _ e);
+          let r = read-block (s .settings .u) epoch block content rest (shared-unit (standby-facts s ok .settings .shared)) size in
+          judged-number s l (whole epoch block content rest) ok exact m _ (sym r) 2 (sym (refused s _ _ e));
     }

@@ -22,7 +22,8 @@ use Rattle.rules.specs.declared.Primary.{Primary}
 use Rattle.rules.specs.PrimaryState.{primaryOk, protected, memoryLength, marksLength}
 use Rattle.rules.specs.Checkpoint.{dirtyCount, checkpointLength, checkpointBytes, checkpointRefusal, checkpointState, checkpointReply}
 use Rattle.rules.specs.Reached.{PrimaryReached}
-use Rattle.rules.proofs.PrimaryFacts.{primary-facts, primary-of, reached-pick}
+use Rattle.rules.proofs.PrimaryFacts.{primary-facts, primary-of}
+use Rattle.rules.proofs.ReplyLaws.{pick-cases}
 
 pub record CheckpointRoom (p : Primary) (memory dirty stream pages : ℕ) : Type 0 where
   pub ok : primaryOk p ≡ true
@@ -92,7 +93,7 @@ module _ (p : Primary) (memory dirty stream pages : ℕ) where
   pub checkpoint-reached : PrimaryReached p → PrimaryReached (checkpointReply p memory dirty stream pages .state)
   unfolding checkpointReply
   checkpoint-reached r =
-      reached-pick (checkpointRefusal p memory dirty stream pages) p (checkpointState p pages) r (λ e. checkpoint-state-reached (checkpoint-accepted e) r)
+      pick-cases PrimaryReached (checkpointRefusal p memory dirty stream pages) (checkpointState p pages) p (λ e. checkpoint-state-reached (checkpoint-accepted e) r) (λ e. r)
 
 -- the bytes appended are as many as the refusal reckons
 pub length-checkpoint : (p : Primary) (memory dirty processor : List ℕ) → length memory ≡ memoryLength p → length processor ≡ processorBytes

@@ -1,13 +1,15 @@
--- What the range of a detector says, by name, and back. Assumes nothing.
+-- What the range of a detector says, by name, and back; a tick and a reset keep it. Assumes nothing.
 use mathlib.Core.Path.{_≡_, refl}
 use mathlib.Core.Bool.{Bool, true, false, _&&_, not, false≢true}
 use Prim.Native.Nat.{_≤_, _<_}
+use native.Mathlib.Omega.{arith}
 use lib.Dec.{leb}
 use borrow.Author.Tests.{leb-true, leb-false, le-leb, lt-leb}
 use Rattle.lists.proofs.TestLaws.{both, join, within-facts, within-of}
 use Rattle.settings.specs.Range.{patienceOk}
 use Rattle.detector.specs.declared.Detector.{Detector}
-use Rattle.detector.specs.Tick.{expired}
+use Rattle.detector.specs.Tick.{reset, expired, ticked}
+use Rattle.detector.proofs.TickLaws.{ticked-patience, ticked-le}
 use Rattle.rules.specs.Common.{detectorOk}
 
 pub record DetectorFacts (d : Detector) (watching : Bool) : Type 0 where
@@ -44,3 +46,18 @@ module _ (d : Detector) (watching : Bool) where
       join _ _
       (join _ _ (within-of 1 60000 (d .patience) (f .t-low) (f .t-high)) (le-leb (d .count) (d .patience) (f .count-high)))
       (test-of-below watching (f .below))
+
+  module _ (f : DetectorFacts d watching) where
+    pub reset-facts : DetectorFacts (reset d) watching
+    reset-facts = record { t-low = f .t-low; t-high = f .t-high; count-high = omega arith; below = λ _. f .t-low }
+
+    -- whether its ticks still count after this one or not: below the patience where they do
+    pub ticked-facts : (outstanding still : Bool) → (still ≡ true → expired (ticked d outstanding) ≡ false) → DetectorFacts (ticked d outstanding) still
+    ticked-facts outstanding still h =
+        let p = ticked-patience d outstanding in
+        record {
+          t-low = omega (arith, p, f .t-low);
+          t-high = omega (arith, p, f .t-high);
+          count-high = ticked-le d outstanding (f .count-high);
+          below = λ e. leb-false _ _ (h e);
+        }

@@ -1,13 +1,13 @@
 -- Laws of flush: what its acceptance says, and that what holds of a state reached holds after it. Assumes nothing.
 use mathlib.Core.Path.{_≡_, refl}
 use mathlib.Core.Bool.{true, _&&_}
-use mathlib.Core.List.{[], _∷_}
+use mathlib.Core.List.{List, [], _∷_}
 use Prim.Native.Nat.{ℕ, _-_, _≤_}
 use native.Mathlib.Omega.{arith}
 use lib.Dec.{eqb}
 use lib.ListN.{length}
 use borrow.Author.Tests.{eqb-true, eq-eqb}
-use Rattle.lists.specs.Refusal.{test}
+use Rattle.lists.specs.Refusal.{Test, test}
 use Rattle.lists.proofs.TestLaws.{both, join, accepted, accepts}
 use Rattle.records.specs.Number.{outOfRange}
 use Rattle.settings.specs.Range.{mostSlots}
@@ -19,7 +19,8 @@ use Rattle.rules.specs.declared.Standby.{Standby}
 use Rattle.rules.specs.StandbyState.{standbyOk, diskLength, slotsLength, withSlots}
 use Rattle.rules.specs.Flush.{flushRefusal, flushReply}
 use Rattle.rules.specs.Reached.{StandbyReached}
-use Rattle.rules.proofs.StandbyFacts.{standby-tests, standby-tested, standby-facts, reply-reached}
+use Rattle.rules.proofs.StandbyFacts.{standby-tests, standby-facts, reached-slots}
+use Rattle.rules.proofs.ReplyLaws.{pick-cases}
 
 -- ---- acceptance
 pub record FlushAccepted (s : Standby) (slots disk : ℕ) : Type 0 where
@@ -28,10 +29,13 @@ pub record FlushAccepted (s : Standby) (slots disk : ℕ) : Type 0 where
   pub diskLent : disk ≡ diskLength s
 
 module _ (s : Standby) (slots disk : ℕ) where
+  abbrev flushTests : List Test
+  flushTests = test outOfRange (standbyOk s && eqb slots (slotsLength s) && eqb disk (diskLength s)) ∷ []
+
   pub flush-accepted : flushRefusal s slots disk ≡ 0 → FlushAccepted s slots disk
   unfolding flushRefusal
   flush-accepted e =
-      let t = accepted (test outOfRange (standbyOk s && eqb slots (slotsLength s) && eqb disk (diskLength s)) ∷ []) refl e in
+      let t = accepted flushTests refl e in
       let d = both (standbyOk s && eqb slots (slotsLength s)) (eqb disk (diskLength s)) (t .0) in
       let k = both (standbyOk s) (eqb slots (slotsLength s)) (d .0) in
       record { inRange = k .0; slotsLent = eqb-true slots (slotsLength s) (k .1); diskLent = eqb-true disk (diskLength s) (d .1) }
@@ -39,7 +43,7 @@ module _ (s : Standby) (slots disk : ℕ) where
   pub flush-accepts : FlushAccepted s slots disk → flushRefusal s slots disk ≡ 0
   unfolding flushRefusal
   flush-accepts f =
-      accepts (test outOfRange (standbyOk s && eqb slots (slotsLength s) && eqb disk (diskLength s)) ∷ [])
+      accepts flushTests
       (join _ _ (join _ _ (f .inRange) (eq-eqb slots (slotsLength s) (f .slotsLent))) (eq-eqb disk (diskLength s) (f .diskLent)), tt)
 
   -- what the move of the blocks and of the bytes requires
@@ -57,26 +61,13 @@ flushed-reached s count low r =
     let t = standby-tests s (r .inRange) in
     let f = standby-facts s (r .inRange) in
     let k = flushed-counts s count in
-    record {
-      inRange = standby-tested (withSlots s (flushed (s .slots) count) (s .blocks))
-          (record {
-            settings-ok = t .settings-ok;
-            slots-ok = slots-flushed (s .slots) (s .settings .s) (s .settings .d) (r .numbers) (f .settings .slots .s-high) count (t .slots-ok) low;
-            blocks-high = t .blocks-high;
-            pages-high = t .pages-high;
-            detector-ok = t .detector-ok;
-          });
-      numbers = array-flushed (s .slots) (r .numbers) count (omega arith) (omega arith);
-      stagedProcessor = r .stagedProcessor;
-      processor = r .processor;
-      pagesBelow = r .pagesBelow;
-      nextBelow = r .nextBelow;
-      notDue = omega (arith, r .notDue, k .0, k .1);
-    }
+    reached-slots s r (flushed (s .slots) count) (s .blocks)
+    (slots-flushed (s .slots) (s .settings .s) (s .settings .d) (r .numbers) (f .settings .slots .s-high) count (t .slots-ok) low)
+    (array-flushed (s .slots) (r .numbers) count (omega arith) (omega arith)) (t .blocks-high) (omega (arith, r .notDue, k .0, k .1))
 
 -- after a flush, accepted or refused
 pub flush-reached : (s : Standby) (slots disk n : ℕ) → StandbyReached s → StandbyReached (flushReply s slots disk n .state)
 unfolding flushReply
 flush-reached s slots disk n r =
-    reply-reached (flushRefusal s slots disk) s (withSlots s (flushed (s .slots) (flushCount (s .slots) n)) (s .blocks)) (flushCount (s .slots) n) r
-    (λ e. flushed-reached s (flushCount (s .slots) n) (omega arith) r)
+    pick-cases StandbyReached (flushRefusal s slots disk) (withSlots s (flushed (s .slots) (flushCount (s .slots) n)) (s .blocks)) s
+    (λ e. flushed-reached s (flushCount (s .slots) n) (omega arith) r) (λ e. r)

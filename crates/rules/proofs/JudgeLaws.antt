@@ -1,12 +1,12 @@
 -- What the record that a read judged has, by its kind: everything that its effects ask. Assumes nothing.
-use mathlib.Core.Path.{_≡_, refl, sym}
+use mathlib.Core.Path.{_≡_, refl}
 use mathlib.Core.Bool.{Bool, true, false, cond, _&&_, not}
 use mathlib.Core.List.{List, [], _∷_}
 use mathlib.Core.Logic.{⊎-elim}
 use Prim.Native.Nat.{ℕ, _+_, _≤_, _<_}
 use native.Mathlib.Omega.{arith}
 use lib.Dec.{leb, ltb, eqb}
-use borrow.Author.Tests.{leb-true, ltb-true, eqb-true, eq-eqb}
+use borrow.Author.Tests.{not-true, leb-true, ltb-true, eqb-true, eq-eqb}
 use Rattle.lists.specs.Refusal.{test}
 use Rattle.lists.proofs.TestLaws.{both, join, and-false, accepted}
 use Rattle.records.specs.Kind.{PAGE, BLOCK, STATE, COMMIT, bodyLength, recordLength, processorBytes}
@@ -74,10 +74,6 @@ pub record CommitTests (s : Standby) (reply e p b : ℕ) : Type 0 where
   pub pages-same : p ≡ s .pages
   pub blocks-same : b ≡ s .blocks
 
-not-seen : (b : Bool) → not b ≡ true → b ≡ false
-not-seen true e = sym e
-not-seen false e = refl
-
 module _ (s : Standby) where
   pub page-accepted : (e p : ℕ) → pageRefusal s e p ≡ 0 → PageTests s e p
   unfolding pageRefusal
@@ -86,7 +82,7 @@ module _ (s : Standby) where
       (test noSuchUnit (ltb p (s .settings .m)) ∷ test badEpoch (isNext s e) ∷ test outOfOrder (leb (s .next) p && not (s .seen)) ∷ [])
       refl z in
       let o = both (leb (s .next) p) (not (s .seen)) (a .1 .1 .0) in
-      record { page-low = ltb-true _ _ (a .0); epoch-next = eqb-true _ _ (a .1 .0); rising = leb-true _ _ (o .0); before-state = not-seen (s .seen) (o .1) }
+      record { page-low = ltb-true _ _ (a .0); epoch-next = eqb-true _ _ (a .1 .0); rising = leb-true _ _ (o .0); before-state = not-true (s .seen) (o .1) }
 
   pub block-accepted : (e n : ℕ) → blockRefusal s e n ≡ 0 → BlockTests s e n
   unfolding blockRefusal
@@ -104,7 +100,7 @@ module _ (s : Standby) where
         block-low = ltb-true _ _ (a .0);
         epoch-next = eqb-true _ _ (a .1 .0);
         before-pages = eqb-true _ _ (o .0);
-        before-state = not-seen (s .seen) (o .1);
+        before-state = not-true (s .seen) (o .1);
         allowed = ltb-true _ _ (a .1 .1 .1 .0);
         slot-free = ltb-true _ _ (a .1 .1 .1 .1 .0);
       }
@@ -113,7 +109,7 @@ module _ (s : Standby) where
   unfolding stateRefusal
   state-accepted e z =
       let a = accepted (test badEpoch (isNext s e) ∷ test outOfOrder (not (s .seen)) ∷ []) refl z in
-      record { epoch-next = eqb-true _ _ (a .0); first = not-seen (s .seen) (a .1 .0) }
+      record { epoch-next = eqb-true _ _ (a .0); first = not-true (s .seen) (a .1 .0) }
 
   pub commit-accepted : (reply e p b : ℕ) → commitRefusal s reply e p b ≡ 0 → CommitTests s reply e p b
   unfolding commitRefusal recordLength bodyLength

@@ -3,14 +3,12 @@ pub mod Compute
 pub mod ReplyLaws
 pub mod DetectorFacts
 pub mod PrimaryFacts
-pub mod PrimaryReachedLaws
 pub mod WriteLaws
 pub mod PacketLaws
 pub mod CheckpointLaws
 pub mod StreamLaws
 pub mod PrimaryTickLaws
 pub mod StandbyFacts
-pub mod StandbyReachedLaws
 pub mod JudgeLaws
 pub mod ReadLaws
 pub mod FlushLaws

@@ -2,12 +2,12 @@
 use mathlib.Core.Path.{_≡_, refl, sym}
 use mathlib.Core.Bool.{Bool, true, false, _&&_, _||_}
 use mathlib.Core.Logic.{_⊎_, inl, inr, ⊎-elim}
-use mathlib.Core.List.{[], _∷_}
+use mathlib.Core.List.{List, [], _∷_}
 use Prim.Native.Nat.{ℕ, _+_, _≤_, _<_}
 use lib.Dec.{leb, ltb, eqb}
 use lib.ListN.{length}
 use borrow.Author.Tests.{leb-true, ltb-true, eqb-true, le-leb, lt-ltb, eq-eqb}
-use Rattle.lists.specs.Refusal.{test}
+use Rattle.lists.specs.Refusal.{Test, test}
 use Rattle.lists.proofs.TestLaws.{both, join, refuted, within-facts, within-of, accepted, accepts}
 use Rattle.records.specs.Number.{outOfRange, badPacket, noRoom, queueFull, nothingFree}
 use Rattle.settings.specs.Range.{mostPackets, mostPacketBytes, packetLengthOk}
@@ -18,7 +18,8 @@ use Rattle.rules.specs.declared.Primary.{Primary}
 use Rattle.rules.specs.PrimaryState.{primaryOk, withQueue}
 use Rattle.rules.specs.Packets.{packetRefusal, packetReply, mayLeave, takeRefusal, takeReply}
 use Rattle.rules.specs.Reached.{PrimaryReached}
-use Rattle.rules.proofs.PrimaryFacts.{primary-facts, primary-of, reached-pick}
+use Rattle.rules.proofs.PrimaryFacts.{primary-facts, primary-of}
+use Rattle.rules.proofs.ReplyLaws.{pick-cases}
 
 -- ---- packet
 pub record PacketFacts (p : Primary) (held n : ℕ) : Type 0 where
@@ -30,12 +31,13 @@ pub record PacketFacts (p : Primary) (held n : ℕ) : Type 0 where
   pub bytes-fit : p .queue .bytes + n ≤ p .settings .q
 
 module _ (p : Primary) (held n : ℕ) where
+  abbrev packetTests : List Test
+  packetTests = test outOfRange (primaryOk p && eqb held (p .settings .q)) ∷ test badPacket (packetLengthOk n) ∷ test queueFull (hasSpace (p .queue) (p .settings .q) n) ∷ []
+
   pub packet-accepted : packetRefusal p held n ≡ 0 → PacketFacts p held n
   unfolding packetRefusal
   packet-accepted e =
-      let h = accepted
-      (test outOfRange (primaryOk p && eqb held (p .settings .q)) ∷ test badPacket (packetLengthOk n) ∷ test queueFull (hasSpace (p .queue) (p .settings .q) n) ∷ [])
-      refl e in
+      let h = accepted packetTests refl e in
       let r = both (primaryOk p) (eqb held (p .settings .q)) (h .0) in
       let l = within-facts 1 mostPacketBytes n (h .1 .0) in
       let s = space-facts (p .queue) (p .settings .q) n (h .1 .1 .0) in
@@ -44,8 +46,7 @@ module _ (p : Primary) (held n : ℕ) where
   pub packet-accepts : PacketFacts p held n → packetRefusal p held n ≡ 0
   unfolding packetRefusal
   packet-accepts f =
-      accepts
-      (test outOfRange (primaryOk p && eqb held (p .settings .q)) ∷ test badPacket (packetLengthOk n) ∷ test queueFull (hasSpace (p .queue) (p .settings .q) n) ∷ []) (
+      accepts packetTests (
         join (primaryOk p) (eqb held (p .settings .q)) (f .ok) (eq-eqb held (p .settings .q) (f .held-is)),
         (within-of 1 mostPacketBytes n (f .length-low) (f .length-high), (space-of (p .queue) (p .settings .q) n (f .count-low) (f .bytes-fit), tt)),
       )
@@ -91,12 +92,13 @@ module _ (p : Primary) where
       (⊎-elim (λ a. left-or (p .alone) t a) (λ a. right-or (p .alone) t (le-leb (oldest (p .queue) .epoch) (p .acknowledged) a)) (f .free))
 
 module _ (p : Primary) (held destination : ℕ) where
+  abbrev takeTests : List Test
+  takeTests = test outOfRange (primaryOk p && eqb held (p .settings .q)) ∷ test nothingFree (mayLeave p) ∷ test noRoom (leb (oldest (p .queue) .length) destination) ∷ []
+
   pub take-accepted : takeRefusal p held destination ≡ 0 → TakeFacts p held destination
   unfolding takeRefusal
   take-accepted e =
-      let h = accepted
-      (test outOfRange (primaryOk p && eqb held (p .settings .q)) ∷ test nothingFree (mayLeave p) ∷ test noRoom (leb (oldest (p .queue) .length) destination) ∷ [])
-      refl e in
+      let h = accepted takeTests refl e in
       let r = both (primaryOk p) (eqb held (p .settings .q)) (h .0) in
       record {
         ok = r .0;
@@ -108,8 +110,7 @@ module _ (p : Primary) (held destination : ℕ) where
   pub take-accepts : TakeFacts p held destination → takeRefusal p held destination ≡ 0
   unfolding takeRefusal
   take-accepts f =
-      accepts
-      (test outOfRange (primaryOk p && eqb held (p .settings .q)) ∷ test nothingFree (mayLeave p) ∷ test noRoom (leb (oldest (p .queue) .length) destination) ∷ []) (
+      accepts takeTests (
         join (primaryOk p) (eqb held (p .settings .q)) (f .ok) (eq-eqb held (p .settings .q) (f .held-is)),
         (may-leave-of p (f .released), (le-leb (oldest (p .queue) .length) destination (f .room), tt)),
       )
@@ -138,25 +139,28 @@ reached-queue p k ok queue packets =
       packets = packets;
     }
 
-module _ (p : Primary) (r : PrimaryReached p) where
-  pub packet-keeps : (held n : ℕ) → PrimaryReached (packetReply p held n .state)
-  unfolding packetReply
-  packet-keeps held n =
-      reached-pick (packetRefusal p held n) p (withQueue p (added (p .queue) (p .epoch) n)) r
-      (λ z.
-      let f = packet-accepted p held n z in
+module _ (p : Primary) (held n : ℕ) where
+  pub packet-state-reached : PacketFacts p held n → PrimaryReached p → PrimaryReached (withQueue p (added (p .queue) (p .epoch) n))
+  packet-state-reached f r =
       let q = primary-facts p (f .ok) .queue in
       reached-queue p (added (p .queue) (p .epoch) n) (f .ok)
       (queue-added (p .queue) (r .packets) (p .epoch) n (p .settings .q) q (space-of (p .queue) (p .settings .q) n (f .count-low) (f .bytes-fit)) (within-of 1 mostPacketBytes n (f .length-low) (f .length-high)))
-      (array-added (p .queue) (r .packets) (p .epoch) n))
+      (array-added (p .queue) (r .packets) (p .epoch) n)
 
-  pub take-keeps : (held destination : ℕ) → PrimaryReached (takeReply p held destination .state)
-  unfolding takeReply
-  take-keeps held destination =
-      reached-pick (takeRefusal p held destination) p (withQueue p (withoutOldest (p .queue))) r
-      (λ z.
-      let f = take-accepted p held destination z in
+  pub packet-reached : PrimaryReached p → PrimaryReached (packetReply p held n .state)
+  unfolding packetReply
+  packet-reached r =
+      pick-cases PrimaryReached (packetRefusal p held n) (withQueue p (added (p .queue) (p .epoch) n)) p (λ e. packet-state-reached (packet-accepted p held n e) r) (λ e. r)
+
+module _ (p : Primary) (held destination : ℕ) where
+  pub take-state-reached : TakeFacts p held destination → PrimaryReached p → PrimaryReached (withQueue p (withoutOldest (p .queue)))
+  take-state-reached f r =
       let q = primary-facts p (f .ok) .queue in
       reached-queue p (withoutOldest (p .queue)) (f .ok)
       (queue-removed (p .queue) (r .packets) (p .epoch) (p .settings .q) q (f .released .some))
-      (array-removed (p .queue) (r .packets) (p .epoch) (p .settings .q) q (f .released .some)))
+      (array-removed (p .queue) (r .packets) (p .epoch) (p .settings .q) q (f .released .some))
+
+  pub take-reached : PrimaryReached p → PrimaryReached (takeReply p held destination .state)
+  unfolding takeReply
+  take-reached r =
+      pick-cases PrimaryReached (takeRefusal p held destination) (withQueue p (withoutOldest (p .queue))) p (λ e. take-state-reached (take-accepted p held destination e) r) (λ e. r)

@@ -1,18 +1,15 @@
--- What number 1 of the primary's state says, by name, and back; a call keeps what is reached. Assumes nothing.
+-- What number 1 of the primary's state says, by name, and back. Assumes nothing.
 use mathlib.Core.Path.{_≡_}
 use mathlib.Core.Bool.{true}
-use mathlib.Core.Logic.{⊎-elim}
-use Prim.Native.Nat.{ℕ, _≤_, _<_}
+use Prim.Native.Nat.{_≤_, _<_}
 use lib.Dec.{leb, ltb}
-use borrow.Author.Tests.{leb-true, le-leb, ltb-true, lt-ltb, eq-eqb, ne-eqb}
-use Rattle.lists.specs.Refusal.{pick}
-use Rattle.lists.proofs.TestLaws.{both, eq-or-ne}
+use borrow.Author.Tests.{leb-true, le-leb, ltb-true, lt-ltb}
+use Rattle.lists.proofs.TestLaws.{both}
 use Rattle.settings.proofs.RangeLaws.{PrimarySettingsFacts, primary-settings-facts, primary-settings-of}
 use Rattle.queue.specs.Held.{queueOk}
 use Rattle.rules.specs.declared.Primary.{Primary}
 use Rattle.rules.specs.Common.{detectorOk}
 use Rattle.rules.specs.PrimaryState.{primaryOk, protected}
-use Rattle.rules.specs.Reached.{PrimaryReached}
 use Rattle.rules.proofs.DetectorFacts.{DetectorFacts, detector-facts, detector-of}
 
 pub record PrimaryFacts (p : Primary) : Type 0 where
@@ -52,8 +49,3 @@ module _ (p : Primary) where
         le-leb (p .blocks) (p .settings .b) (f .blocks),
         detector-of (p .detector) (protected p) (f .detector),
       )
-
--- what a call leaves is reached where the new state of an accepted one is
-pub reached-pick : (number : ℕ) (old new : Primary) → PrimaryReached old → (number ≡ 0 → PrimaryReached new) → PrimaryReached (pick number new old)
-reached-pick number old new r f =
-    ⊎-elim (λ e. rw (eq-eqb number 0 e) (f e)) (λ e. rw (ne-eqb number 0 e) r) (eq-or-ne number 0)

@@ -1,17 +1,19 @@
 -- Laws of the primary's tick: the new state in each case, and that the ranges are kept. Assumes nothing.
 use mathlib.Core.Path.{_≡_, refl, _∙_}
-use mathlib.Core.Bool.{Bool, true, false, cond, true≢false}
+use mathlib.Core.Bool.{Bool, true, false, cond, not, true≢false}
 use Prim.Native.Nat.{ℕ, _+_, _≤_, _<_}
 use native.Mathlib.Nat.{le-refl}
 use native.Mathlib.Omega.{arith}
-use borrow.Author.Tests.{not-true, leb-false, le-leb, lt-leb}
+use borrow.Author.Tests.{not-true, le-leb, lt-leb}
 use Rattle.detector.specs.Tick.{withCount, reset, expired, ticked}
-use Rattle.detector.proofs.TickLaws.{ticked-counts, ticked-rests, ticked-patience, ticked-le}
+use Rattle.detector.proofs.TickLaws.{ticked-counts, ticked-rests}
 use Rattle.rules.specs.declared.Primary.{Primary}
-use Rattle.rules.specs.PrimaryState.{withDetector}
+use Rattle.rules.specs.PrimaryState.{protected, withDetector}
 use Rattle.rules.specs.PrimaryTick.{primaryTickRefusal, outstanding, aloneAt, primaryTickState, primaryTickReply}
 use Rattle.rules.specs.Reached.{PrimaryReached}
-use Rattle.rules.proofs.PrimaryFacts.{primary-facts, primary-of, reached-pick}
+use Rattle.rules.proofs.DetectorFacts.{ticked-facts}
+use Rattle.rules.proofs.PrimaryFacts.{primary-facts, primary-of}
+use Rattle.rules.proofs.ReplyLaws.{pick-cases}
 
 module _ (p : Primary) where
   -- "Once alone, a tick changes nothing"
@@ -50,42 +52,33 @@ module _ (p : Primary) where
 
 -- ---- what a tick leaves is reached
 module _ (p : Primary) (r : PrimaryReached p) where
-  reached-detector : (alone : Bool) (waiting : ℕ) → waiting ≤ p .waiting
-      → ((alone ≡ false) → ticked (p .detector) (outstanding p) .count < ticked (p .detector) (outstanding p) .patience)
+  watched-reached : (alone : Bool) (waiting : ℕ) → waiting ≤ p .waiting → (alone ≡ false → expired (ticked (p .detector) (outstanding p)) ≡ false)
       → PrimaryReached (withDetector p (ticked (p .detector) (outstanding p)) alone waiting)
-  reached-detector alone waiting h below =
+  watched-reached alone waiting h below =
       let f = primary-facts p (r .inRange) in
-      let d = f .detector in
-      let o = outstanding p in
-      let e = ticked-patience (p .detector) o in
       record {
-        inRange = primary-of (withDetector p (ticked (p .detector) o) alone waiting)
+        inRange = primary-of (withDetector p (ticked (p .detector) (outstanding p)) alone waiting)
             (record {
               settings = f .settings;
               queue = f .queue;
               acknowledged = f .acknowledged;
               waiting = omega (arith, f .waiting, h);
               blocks = f .blocks;
-              detector = record {
-                t-low = omega (arith, e, d .t-low);
-                t-high = omega (arith, e, d .t-high);
-                count-high = ticked-le (p .detector) o (d .count-high);
-                below = λ w. below (not-true alone w);
-              };
+              detector = ticked-facts (p .detector) (protected p) (f .detector) (outstanding p) (not alone) (λ w. below (not-true alone w));
             });
         packets = r .packets;
       }
 
-  reached-state : PrimaryReached (primaryTickState p)
+  pub tick-state-reached : PrimaryReached (primaryTickState p)
   unfolding primaryTickState
-  reached-state = go (p .alone) (expired (ticked (p .detector) (outstanding p))) refl
+  tick-state-reached = go (p .alone) (expired (ticked (p .detector) (outstanding p))) refl
     where
       go : (a x : Bool) → expired (ticked (p .detector) (outstanding p)) ≡ x
           → PrimaryReached (cond a p (cond x (withDetector p (ticked (p .detector) (outstanding p)) true 0) (withDetector p (ticked (p .detector) (outstanding p)) false (p .waiting))))
       go true x e = r
-      go false true e = reached-detector true 0 (omega arith) (λ w. absurd (true≢false w))
-      go false false e = reached-detector false (p .waiting) (le-refl (p .waiting)) (λ w. leb-false _ _ e)
+      go false true e = watched-reached true 0 (omega arith) (λ w. absurd (true≢false w))
+      go false false e = watched-reached false (p .waiting) (le-refl (p .waiting)) (λ w. e)
 
-  pub tick-keeps : PrimaryReached (primaryTickReply p .state)
+  pub primary-tick-reached : PrimaryReached (primaryTickReply p .state)
   unfolding primaryTickReply
-  tick-keeps = reached-pick (primaryTickRefusal p) p (primaryTickState p) r (λ z. reached-state)
+  primary-tick-reached = pick-cases PrimaryReached (primaryTickRefusal p) (primaryTickState p) p (λ e. tick-state-reached) (λ e. r)

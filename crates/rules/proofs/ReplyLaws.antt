@@ -1,15 +1,20 @@
 -- Laws of the replies, one for all calls: an accepted call gives the new state and the value, a refused one the old state and 0;
--- and what a call that reads answers, by the record that it judged. Assumes nothing.
+-- the same of a call that reads a record. Assumes nothing.
 use mathlib.Core.Path.{_≡_, refl, sym, _∙_}
 use mathlib.Core.Logic.{⊎-elim}
 use Prim.Native.Nat.{ℕ}
 use borrow.Author.Tests.{eq-eqb, ne-eqb}
+use Rattle.lists.specs.Refusal.{pick}
 use Rattle.lists.proofs.TestLaws.{eq-or-ne}
 use Rattle.records.specs.declared.Record.{Record}
 use Rattle.records.specs.declared.Record.the-variants.{Page, Block, State, Commit, Ack, Short, Refused}
 use Rattle.rules.specs.declared.Primary.{Primary}
 use Rattle.rules.specs.declared.Standby.{Standby}
 use Rattle.rules.specs.Reply.{primaryReply, standbyReply, numberOf, valueOf, usedOf, unlessRefused, answerOf}
+
+-- a fact of what a call leaves is shown of the new where it is accepted, and of the old where it is refused
+pub pick-cases : {A : Type 0} (P : A → Type 0) (number : ℕ) (new old : A) → (number ≡ 0 → P new) → ((number ≡ 0 → ⊥) → P old) → P (pick number new old)
+pick-cases P number new old f g = ⊎-elim (λ e. rw (eq-eqb number 0 e) (f e)) (λ e. rw (ne-eqb number 0 e) (g e)) (eq-or-ne number 0)
 
 -- ---- the primary's calls
 module _ (number : ℕ) (old new : Primary) (value : ℕ) where
@@ -50,7 +55,7 @@ module _ (number : ℕ) (r : Record) where
 
   -- a fact of it is shown at both
   pub unless-cases : (P : Record → Type 0) → (number ≡ 0 → P r) → ((number ≡ 0 → ⊥) → P (Refused number)) → P (unlessRefused number r)
-  unless-cases P f g = ⊎-elim (λ e. rw (eq-eqb number 0 e) (f e)) (λ e. rw (ne-eqb number 0 e) (g e)) (eq-or-ne number 0)
+  unless-cases P f g = pick-cases P number r (Refused number) f g
 
 -- "Every refusal's value is 0", and "A record cut short or refused uses 0"
 pub answer-refused : (r : Record) → (numberOf (answerOf r) ≡ 0 → ⊥) → (valueOf (answerOf r) ≡ 0) × (usedOf (answerOf r) ≡ 0)

@@ -1,19 +1,19 @@
--- What the range of the standby's state says, by name, and back; states reached. Assumes nothing.
+-- What the range of the standby's state says, by name, and back; its staged blocks replaced. Assumes nothing.
 use mathlib.Core.Path.{_≡_}
 use mathlib.Core.Bool.{true}
-use mathlib.Core.Logic.{⊎-elim}
-use Prim.Native.Nat.{ℕ, _≤_}
+use Prim.Native.Nat.{ℕ, _-_, _≤_}
 use lib.Dec.{leb}
-use borrow.Author.Tests.{leb-true, le-leb, eq-eqb, ne-eqb}
-use Rattle.lists.proofs.TestLaws.{both, join, eq-or-ne}
-use Rattle.settings.specs.Range.{standbySettingsOk}
+use lib.ListN.{length}
+use borrow.Author.Tests.{leb-true, le-leb}
+use Rattle.lists.proofs.TestLaws.{both, join}
+use Rattle.settings.specs.Range.{standbySettingsOk, mostSlots}
 use Rattle.settings.proofs.RangeLaws.{StandbySettingsFacts, standby-settings-facts}
+use Rattle.staging.specs.declared.Slots.{Slots}
 use Rattle.staging.specs.Slot.{slotsOk}
 use Rattle.staging.proofs.SlotLaws.{SlotsTests, slots-tests}
 use Rattle.rules.specs.declared.Standby.{Standby}
 use Rattle.rules.specs.Common.{detectorOk}
-use Rattle.rules.specs.StandbyState.{isReceiving, standbyOk}
-use Rattle.rules.specs.Reply.{standbyReply}
+use Rattle.rules.specs.StandbyState.{isReceiving, standbyOk, withSlots}
 use Rattle.rules.specs.Reached.{StandbyReached}
 use Rattle.rules.proofs.DetectorFacts.{DetectorFacts, detector-facts}
 
@@ -69,7 +69,18 @@ module _ (s : Standby) where
         detector = detector-facts (s .detector) (isReceiving (s .mode)) (t .detector-ok);
       }
 
--- ---- what holds of a state reached holds after a call, accepted or refused
-pub reply-reached : (number : ℕ) (old new : Standby) (value : ℕ) → StandbyReached old → (number ≡ 0 → StandbyReached new) → StandbyReached (standbyReply number old new value .state)
-reply-reached number old new value r f =
-    ⊎-elim (λ e. rw (eq-eqb number 0 e) (f e)) (λ e. rw (ne-eqb number 0 e) r) (eq-or-ne number 0)
+-- ---- the staged blocks and the epoch's count of them replaced: the state stays reached
+pub reached-slots : (s : Standby) → StandbyReached s → (slots : Slots) (blocks : ℕ) → slotsOk slots (s .settings .s) (s .settings .d) ≡ true → length (slots .numbers) ≡ mostSlots
+    → blocks ≤ s .settings .b → blocks ≡ slots .staged - slots .due → StandbyReached (withSlots s slots blocks)
+reached-slots s r slots blocks ok array high e =
+    let f = standby-tests s (r .inRange) in
+    record {
+      inRange = standby-tested (withSlots s slots blocks)
+          (record { settings-ok = f .settings-ok; slots-ok = ok; blocks-high = high; pages-high = f .pages-high; detector-ok = f .detector-ok });
+      numbers = array;
+      stagedProcessor = r .stagedProcessor;
+      processor = r .processor;
+      pagesBelow = r .pagesBelow;
+      nextBelow = r .nextBelow;
+      notDue = e;
+    }

@@ -20,8 +20,9 @@ use Rattle.rules.specs.PrimaryState.{primaryOk, protected, withWaiting, 
 use Rattle.rules.specs.Reply.{unlessRefused}
 use Rattle.rules.specs.Stream.{drainRefusal, drainCount, drainReply, ackRefusal, ackJudged, ackState, ackReply}
 use Rattle.rules.specs.Reached.{PrimaryReached}
-use Rattle.rules.proofs.PrimaryFacts.{primary-facts, primary-of, reached-pick}
-use Rattle.rules.proofs.ReplyLaws.{unless-cases}
+use Rattle.rules.proofs.DetectorFacts.{reset-facts}
+use Rattle.rules.proofs.PrimaryFacts.{primary-facts, primary-of}
+use Rattle.rules.proofs.ReplyLaws.{pick-cases, unless-cases}
 
 -- ---- drain
 pub record DrainFacts (p : Primary) (stream : ℕ) : Type 0 where
@@ -106,42 +107,46 @@ module _ (p : Primary) where
     ack-accepted = ack-cases (AckJudgedFacts p) (λ n. tt) (λ ok on z. record-facts ok on (readRecord reader.Primary (p .settings .u) bytes) z)
 
 -- ---- what a call leaves is reached
-module _ (p : Primary) (r : PrimaryReached p) where
-  pub drain-keeps : (stream n destination : ℕ) → PrimaryReached (drainReply p stream n destination .state)
-  unfolding drainReply
-  drain-keeps stream n destination =
-      reached-pick (drainRefusal p stream) p (withWaiting p (p .waiting - drainCount p n destination)) r
-      (λ z.
+module _ (p : Primary) where
+  pub drain-state-reached : (n destination : ℕ) → PrimaryReached p → PrimaryReached (withWaiting p (p .waiting - drainCount p n destination))
+  drain-state-reached n destination r =
       let f = primary-facts p (r .inRange) in
       record {
         inRange = primary-of (withWaiting p (p .waiting - drainCount p n destination))
             (record { settings = f .settings; queue = f .queue; acknowledged = f .acknowledged; waiting = omega arith; blocks = f .blocks; detector = f .detector });
         packets = r .packets;
-      })
+      }
 
-  pub ack-keeps : (bytes : List ℕ) → PrimaryReached (ackReply p bytes .state)
+  pub drain-reached : (stream n destination : ℕ) → PrimaryReached p → PrimaryReached (drainReply p stream n destination .state)
+  unfolding drainReply
+  drain-reached stream n destination r =
+      pick-cases PrimaryReached (drainRefusal p stream) (withWaiting p (p .waiting - drainCount p n destination)) p (λ e. drain-state-reached n destination r) (λ e. r)
+
+  pub ack-state-reached : (e : ℕ) → AckFacts p e → PrimaryReached p → PrimaryReached (withAcknowledged p e (reset (p .detector)))
+  ack-state-reached e a r =
+      let f = primary-facts p (a .ok) in
+      record {
+        inRange = primary-of (withAcknowledged p e (reset (p .detector)))
+            (record {
+              settings = f .settings;
+              queue = f .queue;
+              acknowledged = a .below;
+              waiting = f .waiting;
+              blocks = f .blocks;
+              detector = reset-facts (p .detector) (protected p) (f .detector);
+            });
+        packets = r .packets;
+      }
+
+  pub ack-reached : (bytes : List ℕ) → PrimaryReached p → PrimaryReached (ackReply p bytes .state)
   unfolding ackReply
-  ack-keeps bytes = go (ackJudged p bytes) (ack-accepted p bytes)
+  ack-reached bytes r = go (ackJudged p bytes) (ack-accepted p bytes)
     where
       go : (j : Record) → AckJudgedFacts p j → PrimaryReached (ackState p j)
       go (Page e n c) a = absurd a
       go (Block e n c) a = absurd a
       go (State e c) a = absurd a
       go (Commit e n b c) a = absurd a
-      go (Ack e c) a =
-          let f = primary-facts p (a .ok) in
-          let d = f .detector in
-          record {
-            inRange = primary-of (withAcknowledged p e (reset (p .detector)))
-                (record {
-                  settings = f .settings;
-                  queue = f .queue;
-                  acknowledged = a .below;
-                  waiting = f .waiting;
-                  blocks = f .blocks;
-                  detector = record { t-low = d .t-low; t-high = d .t-high; count-high = omega arith; below = λ _. omega (arith, d .t-low) };
-                });
-            packets = r .packets;
-          }
+      go (Ack e c) a = ack-state-reached e a r
       go Short a = r
       go (Refused n) a = r

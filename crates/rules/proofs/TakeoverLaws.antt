@@ -2,13 +2,13 @@
 -- holds after each of them. Assumes nothing.
 use mathlib.Core.Path.{_≡_, refl, ap, _∙_}
 use mathlib.Core.Bool.{Bool, true, false, _&&_, cond, false≢true}
-use mathlib.Core.List.{[], _∷_}
+use mathlib.Core.List.{List, [], _∷_}
 use Prim.Native.Nat.{ℕ, _+_, _≤_, _<_}
 use native.Mathlib.Omega.{arith}
 use lib.Dec.{leb, ltb, eqb}
 use lib.ListN.{length}
-use borrow.Author.Tests.{eqb-true, eq-eqb, ltb-true, leb-true, leb-false}
-use Rattle.lists.specs.Refusal.{test}
+use borrow.Author.Tests.{eqb-true, eq-eqb, ltb-true, leb-true}
+use Rattle.lists.specs.Refusal.{Test, test}
 use Rattle.lists.proofs.TestLaws.{both, join, accepted, accepts}
 use Rattle.records.specs.Area.{areaLength}
 use Rattle.records.specs.Number.{outOfRange, noSuchUnit, badSize, wrongMode, blocksDue}
@@ -16,7 +16,6 @@ use Rattle.staging.specs.Slot.{onlyDue}
 use Rattle.staging.proofs.SlotLaws.{numbers-only-due, slots-only-due}
 use Rattle.detector.specs.declared.Detector.{Detector}
 use Rattle.detector.specs.Tick.{ticked, expired}
-use Rattle.detector.proofs.TickLaws.{ticked-patience, ticked-le}
 use Rattle.rules.specs.declared.Mode.{Mode}
 use Rattle.rules.specs.declared.Mode.the-variants.{TakingOver, Active}
 use Rattle.rules.specs.declared.Standby.{Standby}
@@ -24,10 +23,11 @@ use Rattle.rules.specs.Common.{detectorOk, insidePage}
 use Rattle.rules.specs.StandbyState.{standbyOk, isReceiving, isTakingOver, isActive, memoryLength, diskLength, marksLength, withDetector, withMode}
 use Rattle.rules.specs.Takeover.{standbyTickRefusal, dropped, takesOver, standbyTickState, standbyTickReply, activationRefusal, activationReply, activeMemoryWriteRefusal, activeMemoryWriteReply, activeDiskWriteRefusal, activeDiskWriteReply}
 use Rattle.rules.specs.Reached.{StandbyReached}
-use Rattle.rules.proofs.DetectorFacts.{detector-facts, detector-of}
-use Rattle.rules.proofs.StandbyFacts.{standby-tests, standby-tested, reply-reached}
+use Rattle.rules.proofs.DetectorFacts.{detector-of, ticked-facts}
+use Rattle.rules.proofs.StandbyFacts.{standby-tests, standby-tested, standby-facts}
+use Rattle.rules.proofs.ReplyLaws.{pick-cases}
 
--- ---- acceptance: what it says, and for the calls of a takeover that it follows from that
+-- ---- acceptance: what it says, and of the calls of a takeover that it follows from that
 pub record TickAccepted (s : Standby) (marks : ℕ) : Type 0 where
   pub inRange : standbyOk s ≡ true
   pub marksLent : marks ≡ marksLength s
@@ -43,18 +43,21 @@ pub record ActivationAccepted (s : Standby) (area : ℕ) : Type 0 where
   pub takingOver : isTakingOver (s .mode) ≡ true
   pub noneDue : s .slots .due ≡ 0
 
-pub activation-accepted : (s : Standby) (area : ℕ) → activationRefusal s area ≡ 0 → ActivationAccepted s area
-unfolding activationRefusal
-activation-accepted s area e =
-    let t = accepted (test outOfRange (standbyOk s && eqb area areaLength) ∷ test wrongMode (isTakingOver (s .mode)) ∷ test blocksDue (eqb (s .slots .due) 0) ∷ []) refl e in
-    let k = both (standbyOk s) (eqb area areaLength) (t .0) in
-    record { inRange = k .0; areaLent = eqb-true area areaLength (k .1); takingOver = t .1 .0; noneDue = eqb-true (s .slots .due) 0 (t .1 .1 .0) }
+module _ (s : Standby) (area : ℕ) where
+  abbrev activationTests : List Test
+  activationTests = test outOfRange (standbyOk s && eqb area areaLength) ∷ test wrongMode (isTakingOver (s .mode)) ∷ test blocksDue (eqb (s .slots .due) 0) ∷ []
 
-pub activation-accepts : (s : Standby) (area : ℕ) → ActivationAccepted s area → activationRefusal s area ≡ 0
-unfolding activationRefusal
-activation-accepts s area f =
-    accepts (test outOfRange (standbyOk s && eqb area areaLength) ∷ test wrongMode (isTakingOver (s .mode)) ∷ test blocksDue (eqb (s .slots .due) 0) ∷ [])
-    (join _ _ (f .inRange) (eq-eqb area areaLength (f .areaLent)), (f .takingOver, (eq-eqb (s .slots .due) 0 (f .noneDue), tt)))
+  pub activation-accepted : activationRefusal s area ≡ 0 → ActivationAccepted s area
+  unfolding activationRefusal
+  activation-accepted e =
+      let t = accepted activationTests refl e in
+      let k = both (standbyOk s) (eqb area areaLength) (t .0) in
+      record { inRange = k .0; areaLent = eqb-true area areaLength (k .1); takingOver = t .1 .0; noneDue = eqb-true (s .slots .due) 0 (t .1 .1 .0) }
+
+  pub activation-accepts : ActivationAccepted s area → activationRefusal s area ≡ 0
+  unfolding activationRefusal
+  activation-accepts f =
+      accepts activationTests (join _ _ (f .inRange) (eq-eqb area areaLength (f .areaLent)), (f .takingOver, (eq-eqb (s .slots .due) 0 (f .noneDue), tt)))
 
 pub record ActiveMemoryWriteAccepted (s : Standby) (memory page offset n : ℕ) : Type 0 where
   pub inRange : standbyOk s ≡ true
@@ -157,7 +160,7 @@ only-due-counts : (s : Standby) → (onlyDue (s .slots) .staged ≡ s .slots .du
 unfolding onlyDue
 only-due-counts s = (refl, refl)
 
-pub dropped-reached : (s : Standby) → StandbyReached s → StandbyReached (dropped s)
+dropped-reached : (s : Standby) → StandbyReached s → StandbyReached (dropped s)
 dropped-reached s r =
     let t = standby-tests s (r .inRange) in
     let k = only-due-counts s in
@@ -178,24 +181,17 @@ dropped-reached s r =
       notDue = omega (arith, k .0, k .1);
     }
 
--- a detector in range stays so while it is ticked, and is below its patience where it has not expired
-ticked-ok : (d : Detector) (watching still : Bool) → (still ≡ true → expired (ticked d true) ≡ false) → detectorOk d watching ≡ true → detectorOk (ticked d true) still ≡ true
-ticked-ok d watching still below ok =
-    let f = detector-facts d watching ok in
-    let p = ticked-patience d true in
-    detector-of (ticked d true) still
-    (record {
-      t-low = omega (arith, p);
-      t-high = omega (arith, p);
-      count-high = ticked-le d true (f .count-high);
-      below = λ e. leb-false (ticked d true .patience) (ticked d true .count) (below e);
-    })
+-- after a tick of a receiving standby, whether it still receives then or not
+ticked-ok : (s : Standby) (still : Bool) → StandbyReached s → (still ≡ true → expired (ticked (s .detector) true) ≡ false) → detectorOk (ticked (s .detector) true) still ≡ true
+ticked-ok s still r below =
+    detector-of (ticked (s .detector) true) still (ticked-facts (s .detector) (isReceiving (s .mode)) (standby-facts s (r .inRange) .detector) true still below)
 
--- a detector in range is so where its ticks do not count
-not-watched : (d : Detector) (watching : Bool) → detectorOk d watching ≡ true → detectorOk d false ≡ true
-not-watched d watching ok =
-    let f = detector-facts d watching ok in
-    detector-of d false (record { t-low = f .t-low; t-high = f .t-high; count-high = f .count-high; below = λ e. absurd (false≢true e) })
+-- once active its ticks do not count
+pub activated-reached : (s : Standby) → StandbyReached s → StandbyReached (withMode s Active)
+activated-reached s r =
+    let f = standby-facts s (r .inRange) .detector in
+    with-detector-mode s (s .detector) Active
+    (detector-of (s .detector) false (record { t-low = f .t-low; t-high = f .t-high; count-high = f .count-high; below = λ e. absurd (false≢true e) })) r
 
 pub ticked-reached : (s : Standby) → StandbyReached s → StandbyReached (standbyTickState s)
 ticked-reached s r =
@@ -205,28 +201,25 @@ ticked-reached s r =
     go false b e x = rw (tick-rests s e .0) r
     go true false e x =
         rw (tick-counts s e x .0)
-        (with-detector-mode s (ticked (s .detector) true) (s .mode) (ticked-ok (s .detector) (isReceiving (s .mode)) (isReceiving (s .mode)) (λ w. x) (standby-tests s (r .inRange) .detector-ok)) r)
+        (with-detector-mode s (ticked (s .detector) true) (s .mode) (ticked-ok s (isReceiving (s .mode)) r (λ w. x)) r)
     go true true e x =
         rw (tick-takes-over s e x .0)
-        (with-detector-mode (dropped s) (ticked (s .detector) true) TakingOver (ticked-ok (s .detector) (isReceiving (s .mode)) false (λ w. absurd (false≢true w)) (standby-tests s (r .inRange) .detector-ok)) (dropped-reached s r))
+        (with-detector-mode (dropped s) (ticked (s .detector) true) TakingOver (ticked-ok s false r (λ w. absurd (false≢true w))) (dropped-reached s r))
 
--- after a tick
-pub tick-reached : (s : Standby) (marks : ℕ) → StandbyReached s → StandbyReached (standbyTickReply s marks .state)
+-- ---- after each call, accepted or refused
+pub standby-tick-reached : (s : Standby) (marks : ℕ) → StandbyReached s → StandbyReached (standbyTickReply s marks .state)
 unfolding standbyTickReply
-tick-reached s marks r = reply-reached (standbyTickRefusal s marks) s (standbyTickState s) 0 r (λ e. ticked-reached s r)
+standby-tick-reached s marks r = pick-cases StandbyReached (standbyTickRefusal s marks) (standbyTickState s) s (λ e. ticked-reached s r) (λ e. r)
 
--- after an activation
 pub activation-reached : (s : Standby) (area : ℕ) → StandbyReached s → StandbyReached (activationReply s area .state)
 unfolding activationReply
-activation-reached s area r =
-    reply-reached (activationRefusal s area) s (withMode s Active) (s .received) r
-    (λ e. with-detector-mode s (s .detector) Active (not-watched (s .detector) (isReceiving (s .mode)) (standby-tests s (r .inRange) .detector-ok)) r)
+activation-reached s area r = pick-cases StandbyReached (activationRefusal s area) (withMode s Active) s (λ e. activated-reached s r) (λ e. r)
 
--- after a guest's write, which leaves the state
+-- a guest's write leaves the state
 pub active-memory-write-reached : (s : Standby) (memory page offset n : ℕ) → StandbyReached s → StandbyReached (activeMemoryWriteReply s memory page offset n .state)
 unfolding activeMemoryWriteReply
-active-memory-write-reached s memory page offset n r = reply-reached (activeMemoryWriteRefusal s memory page offset n) s s (s .received) r (λ e. r)
+active-memory-write-reached s memory page offset n r = pick-cases StandbyReached (activeMemoryWriteRefusal s memory page offset n) s s (λ e. r) (λ e. r)
 
 pub active-disk-write-reached : (s : Standby) (disk block n : ℕ) → StandbyReached s → StandbyReached (activeDiskWriteReply s disk block n .state)
 unfolding activeDiskWriteReply
-active-disk-write-reached s disk block n r = reply-reached (activeDiskWriteRefusal s disk block n) s s (s .received) r (λ e. r)
+active-disk-write-reached s disk block n r = pick-cases StandbyReached (activeDiskWriteRefusal s disk block n) s s (λ e. r) (λ e. r)

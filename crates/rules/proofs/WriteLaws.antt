@@ -16,7 +16,8 @@ use Rattle.rules.specs.Common.{insidePage}
 use Rattle.rules.specs.PrimaryState.{primaryOk, memoryLength, diskLength, marksLength, withBlocks}
 use Rattle.rules.specs.PrimaryWrites.{memoryWriteRefusal, memoryWriteReply, diskWriteRefusal, diskWriteState, diskWriteReply}
 use Rattle.rules.specs.Reached.{PrimaryReached}
-use Rattle.rules.proofs.PrimaryFacts.{primary-facts, primary-of, reached-pick}
+use Rattle.rules.proofs.PrimaryFacts.{primary-facts, primary-of}
+use Rattle.rules.proofs.ReplyLaws.{pick-cases}
 
 -- ---- memory write
 pub record MemoryWriteRoom (p : Primary) (memory dirty page offset n : ℕ) : Type 0 where
@@ -58,7 +59,7 @@ module _ (p : Primary) (memory dirty page offset n : ℕ) where
 
   pub memory-write-reached : PrimaryReached p → PrimaryReached (memoryWriteReply p memory dirty page offset n .state)
   unfolding memoryWriteReply
-  memory-write-reached r = reached-pick (memoryWriteRefusal p memory dirty page offset n) p p r (λ e. r)
+  memory-write-reached r = pick-cases PrimaryReached (memoryWriteRefusal p memory dirty page offset n) p p (λ e. r) (λ e. r)
 
 -- ---- disk write
 pub record DiskWriteRoom (p : Primary) (disk stream block n : ℕ) : Type 0 where
@@ -127,31 +128,32 @@ module _ (p : Primary) (disk stream block n : ℕ) where
     pub disk-write-end : block * p .settings .u + n ≤ disk
     disk-write-end = omega (arith, page-end block (p .settings .d) (p .settings .u) (f .below), f .disk-is, f .size)
 
-    pub disk-write-state-reached : PrimaryReached p → PrimaryReached (diskWriteState p)
+    -- a BLOCK appended
+    pub appended-reached : p .alone ≡ false → PrimaryReached p → PrimaryReached (withBlocks p (p .blocks + 1) (p .waiting + recordLength (p .settings .u) BLOCK))
+    appended-reached a r =
+        let g = primary-facts p (f .ok) in
+        let h = f .allowance a in
+        record {
+          inRange = primary-of _ (record {
+            settings = g .settings;
+            queue = g .queue;
+            acknowledged = g .acknowledged;
+            waiting = f .room a;
+            blocks = omega arith;
+            detector = g .detector;
+          });
+          packets = r .packets;
+        }
+
+    disk-write-state-reached : PrimaryReached p → PrimaryReached (diskWriteState p)
     unfolding diskWriteState
     disk-write-state-reached r = go (p .alone) refl
       where
-        appended : p .alone ≡ false → PrimaryReached (withBlocks p (p .blocks + 1) (p .waiting + recordLength (p .settings .u) BLOCK))
-        appended a =
-            let g = primary-facts p (f .ok) in
-            let h = f .allowance a in
-            record {
-              inRange = primary-of _ (record {
-                settings = g .settings;
-                queue = g .queue;
-                acknowledged = g .acknowledged;
-                waiting = f .room a;
-                blocks = omega arith;
-                detector = g .detector;
-              });
-              packets = r .packets;
-            }
-
         go : (a : Bool) → p .alone ≡ a → PrimaryReached (cond a p (withBlocks p (p .blocks + 1) (p .waiting + recordLength (p .settings .u) BLOCK)))
         go true e = r
-        go false e = appended e
+        go false e = appended-reached e r
 
   pub disk-write-reached : PrimaryReached p → PrimaryReached (diskWriteReply p disk stream block n .state)
   unfolding diskWriteReply
   disk-write-reached r =
-      reached-pick (diskWriteRefusal p disk stream block n) p (diskWriteState p) r (λ e. disk-write-state-reached (disk-write-accepted e) r)
+      pick-cases PrimaryReached (diskWriteRefusal p disk stream block n) (diskWriteState p) p (λ e. disk-write-state-reached (disk-write-accepted e) r) (λ e. r)

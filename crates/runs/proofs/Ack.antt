@@ -7,7 +7,7 @@ use mathlib.Core.List.{List, [], _∷_, _++_, map, append-nil}
 use native.Mathlib.Omega.{arith}
 use lib.Dec.{leb}
 use lib.ListN.{length, take, drop}
-use borrow.Author.Tests.{lt-leb, eq-eqb}
+use borrow.Author.Tests.{not-true, lt-leb}
 use Rattle.lists.proofs.TestLaws.{by-test, eq-or-ne}
 use Rattle.records.specs.declared.Record.{Record}
 use Rattle.records.specs.declared.Record.the-variants as record-of
@@ -28,8 +28,8 @@ use Rattle.rules.specs.World.{World}
 use Rattle.rules.specs.World as call
 use Rattle.rules.specs.Step.{Stepped, step}
 use Rattle.rules.proofs.ReplyLaws.{unless-accepted, unless-refused}
-use Rattle.rules.proofs.StreamLaws.{AckFacts, ack-epochs, ack-mode, ack-number}
-use Rattle.rules.proofs.PrimaryReachedLaws.{reached-facts, reached-acknowledged}
+use Rattle.rules.proofs.StreamLaws.{AckFacts, ack-epochs, ack-mode, ack-number, ack-state-reached}
+use Rattle.rules.proofs.PrimaryFacts.{primary-facts}
 use Rattle.runs.specs.Plain.{withCounts, plainAccepted, plainStep}
 use Rattle.runs.specs.Run.{Both, steps, runCall}
 use Rattle.runs.proofs.Effects.{All, ReadableBy}
@@ -59,10 +59,6 @@ after e used b =
       plain = withCounts (b .plain) (b .plain .r) e 0;
     }
 
-not-alone : (x : Bool) → not x ≡ true → x ≡ false
-not-alone true e = sym e
-not-alone false e = refl
-
 module _ (g : Settings) (b : Both) (i : Inv g b) where
   r-low : b .plain .r < 2 ^ 32
   r-low = let h = i .holds .history in omega (arith, received-exists g b i, h .count, h .high)
@@ -81,8 +77,8 @@ module _ (g : Settings) (b : Both) (i : Inv g b) where
       let k = v .primaryKept in
       let h = i .ghost in
       let r : Rising (b .plain .a) (b .plain .r) (e ∷ es) = subst (Rising (b .plain .a) (b .plain .r)) same (v .detector .rising) in
-      let d = reached-facts (p .state) (k .reached) .detector in
-      let alone : b .world .primary .state .alone ≡ false = not-alone _ (f .protects) in
+      let d = primary-facts (p .state) (f .ok) .detector in
+      let alone : b .world .primary .state .alone ≡ false = not-true _ (f .protects) in
       record {
         ghost = record { base = h .base; ahead = h .ahead; opened = h .opened; consumed = h .consumed; pending = h .pending; lost = h .lost; acks = es };
         holds = record {
@@ -102,8 +98,7 @@ module _ (g : Settings) (b : Both) (i : Inv g b) where
           primaryKept = record {
             settings = k .settings;
             patience = k .patience;
-            reached = reached-acknowledged (p .state) (k .reached) e (reset (p .state .detector)) (f .below)
-                (record { t-low = d .t-low; t-high = d .t-high; count-high = omega arith; below = λ z. omega (arith, d .t-low) });
+            reached = ack-state-reached (p .state) e f (k .reached);
             memory = k .memory;
             disk = k .disk;
             dirty = k .dirty;
@@ -161,7 +156,7 @@ pub keep-ack : (g : Settings) (n : ℕ) → KeepsAccepted g (call.ack n)
 keep-ack g n b i e =
     let p = b .world .primary .state in
     let accepted : numberOf (answerOf (ackSeen (b .world) n)) ≡ 0 = sym (ap (λ (s : Stepped). s .outcome .number) (ack-step (b .world) n)) ∙ e in
-    let u-ok = shared-unit (reached-facts p (i .holds .primaryKept .reached) .settings .shared) in
+    let u-ok = shared-unit (primary-facts p (i .holds .primaryKept .reached .inRange) .settings .shared) in
     let es = i .ghost .acks in
     subst (Inv g) (sym (run-is g b i n))
     (⊎-elim

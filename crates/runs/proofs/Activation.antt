@@ -29,31 +29,13 @@ use Rattle.rules.specs.StandbyState.{standbyOk, isReceiving, isTakingOver, isAc
 use Rattle.rules.specs.Takeover.{activationRefusal, activationReply, activationArea}
 use Rattle.rules.specs.World as call
 use Rattle.rules.specs.Step.{atStandby, step}
-use Rattle.rules.proofs.DetectorFacts.{detector-facts, detector-of}
-use Rattle.rules.proofs.StandbyReachedLaws.{reached-tests, reached-mode}
+use Rattle.rules.proofs.TakeoverLaws.{ActivationAccepted, activation-accepted, activated-reached}
 use Rattle.runs.specs.Plain.{Checkpoint, receivedCheckpoint, withStandbyImages, plainAccepted, plainStep}
 use Rattle.runs.specs.Run.{Both, steps, runCall}
 use Rattle.runs.proofs.Invariant.{Inv}
 use Rattle.runs.proofs.Conclusions.{received-is, received-exists}
+use Rattle.runs.proofs.ModeLaws.{taking-not-active}
 use Rattle.runs.proofs.Frame.{Accepted, KeepsAccepted}
-
--- what acceptance says
-pub record ActivationFacts (s : Standby) : Type 0 where
-  pub takes : isTakingOver (s .mode) ≡ true
-  pub none : s .slots .due ≡ 0
-
-activation-facts : (s : Standby) (area : ℕ) → activationRefusal s area ≡ 0 → ActivationFacts s
-unfolding activationRefusal
-activation-facts s area e =
-    let h = accepted
-    (test outOfRange (standbyOk s && eqb area areaLength) ∷ test wrongMode (isTakingOver (s .mode)) ∷ test blocksDue (eqb (s .slots .due) 0) ∷ [])
-    refl e in
-    record { takes = h .1 .0; none = eqb-true (s .slots .due) 0 (h .1 .1 .0) }
-
-pub taking-not-active : (m : Mode) → isTakingOver m ≡ true → isActive m ≡ false
-taking-not-active Receiving e = absurd (false≢true e)
-taking-not-active TakingOver e = refl
-taking-not-active Active e = absurd (false≢true e)
 
 abbrev pub after : Both → Both
 after b =
@@ -75,16 +57,16 @@ pub after-is : (u : ℕ) (b : Both) → Accepted b call.activation → runCall s
 unfolding step activationReply activationArea plainStep plainAccepted
 after-is u b e = rw (eq-eqb _ _ e)
 
-facts : (b : Both) → Accepted b call.activation → ActivationFacts (b .world .standby .state)
+facts : (b : Both) → Accepted b call.activation → ActivationAccepted (b .world .standby .state) (length (b .world .standby .area))
 unfolding step activationReply
-facts b e = activation-facts (b .world .standby .state) (length (b .world .standby .area)) e
+facts b e = activation-accepted (b .world .standby .state) (length (b .world .standby .area)) e
 
 -- nothing due, nothing to store
 none-due : (u : ℕ) (s : Standby) (slots disk : List ℕ) → s .slots .due ≡ 0 → storeAll u disk (dueList u (s .slots) slots) ≡ disk
 unfolding dueList storeAll
 none-due u s slots disk z = rw z
 
-module _ (g : Settings) (b : Both) (i : Inv g b) (f : ActivationFacts (b .world .standby .state)) where
+module _ (g : Settings) (b : Both) (i : Inv g b) (f : ActivationAccepted (b .world .standby .state) (length (b .world .standby .area))) where
   area-whole : put (b .world .standby .area) 0 (activationRecord (b .world .standby .state .received)) ≡ activationRecord (b .world .standby .state .received)
   area-whole =
       let e = b .world .standby in
@@ -100,8 +82,7 @@ module _ (g : Settings) (b : Both) (i : Inv g b) (f : ActivationFacts (b .world 
       let k = v .standbyKept in
       let t = v .taker in
       let s = e .state in
-      let d = detector-facts (s .detector) (isReceiving (s .mode)) (reached-tests s (k .reached) .detector-ok) in
-      let off : b .plain .activated ≡ false = sym (t .modeIs) ∙ taking-not-active (s .mode) (f .takes) in
+      let off : b .plain .activated ≡ false = sym (t .modeIs) ∙ taking-not-active (s .mode) (f .takingOver) in
       let c = received-is (v .history) in
       record {
         ghost = i .ghost;
@@ -121,16 +102,15 @@ module _ (g : Settings) (b : Both) (i : Inv g b) (f : ActivationFacts (b .world 
             stagedDisk = λ z. absurd (false≢true z);
             stagedProcessor = λ z. absurd (false≢true z);
             activeMemory = λ z. t .memoryIs off ∙ ap (λ (x : Checkpoint). x .memory) (sym c);
-            activeDisk = λ z. sym (none-due (g .u) s (e .stagedBlocks) (e .disk) (f .none)) ∙ t .diskIs off ∙ ap (λ (x : Checkpoint). x .disk) (sym c);
-            settled = λ z. f .none;
+            activeDisk = λ z. sym (none-due (g .u) s (e .stagedBlocks) (e .disk) (f .noneDue)) ∙ t .diskIs off ∙ ap (λ (x : Checkpoint). x .disk) (sym c);
+            settled = λ z. f .noneDue;
             areaIs = ap (λ (l : List ℕ). areaChoice (areaOf l)) area-whole ∙ ap areaChoice (area-activation (s .received) low);
           };
           primaryKept = v .primaryKept;
           standbyKept = record {
             settings = k .settings;
             patience = k .patience;
-            reached = reached-mode s (k .reached) Active
-                (detector-of (s .detector) false (record { t-low = d .t-low; t-high = d .t-high; count-high = d .count-high; below = λ z. absurd (false≢true z) }));
+            reached = activated-reached s (k .reached);
             memory = k .memory;
             disk = k .disk;
             stagedPages = k .stagedPages;

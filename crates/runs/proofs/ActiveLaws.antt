@@ -1,12 +1,10 @@
 -- Once the standby is active it stays so and receives nothing more, from demand 3. Assumes nothing.
 use Prim.Native.Nat.{ℕ}
 use mathlib.Core.Path.{_≡_, refl, sym, ap, _∙_, subst}
-use mathlib.Core.Bool.{true, false≢true}
-use mathlib.Core.Logic.{⊎-elim}
+use mathlib.Core.Bool.{true, true≢false}
 use mathlib.Core.List.{List, [], _∷_, _++_, append-nil}
 use native.Mathlib.Omega.{arith}
 use lib.Seq.{append-snoc}
-use Rattle.lists.proofs.TestLaws.{eq-or-ne, pick-accepted, pick-refused}
 use Rattle.records.specs.declared.Record.{Record}
 use Rattle.settings.specs.declared.Settings.{Settings}
 use Rattle.rules.specs.declared.Mode.{Mode}
@@ -17,25 +15,22 @@ use Rattle.rules.specs.Read.{readReply}
 use Rattle.rules.specs.World.{Processor, Call, Buffers, startNumber}
 use Rattle.rules.specs.World as call
 use Rattle.rules.specs.Step.{step}
+use Rattle.rules.proofs.ReplyLaws.{pick-cases}
 use Rattle.rules.proofs.JudgeLaws.{judged-cases}
 use Rattle.runs.specs.Plain.{Plain, plainAccepted, plainStep}
 use Rattle.runs.specs.Run.{Both, steps, runCall}
 use Rattle.runs.specs.Demand3.{active}
 use Rattle.runs.specs.Corollaries.{pairAfter, ReceivedFixed, AfterStart}
+use Rattle.runs.proofs.ModeLaws.{receiving-not-active}
 use Rattle.runs.proofs.Frame.{Accepted}
 use Rattle.runs.proofs.Corollaries.{whole, after-call}
-
-not-both-modes : (m : Mode) → isActive m ≡ true → isReceiving m ≡ true → ⊥
-not-both-modes Receiving a k = false≢true a
-not-both-modes TakingOver a k = false≢true a
-not-both-modes Active a k = false≢true k
 
 -- an active standby accepts no record
 read-refused : (b : Both) (n : ℕ) (reply : List ℕ) → active (b .world) ≡ true → Accepted b (call.read n reply) → ⊥
 unfolding step readReply
 read-refused b n reply a =
     judged-cases _ _ _ (λ (r : Record). numberOf (answerOf r) ≡ 0 → ⊥) (λ k h e. omega arith)
-    (λ ready z e. not-both-modes (b .world .standby .state .mode) a (ready .receiving))
+    (λ ready z e. true≢false (sym a ∙ receiving-not-active (b .world .standby .state .mode) (ready .receiving)))
 
 -- r and the activation stay
 record Fixed (p q : Plain) : Type 0 where
@@ -66,11 +61,9 @@ unfolding plainStep
 fixed-step u c b a p =
     let o = step (b .world) c .outcome in
     let q = plainAccepted u c (o .value) (b .plain) in
-    ⊎-elim
-    (λ e. subst (Fixed (b .plain)) (sym (pick-accepted (o .number) q (b .plain) e))
-    (fixed-accepted u c (o .value) (b .plain) p (λ n reply is. read-refused b n reply a (subst (Accepted b) is e))))
-    (λ ne. subst (Fixed (b .plain)) (sym (pick-refused (o .number) q (b .plain) ne)) (record { received = refl; activated = p }))
-    (eq-or-ne (o .number) 0)
+    pick-cases (Fixed (b .plain)) (o .number) q (b .plain)
+    (λ e. fixed-accepted u c (o .value) (b .plain) p (λ n reply is. read-refused b n reply a (subst (Accepted b) is e)))
+    (λ ne. record { received = refl; activated = p })
 
 module _ (g : Settings) (processor : Processor) (buffers : Buffers) (started : startNumber g buffers ≡ 0) where
   abbrev after : List Call → Both

@@ -23,52 +23,13 @@ use Rattle.rules.specs.StandbyState.{standbyOk, isReceiving, isActive, memoryLe
 use Rattle.rules.specs.Takeover.{activeMemoryWriteRefusal, activeMemoryWriteReply, activeMemoryWriteMemory, activeDiskWriteRefusal, activeDiskWriteReply, activeDiskWriteDisk}
 use Rattle.rules.specs.World as call
 use Rattle.rules.specs.Step.{atStandby, step}
+use Rattle.rules.proofs.TakeoverLaws.{ActiveMemoryWriteAccepted, active-memory-write-accepted, ActiveDiskWriteAccepted, active-disk-write-accepted}
 use Rattle.runs.specs.Plain.{withStandbyImages, plainAccepted, plainStep}
 use Rattle.runs.specs.Run.{Both, steps, runCall}
 use Rattle.runs.proofs.Invariant.{Inv}
 use Rattle.runs.proofs.KeptLaws.{standby-u, standby-m, standby-d}
+use Rattle.runs.proofs.ModeLaws.{receiving-not-active}
 use Rattle.runs.proofs.Frame.{Accepted, KeepsAccepted}
-
--- ---- what acceptance says
-record MemoryFacts (s : Standby) (page offset n : ℕ) : Type 0 where
-  on : isActive (s .mode) ≡ true
-  below : page < s .settings .m
-  inside : offset + n ≤ s .settings .u
-
-memory-facts : (s : Standby) (memory page offset n : ℕ) → activeMemoryWriteRefusal s memory page offset n ≡ 0 → MemoryFacts s page offset n
-unfolding activeMemoryWriteRefusal
-memory-facts s memory page offset n e =
-    let h = accepted
-    (test outOfRange (standbyOk s && eqb memory (memoryLength s))
-    ∷ test wrongMode (isActive (s .mode))
-    ∷ test noSuchUnit (ltb page (s .settings .m))
-    ∷ test badSize (insidePage (s .settings .u) offset n)
-    ∷ [])
-    refl e in
-    let z = both (leb 1 n) (leb (offset + n) (s .settings .u)) (h .1 .1 .1 .0) in
-    record { on = h .1 .0; below = ltb-true page (s .settings .m) (h .1 .1 .0); inside = leb-true (offset + n) (s .settings .u) (z .1) }
-
-record DiskFacts (s : Standby) (block n : ℕ) : Type 0 where
-  on : isActive (s .mode) ≡ true
-  below : block < s .settings .d
-  whole : n ≡ s .settings .u
-
-disk-facts : (s : Standby) (disk block n : ℕ) → activeDiskWriteRefusal s disk block n ≡ 0 → DiskFacts s block n
-unfolding activeDiskWriteRefusal
-disk-facts s disk block n e =
-    let h = accepted
-    (test outOfRange (standbyOk s && eqb disk (diskLength s))
-    ∷ test wrongMode (isActive (s .mode))
-    ∷ test noSuchUnit (ltb block (s .settings .d))
-    ∷ test badSize (eqb n (s .settings .u))
-    ∷ [])
-    refl e in
-    record { on = h .1 .0; below = ltb-true block (s .settings .d) (h .1 .1 .0); whole = eqb-true n (s .settings .u) (h .1 .1 .1 .0) }
-
-not-receiving : (m : Mode) → isActive m ≡ true → isReceiving m ≡ true → ⊥
-not-receiving Receiving a z = false≢true a
-not-receiving TakingOver a z = false≢true a
-not-receiving Active a z = false≢true z
 
 -- ---- the standby's images and the plain standby's, replaced
 abbrev after : List ℕ → List ℕ → List ℕ → List ℕ → Both → Both
@@ -86,7 +47,7 @@ keep g b memory disk memory′ disk′ on em ed lm ld i =
     let k = v .standbyKept in
     let t = v .taker in
     let is : b .plain .activated ≡ true = sym (t .modeIs) ∙ on in
-    let not = not-receiving (b .world .standby .state .mode) on in
+    let not : isReceiving (b .world .standby .state .mode) ≡ true → ⊥ = λ z. true≢false (sym on ∙ receiving-not-active (b .world .standby .state .mode) z) in
     record {
       ghost = i .ghost;
       holds = record {
@@ -136,9 +97,9 @@ module _ (page offset : ℕ) (bytes : List ℕ) where
   unfolding step activeMemoryWriteReply activeMemoryWriteMemory plainStep plainAccepted
   after-memory u b e = rw (eq-eqb _ _ e)
 
-  facts-memory : (b : Both) → Accepted b (call.activeMemoryWrite page offset bytes) → MemoryFacts (b .world .standby .state) page offset (length bytes)
+  facts-memory : (b : Both) → Accepted b (call.activeMemoryWrite page offset bytes) → ActiveMemoryWriteAccepted (b .world .standby .state) (length (b .world .standby .memory)) page offset (length bytes)
   unfolding step activeMemoryWriteReply
-  facts-memory b e = memory-facts (b .world .standby .state) (length (b .world .standby .memory)) page offset (length bytes) e
+  facts-memory b e = active-memory-write-accepted (b .world .standby .state) (length (b .world .standby .memory)) page offset (length bytes) e
 
   keep-memory : (g : Settings) (b : Both) → Inv g b → isActive (b .world .standby .state .mode) ≡ true → page < g .m → offset + length bytes ≤ g .u → Inv g (afterMemory (g .u) (g .u) b)
   unfolding written
@@ -159,7 +120,7 @@ keep-active-memory-write g page offset bytes b i e =
     let u = standby-u g (b .world .standby) k in
     let m = standby-m g (b .world .standby) k in
     subst (Inv g) (sym (after-memory page offset bytes (g .u) b e ∙ ap (λ (v : ℕ). afterMemory page offset bytes v (g .u) b) u))
-    (keep-memory page offset bytes g b i (f .on) (omega (arith, f .below)) (omega (arith, f .inside)))
+    (keep-memory page offset bytes g b i (f .active) (omega (arith, f .pageBelow)) (omega (arith, f .inside)))
 
 -- ---- disk write
 module _ (block : ℕ) (bytes : List ℕ) where
@@ -173,9 +134,9 @@ module _ (block : ℕ) (bytes : List ℕ) where
   unfolding step activeDiskWriteReply activeDiskWriteDisk plainStep plainAccepted
   after-disk u b e = rw (eq-eqb _ _ e)
 
-  facts-disk : (b : Both) → Accepted b (call.activeDiskWrite block bytes) → DiskFacts (b .world .standby .state) block (length bytes)
+  facts-disk : (b : Both) → Accepted b (call.activeDiskWrite block bytes) → ActiveDiskWriteAccepted (b .world .standby .state) (length (b .world .standby .disk)) block (length bytes)
   unfolding step activeDiskWriteReply
-  facts-disk b e = disk-facts (b .world .standby .state) (length (b .world .standby .disk)) block (length bytes) e
+  facts-disk b e = active-disk-write-accepted (b .world .standby .state) (length (b .world .standby .disk)) block (length bytes) e
 
   keep-disk : (g : Settings) (b : Both) → Inv g b → isActive (b .world .standby .state .mode) ≡ true → block < g .d → length bytes ≡ g .u → Inv g (afterDisk (g .u) (g .u) b)
   keep-disk g b i on below whole =
@@ -194,4 +155,4 @@ keep-active-disk-write g block bytes b i e =
     let u = standby-u g (b .world .standby) k in
     let d = standby-d g (b .world .standby) k in
     subst (Inv g) (sym (after-disk block bytes (g .u) b e ∙ ap (λ (v : ℕ). afterDisk block bytes v (g .u) b) u))
-    (keep-disk block bytes g b i (f .on) (omega (arith, f .below)) (omega (arith, f .whole)))
+    (keep-disk block bytes g b i (f .active) (omega (arith, f .blockBelow)) (omega (arith, f .size)))

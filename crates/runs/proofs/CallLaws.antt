@@ -9,7 +9,8 @@ use Rattle.rules.specs.Packets.{packetReply, takeReply, takeDestination}
 use Rattle.rules.specs.Checkpoint.{checkpointReply}
 use Rattle.rules.specs.Stream.{drainReply, drainDestination, ackJudged, ackReply}
 use Rattle.rules.specs.PrimaryTick.{primaryTickReply}
-use Rattle.rules.specs.Read.{readLent, readReplyBytes}
+use Rattle.rules.specs.Judge.{judged}
+use Rattle.rules.specs.Read.{readLent, readReply, readReplyBytes}
 use Rattle.rules.specs.Flush.{flushReply}
 use Rattle.rules.specs.Takeover.{standbyTickReply, activationReply, activeMemoryWriteReply, activeDiskWriteReply}
 use Rattle.rules.specs.Reached.{PrimaryReached, StandbyReached}
@@ -18,12 +19,12 @@ use Rattle.rules.specs.World as call
 use Rattle.rules.specs.Step.{step}
 use Rattle.rules.proofs.WriteLaws.{memory-write-reached, disk-write-reached}
 use Rattle.rules.proofs.CheckpointLaws.{checkpoint-reached}
-use Rattle.rules.proofs.PacketLaws.{packet-keeps, take-keeps}
-use Rattle.rules.proofs.StreamLaws.{drain-keeps, ack-keeps}
-use Rattle.rules.proofs.PrimaryTickLaws.{tick-keeps}
-use Rattle.rules.proofs.ReadLaws.{read-reached, read-unchanged}
+use Rattle.rules.proofs.PacketLaws.{packet-reached, take-reached}
+use Rattle.rules.proofs.StreamLaws.{drain-reached, ack-reached}
+use Rattle.rules.proofs.PrimaryTickLaws.{primary-tick-reached}
+use Rattle.rules.proofs.ReadLaws.{read-reached, nothing-read}
 use Rattle.rules.proofs.FlushLaws.{flush-reached}
-use Rattle.rules.proofs.TakeoverLaws.{tick-reached, activation-reached, active-memory-write-reached, active-disk-write-reached}
+use Rattle.rules.proofs.TakeoverLaws.{standby-tick-reached, activation-reached, active-memory-write-reached, active-disk-write-reached}
 use Rattle.rules.proofs.ReplyLaws.{answer-refused}
 use Rattle.runs.proofs.Refused.{NotAccepted, refused-world}
 use Rattle.rules.proofs.StartLaws.{started-primary, started-standby}
@@ -36,15 +37,15 @@ pub step-reached : (w : World) (c : Call) → BothReached w → BothReached (ste
 unfolding step
 step-reached w (call.memoryWrite page offset bytes) r = record { primary = memory-write-reached _ _ _ _ _ _ (r .primary); standby = r .standby }
 step-reached w (call.diskWrite block bytes) r = record { primary = disk-write-reached _ _ _ _ _ (r .primary); standby = r .standby }
-step-reached w (call.packet bytes) r = record { primary = packet-keeps _ (r .primary) _ _; standby = r .standby }
+step-reached w (call.packet bytes) r = record { primary = packet-reached _ _ _ (r .primary); standby = r .standby }
 step-reached w (call.checkpoint processor) r = record { primary = checkpoint-reached _ _ _ _ _ (r .primary); standby = r .standby }
-step-reached w (call.drain n destination) r = record { primary = drain-keeps _ (r .primary) _ _ _; standby = r .standby }
-step-reached w (call.ack n) r = record { primary = ack-keeps _ (r .primary) _; standby = r .standby }
-step-reached w (call.take destination) r = record { primary = take-keeps _ (r .primary) _ _; standby = r .standby }
-step-reached w call.primaryTick r = record { primary = tick-keeps _ (r .primary); standby = r .standby }
-step-reached w (call.read n reply) r = record { primary = r .primary; standby = read-reached _ _ _ (r .standby) }
+step-reached w (call.drain n destination) r = record { primary = drain-reached _ _ _ _ (r .primary); standby = r .standby }
+step-reached w (call.ack n) r = record { primary = ack-reached _ _ (r .primary); standby = r .standby }
+step-reached w (call.take destination) r = record { primary = take-reached _ _ _ (r .primary); standby = r .standby }
+step-reached w call.primaryTick r = record { primary = primary-tick-reached _ (r .primary); standby = r .standby }
+step-reached w (call.read n reply) r = record { primary = r .primary; standby = read-reached _ (r .standby) _ _ }
 step-reached w (call.flush n) r = record { primary = r .primary; standby = flush-reached _ _ _ _ (r .standby) }
-step-reached w call.standbyTick r = record { primary = r .primary; standby = tick-reached _ _ (r .standby) }
+step-reached w call.standbyTick r = record { primary = r .primary; standby = standby-tick-reached _ _ (r .standby) }
 step-reached w call.activation r = record { primary = r .primary; standby = activation-reached _ _ (r .standby) }
 step-reached w (call.activeMemoryWrite page offset bytes) r = record { primary = r .primary; standby = active-memory-write-reached _ _ _ _ _ (r .standby) }
 step-reached w (call.activeDiskWrite block bytes) r = record { primary = r .primary; standby = active-disk-write-reached _ _ _ _ (r .standby) }
@@ -82,7 +83,7 @@ pub record AsBefore (w : World) (c : Call) : Type 0 where
   pub lent : LentAsBefore w c
 
 pub refused-as-before : (w : World) (c : Call) → NotAccepted w c → AsBefore w c
-unfolding step memoryWriteReply diskWriteReply packetReply checkpointReply drainReply drainDestination ackReply takeReply takeDestination primaryTickReply flushReply standbyTickReply activationReply activeMemoryWriteReply activeDiskWriteReply
+unfolding step memoryWriteReply diskWriteReply packetReply checkpointReply drainReply drainDestination ackReply takeReply takeDestination primaryTickReply readReply readReplyBytes flushReply standbyTickReply activationReply activeMemoryWriteReply activeDiskWriteReply
 refused-as-before w (call.memoryWrite page offset bytes) ne = record { world = refused-world w (call.memoryWrite page offset bytes) ne; value = rw (ne-eqb _ _ ne); handed = refl; lent = tt }
 refused-as-before w (call.diskWrite block bytes) ne = record { world = refused-world w (call.diskWrite block bytes) ne; value = rw (ne-eqb _ _ ne); handed = refl; lent = tt }
 refused-as-before w (call.packet bytes) ne = record { world = refused-world w (call.packet bytes) ne; value = rw (ne-eqb _ _ ne); handed = refl; lent = tt }
@@ -94,7 +95,7 @@ refused-as-before w call.primaryTick ne = record { world = refused-world w call.
 refused-as-before w (call.read n reply) ne =
     let s = w .standby in
     let l = readLent (s .memory) (s .stagedPages) (s .stagedMarks) (s .stagedBlocks) reply in
-    let f = read-unchanged (s .state) l (take n (w .link)) (s .memory) (s .stagedPages) (s .stagedMarks) (s .stagedBlocks) reply ne in
+    let f = nothing-read (s .state) (take n (w .link)) (s .memory) (s .stagedPages) (s .stagedMarks) (s .stagedBlocks) reply (judged (s .state) l (take n (w .link))) ne in
     record { world = refused-world w (call.read n reply) ne; value = f .value-zero; handed = refl; lent = f .reply-same }
 refused-as-before w (call.flush n) ne = record { world = refused-world w (call.flush n) ne; value = rw (ne-eqb _ _ ne); handed = refl; lent = tt }
 refused-as-before w call.standbyTick ne = record { world = refused-world w call.standbyTick ne; value = rw (ne-eqb _ _ ne); handed = refl; lent = tt }

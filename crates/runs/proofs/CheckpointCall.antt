@@ -7,7 +7,7 @@ use native.Mathlib.Omega.{arith}
 use lib.Dec.{leb, ltb, eqb}
 use lib.ListN.{length, drop, length-append}
 use lib.Seq.{drop-append-le}
-use borrow.Author.Tests.{eq-eqb, ltb-true, leb-true}
+use borrow.Author.Tests.{not-true, eq-eqb}
 use Rattle.lists.specs.Refusal.{test}
 use Rattle.lists.specs.Part.{put}
 use Rattle.lists.proofs.TestLaws.{accepted}
@@ -32,11 +32,13 @@ use Rattle.pages.proofs.DirtyMessagesLaws.{dirty-encode, messages-fit}
 use Rattle.pages.proofs.CleanLaws.{clean-clear}
 use Rattle.rules.specs.declared.Primary.{Primary}
 use Rattle.rules.specs.PrimaryState.{primaryOk, protected, memoryLength, marksLength, withEpoch}
-use Rattle.rules.specs.Checkpoint.{checkpointLength, checkpointBytes, checkpointRefusal, checkpointState, checkpointReply, checkpointDirty, checkpointStream}
+use Rattle.rules.specs.Checkpoint.{dirtyCount, checkpointLength, checkpointBytes, checkpointState, checkpointReply, checkpointDirty, checkpointStream}
+use Rattle.rules.specs.Reached.{PrimaryReached}
 use Rattle.rules.specs.World.{Processor}
 use Rattle.rules.specs.World as call
 use Rattle.rules.specs.Step.{atPrimary, step}
-use Rattle.rules.proofs.PrimaryReachedLaws.{reached-facts, reached-epoch}
+use Rattle.rules.proofs.PrimaryFacts.{primary-facts}
+use Rattle.rules.proofs.CheckpointLaws.{CheckpointRoom, checkpoint-accepted, checkpoint-state-reached, length-checkpoint}
 use Rattle.runs.specs.Plain.{Checkpoint, withCheckpoint, plainAccepted, plainStep}
 use Rattle.runs.specs.Run.{Both, steps, runCall}
 use Rattle.runs.proofs.Effects.{effects, effects-append, Epoch, closed, checkpointsAfter, lastAfter, checkpoints-more, last-more, All, all-append, Before, Readable}
@@ -48,30 +50,10 @@ use Rattle.runs.proofs.DirtyEffects.{effects-dirty, dirty-before}
 use Rattle.runs.proofs.KeptLaws.{primary-settings}
 use Rattle.runs.proofs.Frame.{Accepted, KeepsAccepted}
 
--- ---- what acceptance says, with the settings x
-record Facts (p : Primary) (dirty : List ℕ) (x : PrimarySettings) : Type 0 where
-  protects : protected p ≡ true
-  room : p .waiting + checkpointLength (x .u) (countMarks dirty (x .m)) ≤ x .l
-  below : p .epoch < mostEpoch
+abbrev Facts : Both → Type 0
+Facts b = let p = b .world .primary in CheckpointRoom (p .state) (length (p .memory)) (length (p .dirty)) (length (p .stream)) (dirtyCount (p .state) (p .dirty))
 
-checkpoint-facts : (p : Primary) (memory length′ stream : ℕ) (dirty : List ℕ) → checkpointRefusal p memory length′ stream (countMarks dirty (p .settings .m)) ≡ 0 → Facts p dirty (p .settings)
-unfolding checkpointRefusal
-checkpoint-facts p memory length′ stream dirty e =
-    let pages = countMarks dirty (p .settings .m) in
-    let h = accepted
-    (test outOfRange (primaryOk p && eqb memory (memoryLength p) && eqb length′ (marksLength p) && eqb stream (p .settings .l))
-    ∷ test wrongMode (protected p)
-    ∷ test streamFull (leb (p .waiting + checkpointLength (p .settings .u) pages) (p .settings .l))
-    ∷ test lastEpoch (ltb (p .epoch) mostEpoch)
-    ∷ [])
-    refl e in
-    record {
-      protects = h .1 .0;
-      room = leb-true (p .waiting + checkpointLength (p .settings .u) pages) (p .settings .l) (h .1 .1 .0);
-      below = ltb-true (p .epoch) mostEpoch (h .1 .1 .1 .0);
-    }
-
--- ---- the pair after it
+-- ---- the pair after it; x is the primary's settings
 module _ (processor : Processor) where
   -- the bytes appended
   abbrev bytesOf : Both → PrimarySettings → List ℕ
@@ -102,11 +84,11 @@ module _ (processor : Processor) where
   unfolding step checkpointReply checkpointState checkpointDirty checkpointStream checkpointBytes plainStep plainAccepted
   after-is u b e = rw (eq-eqb _ _ e)
 
-  facts : (b : Both) → Accepted b (call.checkpoint processor) → Facts (b .world .primary .state) (b .world .primary .dirty) (b .world .primary .state .settings)
+  facts : (b : Both) → Accepted b (call.checkpoint processor) → Facts b
   unfolding step checkpointReply
-  facts b e = let p = b .world .primary in checkpoint-facts (p .state) (length (p .memory)) (length (p .dirty)) (length (p .stream)) (p .dirty) e
+  facts b e = let p = b .world .primary in checkpoint-accepted (p .state) (length (p .memory)) (length (p .dirty)) (length (p .stream)) (dirtyCount (p .state) (p .dirty)) e
 
-  module _ (g : Settings) (b : Both) (i : Inv g b) (f : Facts (b .world .primary .state) (b .world .primary .dirty) (ofPrimary g)) where
+  module _ (g : Settings) (b : Both) (i : Inv g b) (f : Facts b) where
     abbrev epoch : ℕ
     epoch = b .world .primary .state .epoch
 
@@ -130,11 +112,7 @@ module _ (processor : Processor) where
     last = lastAfter (g .u) (i .ghost .base) (i .ghost .ahead)
 
     alone : b .world .primary .state .alone ≡ false
-    alone = go (b .world .primary .state .alone) (f .protects)
-      where
-        go : (x : Bool) → not x ≡ true → x ≡ false
-        go true e = sym e
-        go false e = refl
+    alone = not-true _ (f .protects)
 
     -- "the dirty pages give the next checkpoint's memory"
     new-is : closed (g .u) last shut ≡ new b
@@ -159,20 +137,35 @@ module _ (processor : Processor) where
         ∙ ap₂ _++_ (encodeAll-append dirties (st ∷ []) ∙ ap₂ _++_ (dirty-encode (p .memory) (p .dirty) (g .u) epoch (g .m)) (append-nil (encode st))) (append-nil (encode commit))
         ∙ append-assoc (dirtyRecords (p .memory) (p .dirty) (g .u) epoch (g .m)) (encode st) (encode commit)
 
+    -- in start's settings: their length, the room, and the state
     long : length (bytesOf b (ofPrimary g)) ≡ checkpointLength (g .u) count
-    unfolding checkpointLength recordLength bodyLength
+    unfolding checkpointBytes
     long =
         let p = b .world .primary in
-        simp (length-append, length-dirty (p .memory) (p .dirty) (g .u) epoch (g .m) (i .holds .primaryKept .memory), length-state, length-commit) (omega (arith, processor .size))
+        subst (λ (x : PrimarySettings). length (bytesOf b x) ≡ checkpointLength (x .u) (countMarks (p .dirty) (x .m))) (i .holds .primaryKept .settings)
+        (length-checkpoint (p .state) (p .memory) (p .dirty) (processor .bytes) (f .memory-is) (processor .size))
+
+    room : b .world .primary .state .waiting + checkpointLength (g .u) count ≤ g .l
+    room =
+        let p = b .world .primary in
+        subst (λ (x : PrimarySettings). p .state .waiting + checkpointLength (x .u) (countMarks (p .dirty) (x .m)) ≤ x .l) (i .holds .primaryKept .settings) (f .room)
+
+    reached : PrimaryReached (withEpoch (b .world .primary .state) (b .world .primary .state .epoch + 1) (b .world .primary .state .waiting + checkpointLength (g .u) count))
+    unfolding checkpointState
+    reached =
+        let p = b .world .primary in
+        let k = i .holds .primaryKept in
+        subst (λ (x : PrimarySettings). PrimaryReached (withEpoch (p .state) (p .state .epoch + 1) (p .state .waiting + checkpointLength (x .u) (countMarks (p .dirty) (x .m))))) (k .settings)
+        (checkpoint-state-reached (p .state) (length (p .memory)) (length (p .dirty)) (length (p .stream)) (dirtyCount (p .state) (p .dirty)) f (k .reached))
 
     readable : All (Readable (g .u)) (closing ++ (commit ∷ []))
     readable =
         let p = b .world .primary in
         let k = i .holds .primaryKept in
         let s = primary-settings g p k in
-        let low : epoch < 2 ^ 32 = omega (arith, f .below) in
+        let low : epoch < 2 ^ 32 = omega (arith, f .next) in
         let high : count ≤ g .m = count-le (p .dirty) (g .m) in
-        let blocks = reached-facts (p .state) (k .reached) .blocks in
+        let blocks = primary-facts (p .state) (f .ok) .blocks in
         let bs = ap (λ (x : PrimarySettings). x .b) (k .settings) in
         all-append (Readable (g .u)) closing (commit ∷ [])
         (all-append (Readable (g .u)) dirties (message.state epoch (processor .bytes) ∷ [])
@@ -187,7 +180,7 @@ module _ (processor : Processor) where
         (all-append Before dirties (message.state epoch (processor .bytes) ∷ []) (dirty-before (p .memory) (p .dirty) (g .u) epoch (g .m)) (refl, tt))
 
     waits : b .world .primary .state .waiting ≤ length (b .world .primary .stream)
-    waits = omega (arith, f .room, i .holds .primaryKept .stream)
+    waits = omega (arith, room, i .holds .primaryKept .stream)
 
     link : Link (g .u) (i .ghost .ahead ++ (shut ∷ [])) [] (i .ghost .consumed) (i .ghost .pending ++ (closing ++ (commit ∷ []))) (b .world .link)
         (put (b .world .primary .stream) (b .world .primary .state .waiting) (bytesOf b (ofPrimary g))) (i .ghost .lost)
@@ -221,7 +214,7 @@ module _ (processor : Processor) where
                   ∙ ap (λ (l : List Checkpoint). h .base ∷ l)
                   (ap (λ (c : Checkpoint). checkpointsAfter (g .u) (h .base) (h .ahead) ++ (c ∷ [])) (sym new-is) ∙ sym (checkpoints-more (g .u) (h .base) (h .ahead) shut));
               count = simp length-append (omega (arith, v .history .count));
-              high = omega (arith, f .below);
+              high = omega (arith, f .next);
             };
             link = link;
             images = subst (λ (c : Checkpoint). Images (g .u) (g .m) (p .memory) (cleared (p .dirty) (g .m)) (p .disk) (b .plain .memory) (b .plain .disk) (p .state .alone) c) (sym now-is)
@@ -245,12 +238,12 @@ module _ (processor : Processor) where
             primaryKept = record {
               settings = k .settings;
               patience = k .patience;
-              reached = reached-epoch (p .state) (k .reached) (p .state .waiting + checkpointLength (g .u) count) (omega (arith, f .room, ap (λ (x : PrimarySettings). x .l) (k .settings)));
+              reached = reached;
               memory = k .memory;
               disk = k .disk;
               dirty = length-cleared (p .dirty) (g .m) ∙ k .dirty;
               held = k .held;
-              stream = length-put (p .stream) (p .state .waiting) (bytesOf b (ofPrimary g)) (omega (arith, long, f .room, k .stream)) ∙ k .stream;
+              stream = length-put (p .stream) (p .state .waiting) (bytesOf b (ofPrimary g)) (omega (arith, long, room, k .stream)) ∙ k .stream;
             };
             standbyKept = v .standbyKept;
           };
@@ -258,6 +251,4 @@ module _ (processor : Processor) where
 
 pub keep-checkpoint : (g : Settings) (processor : Processor) → KeepsAccepted g (call.checkpoint processor)
 keep-checkpoint g processor b i e =
-    let s = i .holds .primaryKept .settings in
-    let p = b .world .primary in
-    subst (Inv g) (sym (after-is processor (g .u) b e ∙ ap (after processor b) s)) (keep processor g b i (subst (Facts (p .state) (p .dirty)) s (facts processor b e)))
+    subst (Inv g) (sym (after-is processor (g .u) b e ∙ ap (after processor b) (i .holds .primaryKept .settings))) (keep processor g b i (facts processor b e))

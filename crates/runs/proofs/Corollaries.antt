@@ -18,7 +18,7 @@ use Rattle.runs.specs.Cut.{countedCalls}
 use Rattle.runs.specs.Demand3.{active, CallRight, TakesRight, Holds, WholeRun}
 use Rattle.runs.specs.Corollaries.{IsCheckpoint, pairAfter, PacketSaved, AcknowledgedReceived, AcknowledgedKept, OneCheckpoint, PrimaryDiskUntilActivation, AfterStart}
 use Rattle.runs.proofs.CutLaws.{noCut, counted-uncut}
-use Rattle.runs.proofs.PlainLaws.{run-append, Later, nested-one, run-later, run-nested, received-nested, FirstOf, first-below, first-same}
+use Rattle.runs.proofs.PlainLaws.{run-append, Later, nested-one, run-later, run-nested, received-nested, FirstOf, first-below, first-same, activation-plain}
 use Rattle.runs.proofs.Frame.{Accepted}
 use Rattle.runs.proofs.Proved.{demand-3}
 
@@ -28,20 +28,10 @@ call-at : (κ : Steps) (g : Settings) (xs : List Call) (c : Call) (ys : List Cal
 call-at κ g [] c ys b h = h .0
 call-at κ g (x ∷ xs) c ys b h = call-at κ g xs c ys (runCall κ (g .u) b x) (h .1)
 
--- ---- what the plain pair does with an accepted ACK and an accepted activation
+-- what the plain pair does with an accepted ACK
 ack-plain : (u : ℕ) (n : ℕ) (b : Both) → Accepted b (call.ack n) → runCall steps u b (call.ack n) .plain .a ≡ step (b .world) (call.ack n) .outcome .value
 unfolding plainStep plainAccepted
 ack-plain u n b e = rw (eq-eqb _ _ e)
-
-record Activated (p q : Plain) : Type 0 where
-  activated : q .activated ≡ true
-  memory : q .standbyMemory ≡ receivedCheckpoint p .memory
-  disk : q .standbyDisk ≡ receivedCheckpoint p .disk
-  checkpoint : receivedCheckpoint q ≡ receivedCheckpoint p
-
-activation-plain : (u : ℕ) (b : Both) → Accepted b call.activation → Activated (b .plain) (runCall steps u b call.activation .plain)
-unfolding plainStep plainAccepted
-activation-plain u b e = rw (eq-eqb _ _ e) (record { activated = refl; memory = refl; disk = refl; checkpoint = refl })
 
 module _ (g : Settings) (processor : Processor) (buffers : Buffers) (started : startNumber g buffers ≡ 0) where
   -- demand 3 of a list, with no cut

@@ -1,4 +1,4 @@
--- All calls count where neither end is cut. Assumes nothing.
+-- All calls count where ncond-same end is cut. Assumes nothing.
 use mathlib.Core.Path.{_≡_, refl, ap, ap₂, _∙_}
 use mathlib.Core.Bool.{Bool, true, false, cond}
 use mathlib.Core.List.{List, [], _∷_, _++_}
@@ -8,9 +8,9 @@ use Rattle.runs.specs.Cut.{uncut, Cut, isPrimarys, countedOf, cutAfter, 
 abbrev pub noCut : Cut
 noCut = record { primary = uncut; standby = uncut }
 
-either : {A : Type 0} (b : Bool) (x : A) → cond b x x ≡ x
-either true x = refl
-either false x = refl
+cond-same : {A : Type 0} (b : Bool) (x : A) → cond b x x ≡ x
+cond-same true x = refl
+cond-same false x = refl
 
 after-uncut : (b : Bool) → _≡_ {A = Cut} (record { primary = cond b uncut uncut; standby = cond b uncut uncut }) noCut
 after-uncut true = refl
@@ -19,4 +19,4 @@ after-uncut false = refl
 pub counted-uncut : (cs : List Call) → countedCalls noCut cs ≡ cs
 counted-uncut [] = refl
 counted-uncut (c ∷ cs) =
-    ap₂ _++_ (either (isPrimarys c) (c ∷ [])) (ap (λ (k : Cut). countedCalls k cs) (after-uncut (isPrimarys c)) ∙ counted-uncut cs)
+    ap₂ _++_ (cond-same (isPrimarys c) (c ∷ [])) (ap (λ (k : Cut). countedCalls k cs) (after-uncut (isPrimarys c)) ∙ counted-uncut cs)

@@ -27,7 +27,7 @@ use Rattle.rules.specs.PrimaryState.{primaryOk, diskLength, withBlocks}
 use Rattle.rules.specs.PrimaryWrites.{diskWriteRefusal, diskWriteState, diskWriteReply, diskWriteDisk, diskWriteStream}
 use Rattle.rules.specs.World as call
 use Rattle.rules.specs.Step.{atPrimary, step}
-use Rattle.rules.proofs.PrimaryReachedLaws.{reached-facts, reached-blocks}
+use Rattle.rules.proofs.WriteLaws.{DiskWriteRoom, disk-write-accepted, appended-reached}
 use Rattle.runs.specs.Plain.{Checkpoint, withImages, plainAccepted, plainStep}
 use Rattle.runs.specs.Run.{Both, steps, runCall}
 use Rattle.runs.proofs.Effects.{effects, effects-append, lastAfter, all-append, Before}
@@ -36,36 +36,10 @@ use Rattle.runs.proofs.LinkLaws.{sent-more, readable-before, link-appen
 use Rattle.runs.proofs.KeptLaws.{primary-u, primary-d, primary-settings}
 use Rattle.runs.proofs.Frame.{Accepted, KeepsAccepted}
 
--- ---- what acceptance says
-record Facts (p : Primary) (block n : ℕ) : Type 0 where
-  below : block < p .settings .d
-  whole : n ≡ p .settings .u
-  allowed : p .alone ≡ false → p .blocks < p .settings .b
-  room : p .alone ≡ false → p .waiting + recordLength (p .settings .u) BLOCK ≤ p .settings .l
-
-or-right : (a b : Bool) → (a || b) ≡ true → a ≡ false → b ≡ true
-or-right true b e f = absurd (true≢false f)
-or-right false b e f = e
-
-disk-write-facts : (p : Primary) (disk stream block n : ℕ) → diskWriteRefusal p disk stream block n ≡ 0 → Facts p block n
-unfolding diskWriteRefusal
-disk-write-facts p disk stream block n e =
-    let h = accepted
-    (test outOfRange (primaryOk p && eqb disk (diskLength p) && eqb stream (p .settings .l))
-    ∷ test noSuchUnit (ltb block (p .settings .d))
-    ∷ test badSize (eqb n (p .settings .u))
-    ∷ test allowanceUsed (p .alone || ltb (p .blocks) (p .settings .b))
-    ∷ test streamFull (p .alone || leb (p .waiting + recordLength (p .settings .u) BLOCK) (p .settings .l))
-    ∷ [])
-    refl e in
-    record {
-      below = ltb-true block (p .settings .d) (h .1 .0);
-      whole = eqb-true n (p .settings .u) (h .1 .1 .0);
-      allowed = λ z. ltb-true (p .blocks) (p .settings .b) (or-right (p .alone) _ (h .1 .1 .1 .0) z);
-      room = λ z. leb-true (p .waiting + recordLength (p .settings .u) BLOCK) (p .settings .l) (or-right (p .alone) _ (h .1 .1 .1 .1 .0) z);
-    }
-
 module _ (block : ℕ) (bytes : List ℕ) where
+  abbrev Facts : Both → Type 0
+  Facts b = let p = b .world .primary in DiskWriteRoom (p .state) (length (p .disk)) (length (p .stream)) block (length bytes)
+
   -- the pair after it; v is the primary's U and u start's
   abbrev after : Primary → List ℕ → ℕ → ℕ → Both → Both
   after s stream v u b =
@@ -87,9 +61,9 @@ module _ (block : ℕ) (bytes : List ℕ) where
   unfolding step diskWriteReply diskWriteState diskWriteDisk diskWriteStream plainStep plainAccepted
   after-is u b a z e = rw (eq-eqb _ _ e) (ap (λ (x : Bool). after (cond x (b .world .primary .state) (stateAfter b)) (cond x (b .world .primary .stream) (streamAfter b)) (b .world .primary .state .settings .u) u b) z)
 
-  facts : (b : Both) → Accepted b (call.diskWrite block bytes) → Facts (b .world .primary .state) block (length bytes)
+  facts : (b : Both) → Accepted b (call.diskWrite block bytes) → Facts b
   unfolding step diskWriteReply
-  facts b e = let p = b .world .primary in disk-write-facts (p .state) (length (p .disk)) (length (p .stream)) block (length bytes) e
+  facts b e = let p = b .world .primary in disk-write-accepted (p .state) (length (p .disk)) (length (p .stream)) block (length bytes) e
 
   module _ (g : Settings) (b : Both) (i : Inv g b) (below : block < g .d) (whole : length bytes ≡ g .u) where
     long : length (withPage (g .u) (b .world .primary .disk) block bytes) ≡ g .d * g .u
@@ -149,15 +123,14 @@ module _ (block : ℕ) (bytes : List ℕ) where
         ap length (append-nil (encode added)) ∙ length-message (g .u) added fits
         ∙ ap (λ (u : ℕ). recordLength u BLOCK) (sym (primary-u g (b .world .primary) (i .holds .primaryKept)))
 
-    keep-protected : (al : b .world .primary .state .alone ≡ false) → b .world .primary .state .blocks < b .world .primary .state .settings .b
-        → b .world .primary .state .waiting + recordLength (b .world .primary .state .settings .u) BLOCK ≤ b .world .primary .state .settings .l
-        → Inv g (after (stateAfter b) (streamAfter b) (g .u) (g .u) b)
-    keep-protected al allowed room =
+    keep-protected : b .world .primary .state .alone ≡ false → Facts b → Inv g (after (stateAfter b) (streamAfter b) (g .u) (g .u) b)
+    keep-protected al f =
         let p = b .world .primary in
         let v = i .holds in
         let k = v .primaryKept in
         let h = i .ghost in
         let l = ap (λ (x : PrimarySettings). x .l) (k .settings) in
+        let room = f .room al in
         let opened′ = h .opened ++ (added ∷ []) in
         let last = lastAfter (g .u) (h .base) (h .ahead) in
         let now = effects (g .u) last (h .opened) in
@@ -188,7 +161,7 @@ module _ (block : ℕ) (bytes : List ℕ) where
             primaryKept = record {
               settings = k .settings;
               patience = k .patience;
-              reached = reached-blocks (p .state) (k .reached) (p .state .blocks + 1) (p .state .waiting + recordLength (p .state .settings .u) BLOCK) (omega arith) room;
+              reached = appended-reached (p .state) (length (p .disk)) (length (p .stream)) block (length bytes) f al (k .reached);
               memory = k .memory;
               disk = long;
               dirty = k .dirty;
@@ -207,11 +180,11 @@ keep-disk-write g block bytes b i e =
     let u = primary-u g p k in
     let d = primary-d g p k in
     let below : block < g .d = omega (arith, f .below) in
-    let whole : length bytes ≡ g .u = f .whole ∙ u in
+    let whole : length bytes ≡ g .u = f .size ∙ u in
     ⊎-elim
     (λ (a : p .state .alone ≡ true).
     subst (Inv g) (sym (after-is block bytes (g .u) b true a e ∙ ap (λ (v : ℕ). after block bytes (p .state) (p .stream) v (g .u) b) u)) (keep-alone block bytes g b i below whole a))
     (λ (a : p .state .alone ≡ false).
     subst (Inv g) (sym (after-is block bytes (g .u) b false a e ∙ ap (λ (v : ℕ). after block bytes (stateAfter block bytes b) (streamAfter block bytes b) v (g .u) b) u))
-    (keep-protected block bytes g b i below whole a (f .allowed a) (f .room a)))
+    (keep-protected block bytes g b i below whole a f))
     (by-test (p .state .alone))

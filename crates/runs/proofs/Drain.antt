@@ -14,8 +14,8 @@ use Rattle.rules.specs.PrimaryState.{withWaiting}
 use Rattle.rules.specs.Stream.{drainCount, drainReply, drainStream, drainDestination}
 use Rattle.rules.specs.World as call
 use Rattle.rules.specs.Step.{step}
-use Rattle.rules.proofs.StreamLaws.{DrainFacts, drain-accepted}
-use Rattle.rules.proofs.PrimaryReachedLaws.{reached-facts, reached-waiting}
+use Rattle.rules.proofs.StreamLaws.{DrainFacts, drain-accepted, drain-state-reached}
+use Rattle.rules.proofs.PrimaryFacts.{primary-facts}
 use Rattle.runs.specs.Plain.{plainAccepted, plainStep}
 use Rattle.runs.specs.Run.{Both, steps, runCall}
 use Rattle.runs.proofs.Invariant.{Inv}
@@ -63,7 +63,7 @@ module _ (n : ℕ) (destination : List ℕ) where
 
   module _ (g : Settings) (b : Both) (i : Inv g b) (f : DrainFacts (b .world .primary .state) (length (b .world .primary .stream))) where
     waits : b .world .primary .state .waiting ≤ length (b .world .primary .stream)
-    waits = omega (arith, reached-facts (b .world .primary .state) (i .holds .primaryKept .reached) .waiting, f .stream-is)
+    waits = omega (arith, primary-facts (b .world .primary .state) (f .ok) .waiting, f .stream-is)
 
     -- what reaches the link
     given : take (countOf b) (put destination 0 (take (countOf b) (b .world .primary .stream))) ≡ take (countOf b) (take (b .world .primary .state .waiting) (b .world .primary .stream))
@@ -106,7 +106,7 @@ module _ (n : ℕ) (destination : List ℕ) where
             primaryKept = record {
               settings = k .settings;
               patience = k .patience;
-              reached = reached-waiting (p .state) (k .reached) (waiting - c) (omega (arith, reached-facts (p .state) (k .reached) .waiting));
+              reached = drain-state-reached (p .state) n (length destination) (k .reached);
               memory = k .memory;
               disk = k .disk;
               dirty = k .dirty;

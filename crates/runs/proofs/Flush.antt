@@ -12,7 +12,7 @@ use Rattle.staging.specs.Slot.{flushCount, flushed, flushedBytes, stored}
 use Rattle.staging.specs.SlotList.{Staged, slotList, dueList, storeAll}
 use Rattle.staging.specs.Fits.{FlushFits}
 use Rattle.staging.proofs.SlotLaws.{array-flushed, slots-flushed}
-use Rattle.staging.proofs.StoreLaws.{length-stored, store-of-flush}
+use Rattle.staging.proofs.StoreLaws.{stored-none, length-stored, store-of-flush}
 use Rattle.staging.proofs.ListLaws.{take-due-list, length-bytes, list-flushed, due-flushed}
 use Rattle.staging.proofs.FlushLaws.{store-all-append, stored-slots}
 use Rattle.settings.proofs.RangeLaws.{standby-settings-facts}
@@ -22,7 +22,7 @@ use Rattle.rules.specs.Flush.{flushReply, flushStagedBlocks, flushDisk}
 use Rattle.rules.specs.World.{StandbyEnd}
 use Rattle.rules.specs.World as call
 use Rattle.rules.specs.Step.{atStandby, step}
-use Rattle.rules.proofs.StandbyReachedLaws.{reached-tests, reached-slots}
+use Rattle.rules.proofs.FlushLaws.{flushed-reached}
 use Rattle.runs.specs.Plain.{plainAccepted, plainStep}
 use Rattle.runs.specs.Run.{Both, steps, runCall}
 use Rattle.runs.proofs.Invariant.{StandbyKept, Inv}
@@ -93,19 +93,7 @@ module _ (n : ℕ) where
 
     -- nothing is due: nothing is stored
     none-stored : slots .due ≡ 0 → stored (g .u) (slots .numbers) (b .world .standby .stagedBlocks) (b .world .standby .disk) (flushCount slots n) ≡ b .world .standby .disk
-    unfolding stored
-    none-stored z = let c : flushCount slots n ≡ 0 = omega arith in rw c
-
-    reached : StandbyReached (withSlots (b .world .standby .state) (flushed slots (flushCount slots n)) (b .world .standby .state .blocks))
-    unfolding flushed
-    reached =
-        let s = b .world .standby .state in
-        let r = i .holds .standbyKept .reached in
-        let f = reached-tests s r in
-        let few = standby-settings-facts (s .settings) (f .settings-ok) .slots .s-high in
-        let c = flushCount slots n in
-        reached-slots s r (flushed slots c) (s .blocks) (slots-flushed slots (s .settings .s) (s .settings .d) (r .numbers) few c (f .slots-ok) (omega arith))
-        (array-flushed slots (r .numbers) c (omega (arith, fits .due-high)) (fits .few)) (f .blocks-high) (omega (arith, r .notDue, fits .due-high))
+    none-stored z = let c : flushCount slots n ≡ 0 = omega arith in rw c (stored-none (g .u) (slots .numbers) (b .world .standby .stagedBlocks) (b .world .standby .disk))
 
     keep : Inv g (after (g .u) b)
     unfolding flushed
@@ -142,7 +130,7 @@ module _ (n : ℕ) where
             standbyKept = record {
               settings = k .settings;
               patience = k .patience;
-              reached = reached;
+              reached = flushed-reached s c (omega arith) (k .reached);
               memory = k .memory;
               disk = length-stored (g .u) (slots .numbers) (e .stagedBlocks) (e .disk) c (store-of-flush (g .u) slots n (length (e .stagedBlocks)) (length (e .disk)) fits) ∙ k .disk;
               stagedPages = k .stagedPages;

@@ -1,6 +1,6 @@
 -- What the kept settings and lengths of the two ends give, in start's settings. Assumes nothing.
 use Prim.Native.Nat.{ℕ, _*_, _≤_, _<_}
-use mathlib.Core.Path.{_≡_, ap, subst}
+use mathlib.Core.Path.{_≡_, sym, ap, _∙_, subst}
 use mathlib.Core.Bool.{true}
 use native.Mathlib.Omega.{arith}
 use lib.ListN.{length}
@@ -9,13 +9,15 @@ use Rattle.settings.specs.declared.Settings.{Settings}
 use Rattle.settings.specs.declared.PrimarySettings.{PrimarySettings}
 use Rattle.settings.specs.declared.StandbySettings.{StandbySettings}
 use Rattle.settings.specs.Range.{ofPrimary, ofStandby, mostSlots}
-use Rattle.settings.proofs.RangeLaws.{SharedFacts, shared-unit, PrimarySettingsFacts, StandbySettingsFacts, standby-settings-facts}
+use Rattle.settings.proofs.RangeLaws.{SharedFacts, shared-unit, PrimarySettingsFacts, StandbySettingsFacts}
+use Rattle.marks.specs.Mark.{wordsFor}
 use Rattle.staging.specs.Slot.{slotsOk}
 use Rattle.staging.specs.Fits.{FlushFits}
 use Rattle.staging.proofs.StoreLaws.{flush-fits}
+use Rattle.rules.specs.StandbyState.{memoryLength, diskLength, slotsLength, marksLength}
 use Rattle.rules.specs.World.{PrimaryEnd, StandbyEnd}
-use Rattle.rules.proofs.PrimaryReachedLaws.{reached-facts}
-use Rattle.rules.proofs.StandbyReachedLaws.{reached-tests}
+use Rattle.rules.proofs.PrimaryFacts.{primary-facts}
+use Rattle.rules.proofs.StandbyFacts.{standby-tests, standby-facts}
 use Rattle.runs.proofs.Invariant.{PrimaryKept, StandbyKept}
 
 module _ (g : Settings) (p : PrimaryEnd) (k : PrimaryKept g p) where
@@ -29,7 +31,7 @@ module _ (g : Settings) (p : PrimaryEnd) (k : PrimaryKept g p) where
   primary-d = ap (λ (x : PrimarySettings). x .d) (k .settings)
 
   pub primary-settings : PrimarySettingsFacts (ofPrimary g)
-  primary-settings = subst PrimarySettingsFacts (k .settings) (reached-facts (p .state) (k .reached) .settings)
+  primary-settings = subst PrimarySettingsFacts (k .settings) (primary-facts (p .state) (k .reached .inRange) .settings)
 
 module _ (g : Settings) (s : StandbyEnd) (k : StandbyKept g s) where
   pub standby-u : s .state .settings .u ≡ g .u
@@ -41,14 +43,30 @@ module _ (g : Settings) (s : StandbyEnd) (k : StandbyKept g s) where
   pub standby-d : s .state .settings .d ≡ g .d
   standby-d = ap (λ (x : StandbySettings). x .d) (k .settings)
 
+  -- "Lent lengths are exact", in the state's own settings
+  pub lent-memory : length (s .memory) ≡ memoryLength (s .state)
+  lent-memory = k .memory ∙ ap (λ (x : StandbySettings). x .m * x .u) (sym (k .settings))
+
+  pub lent-disk : length (s .disk) ≡ diskLength (s .state)
+  lent-disk = k .disk ∙ ap (λ (x : StandbySettings). x .d * x .u) (sym (k .settings))
+
+  pub lent-pages : length (s .stagedPages) ≡ memoryLength (s .state)
+  lent-pages = k .stagedPages ∙ ap (λ (x : StandbySettings). x .m * x .u) (sym (k .settings))
+
+  pub lent-marks : length (s .stagedMarks) ≡ marksLength (s .state)
+  lent-marks = k .stagedMarks ∙ ap (λ (x : StandbySettings). wordsFor (x .m)) (sym (k .settings))
+
+  pub lent-blocks : length (s .stagedBlocks) ≡ slotsLength (s .state)
+  lent-blocks = k .stagedBlocks ∙ ap (λ (x : StandbySettings). x .s * x .u) (sym (k .settings))
+
   pub standby-settings : StandbySettingsFacts (ofStandby g)
-  standby-settings = subst StandbySettingsFacts (k .settings) (standby-settings-facts (s .state .settings) (reached-tests (s .state) (k .reached) .settings-ok))
+  standby-settings = subst StandbySettingsFacts (k .settings) (standby-facts (s .state) (k .reached .inRange) .settings)
 
   pub standby-unit : unitOk (g .u) ≡ true
   standby-unit = shared-unit (standby-settings .shared)
 
   pub slots-in-range : slotsOk (s .state .slots) (g .s) (g .d) ≡ true
-  slots-in-range = subst (λ (x : StandbySettings). slotsOk (s .state .slots) (x .s) (x .d) ≡ true) (k .settings) (reached-tests (s .state) (k .reached) .slots-ok)
+  slots-in-range = subst (λ (x : StandbySettings). slotsOk (s .state .slots) (x .s) (x .d) ≡ true) (k .settings) (standby-tests (s .state) (k .reached .inRange) .slots-ok)
 
   pub slots-few : g .s ≤ mostSlots
   slots-few = standby-settings .slots .s-high

@@ -1,4 +1,4 @@
--- Runs that compute, and the refutations of wrong programs.
+-- Runs that compute, the refutations of wrong programs, the proof of demand 3, and what follows from it.
 pub mod Compute
 pub mod CutLaws
 pub mod Small
@@ -13,6 +13,8 @@ pub mod Effects
 pub mod Invariant
 pub mod Conclusions
 pub mod Frame
+pub mod ModeLaws
+pub mod KeptLaws
 pub mod MemoryWrite
 pub mod PacketsLaws
 pub mod Packet
@@ -22,7 +24,6 @@ pub mod PrimaryTick
 pub mod Reading
 pub mod Ack
 pub mod StandbyTick
-pub mod KeptLaws
 pub mod Flush
 pub mod Activation
 pub mod ActiveWrites

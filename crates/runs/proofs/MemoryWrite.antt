@@ -24,27 +24,12 @@ use Rattle.rules.specs.PrimaryState.{primaryOk, memoryLength, marksLength}
 use Rattle.rules.specs.PrimaryWrites.{memoryWriteRefusal, memoryWriteReply, memoryWriteMemory, memoryWriteDirty}
 use Rattle.rules.specs.World as call
 use Rattle.rules.specs.Step.{atPrimary, step}
+use Rattle.rules.proofs.WriteLaws.{MemoryWriteRoom, memory-write-accepted}
 use Rattle.runs.specs.Plain.{withImages, plainAccepted, plainStep}
 use Rattle.runs.specs.Run.{Both, steps, runCall}
 use Rattle.runs.proofs.Invariant.{Inv}
+use Rattle.runs.proofs.KeptLaws.{primary-u, primary-m}
 use Rattle.runs.proofs.Frame.{Accepted, KeepsAccepted}
-
--- what acceptance says
-pub record MemoryWriteFacts (p : Primary) (page offset n : ℕ) : Type 0 where
-  pub below : page < p .settings .m
-  pub inside : offset + n ≤ p .settings .u
-
-memory-write-facts : (p : Primary) (memory dirty page offset n : ℕ) → memoryWriteRefusal p memory dirty page offset n ≡ 0 → MemoryWriteFacts p page offset n
-unfolding memoryWriteRefusal
-memory-write-facts p memory dirty page offset n e =
-    let h = accepted
-    (test outOfRange (primaryOk p && eqb memory (memoryLength p) && eqb dirty (marksLength p))
-    ∷ test noSuchUnit (ltb page (p .settings .m))
-    ∷ test badSize (insidePage (p .settings .u) offset n)
-    ∷ [])
-    refl e in
-    let s = both (leb 1 n) (leb (offset + n) (p .settings .u)) (h .1 .1 .0) in
-    record { below = ltb-true page (p .settings .m) (h .1 .0); inside = leb-true (offset + n) (p .settings .u) (s .1) }
 
 module _ (page offset : ℕ) (bytes : List ℕ) where
   -- the pair after it; v is the primary's U and u start's
@@ -68,9 +53,11 @@ module _ (page offset : ℕ) (bytes : List ℕ) where
   unfolding step memoryWriteReply memoryWriteMemory memoryWriteDirty plainStep plainAccepted
   after-is u b e = rw (eq-eqb _ _ e)
 
-  facts : (b : Both) → Accepted b (call.memoryWrite page offset bytes) → MemoryWriteFacts (b .world .primary .state) page offset (length bytes)
+  facts : (b : Both) → Accepted b (call.memoryWrite page offset bytes) →
+      let p = b .world .primary in
+      MemoryWriteRoom (p .state) (length (p .memory)) (length (p .dirty)) page offset (length bytes)
   unfolding step memoryWriteReply
-  facts b e = let p = b .world .primary in memory-write-facts (p .state) (length (p .memory)) (length (p .dirty)) page offset (length bytes) e
+  facts b e = let p = b .world .primary in memory-write-accepted (p .state) (length (p .memory)) (length (p .dirty)) page offset (length bytes) e
 
   module _ (g : Settings) (b : Both) (i : Inv g b) (below : page < g .m) (inside : offset + length bytes ≤ g .u) where
     fits : page * g .u + offset + length bytes ≤ length (b .world .primary .memory)
@@ -116,9 +103,9 @@ module _ (page offset : ℕ) (bytes : List ℕ) where
 
 pub keep-memory-write : (g : Settings) (page offset : ℕ) (bytes : List ℕ) → KeepsAccepted g (call.memoryWrite page offset bytes)
 keep-memory-write g page offset bytes b i e =
-    let s = i .holds .primaryKept .settings in
+    let k = i .holds .primaryKept in
     let f = facts page offset bytes b e in
-    let m : b .world .primary .state .settings .m ≡ g .m = ap (λ (x : PrimarySettings). x .m) s in
-    let u : b .world .primary .state .settings .u ≡ g .u = ap (λ (x : PrimarySettings). x .u) s in
+    let m = primary-m g (b .world .primary) k in
+    let u = primary-u g (b .world .primary) k in
     subst (Inv g) (sym (after-is page offset bytes (g .u) b e ∙ ap (λ (v : ℕ). after page offset bytes v (g .u) b) u))
     (keep page offset bytes g b i (omega (arith, f .below)) (omega (arith, f .inside)))

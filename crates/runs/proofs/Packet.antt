@@ -15,8 +15,8 @@ use Rattle.rules.specs.PrimaryState.{withQueue}
 use Rattle.rules.specs.Packets.{packetReply, packetHeld}
 use Rattle.rules.specs.World as call
 use Rattle.rules.specs.Step.{atPrimary, step}
-use Rattle.rules.proofs.PacketLaws.{PacketFacts, packet-accepted}
-use Rattle.rules.proofs.PrimaryReachedLaws.{reached-facts, reached-queue}
+use Rattle.rules.proofs.PacketLaws.{PacketFacts, packet-accepted, packet-state-reached}
+use Rattle.rules.proofs.PrimaryFacts.{primary-facts}
 use Rattle.runs.specs.Plain.{withPackets, plainAccepted, plainStep}
 use Rattle.runs.specs.Run.{Both, steps, runCall}
 use Rattle.runs.proofs.Invariant.{Packets, Inv}
@@ -57,7 +57,7 @@ module _ (bytes : List ℕ) where
       let epoch = p .state .epoch in
       let n = length bytes in
       let array = k .reached .packets in
-      let ok = reached-facts (p .state) (k .reached) .queue in
+      let ok = primary-facts (p .state) (f .ok) .queue in
       let space = space-of queue q n (f .count-low) (f .bytes-fit) in
       let h : Held = record { epoch = epoch; bytes = bytes } in
       record {
@@ -74,9 +74,7 @@ module _ (bytes : List ℕ) where
           primaryKept = record {
             settings = k .settings;
             patience = k .patience;
-            reached = reached-queue (p .state) (k .reached) (added queue epoch n)
-                (queue-added queue array epoch n q ok space (within-of 1 mostPacketBytes n (f .length-low) (f .length-high)))
-                (array-added queue array epoch n);
+            reached = packet-state-reached (p .state) (length (p .held)) n f (k .reached);
             memory = k .memory;
             disk = k .disk;
             dirty = k .dirty;

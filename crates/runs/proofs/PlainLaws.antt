@@ -5,14 +5,17 @@ use mathlib.Core.Bool.{Bool, true, false, cond}
 use mathlib.Core.List.{List, [], _∷_, _++_, append-assoc, append-nil}
 use native.Mathlib.Omega.{arith}
 use lib.Dec.{eqb}
+use borrow.Author.Tests.{eq-eqb}
 use lib.ListN.{length, getD, length-append, List·getD-append}
 use Rattle.records.specs.Kind.{COMMIT}
 use Rattle.rules.specs.World.{Call}
 use Rattle.rules.specs.World as call
 use Rattle.rules.specs.Step.{Outcome}
+use Rattle.rules.proofs.ReplyLaws.{pick-cases}
 use Rattle.runs.specs.Plain.{Checkpoint, Plain, noCheckpoint, receivedCheckpoint, plainAccepted, plainStep}
 use Rattle.runs.specs.Run.{Both, Steps, steps, runCall, run}
 use Rattle.runs.proofs.PacketsLaws.{checkpoint-cases}
+use Rattle.runs.proofs.Frame.{Accepted}
 
 -- ---- a list of calls and another after it
 pub run-append : (κ : Steps) (u : ℕ) (xs ys : List Call) (b : Both) → run κ u b (xs ++ ys) ≡ run κ u (run κ u b xs) ys
@@ -110,14 +113,10 @@ kept-accepted u call.activation value p = same p _ (omega arith) refl refl
 kept-accepted u (call.activeMemoryWrite page offset bytes) value p = same p _ (omega arith) refl refl
 kept-accepted u (call.activeDiskWrite block bytes) value p = same p _ (omega arith) refl refl
 
-either : (P : Plain → Type 0) (b : Bool) (x y : Plain) → P x → P y → P (cond b x y)
-either P true x y f h = f
-either P false x y f h = h
-
 kept-step : (u : ℕ) (c : Call) (o : Outcome) (p : Plain) → Kept p (plainStep u c o p)
 unfolding plainStep
 kept-step u c o p =
-    either (Kept p) (eqb (o .number) 0) (plainAccepted u c (o .value) p) p (kept-accepted u c (o .value) p) (same p p (omega arith) refl refl)
+    pick-cases (Kept p) (o .number) (plainAccepted u c (o .value) p) p (λ e. kept-accepted u c (o .value) p) (λ e. same p p (omega arith) refl refl)
 
 -- ---- every list of calls
 pub run-later : (u : ℕ) (cs : List Call) (b : Both) → Later (b .plain) (run steps u b cs .plain)
@@ -144,3 +143,14 @@ first-below n xs ys f l = omega (arith, length-append xs (f .0), ap length (f .1
 
 pub first-same : (n : ℕ) (xs ys : List (List ℕ)) → FirstOf xs ys → n < length xs → getD xs n [] ≡ getD ys n []
 first-same n xs ys f l = sym (List·getD-append xs (f .0) [] n l) ∙ ap (λ (z : List (List ℕ)). getD z n []) (f .1)
+
+-- ---- an accepted activation: the plain standby has checkpoint r
+pub record Activated (p q : Plain) : Type 0 where
+  pub activated : q .activated ≡ true
+  pub memory : q .standbyMemory ≡ receivedCheckpoint p .memory
+  pub disk : q .standbyDisk ≡ receivedCheckpoint p .disk
+  pub checkpoint : receivedCheckpoint q ≡ receivedCheckpoint p
+
+pub activation-plain : (u : ℕ) (b : Both) → Accepted b call.activation → Activated (b .plain) (runCall steps u b call.activation .plain)
+unfolding plainStep plainAccepted
+activation-plain u b e = rw (eq-eqb _ _ e) (record { activated = refl; memory = refl; disk = refl; checkpoint = refl })

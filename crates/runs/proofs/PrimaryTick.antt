@@ -7,8 +7,8 @@ use mathlib.Core.List.{List, [], _∷_, _++_}
 use native.Mathlib.Omega.{arith}
 use lib.Dec.{leb, ltb, eqb}
 use lib.ListN.{length, take}
-use borrow.Author.Tests.{eqb-true, eq-eqb, ne-eqb, lt-ltb, le-ltb, le-leb, lt-leb, leb-true, leb-false}
-use Rattle.lists.proofs.TestLaws.{by-test, eq-or-ne}
+use borrow.Author.Tests.{not-false, eqb-true, eq-eqb, ne-eqb, lt-ltb, le-ltb, le-leb, lt-leb, leb-true}
+use Rattle.lists.proofs.TestLaws.{by-test, lt-or-ge, eq-or-ne}
 use Rattle.settings.specs.declared.Settings.{Settings}
 use Rattle.detector.specs.declared.Detector.{Detector}
 use Rattle.detector.specs.Tick.{withCount, expired, ticked}
@@ -16,10 +16,11 @@ use Rattle.detector.proofs.TickLaws.{ticked-counts, ticked-rests}
 use Rattle.rules.specs.declared.Primary.{Primary}
 use Rattle.rules.specs.PrimaryState.{withDetector}
 use Rattle.rules.specs.PrimaryTick.{outstanding, aloneAt, primaryTickState, primaryTickReply}
+use Rattle.rules.specs.Reached.{PrimaryReached}
 use Rattle.rules.specs.World as call
 use Rattle.rules.specs.Step.{atPrimary, step}
-use Rattle.rules.proofs.DetectorFacts.{DetectorFacts}
-use Rattle.rules.proofs.PrimaryReachedLaws.{reached-facts, reached-detector}
+use Rattle.rules.proofs.PrimaryFacts.{primary-facts}
+use Rattle.rules.proofs.PrimaryTickLaws.{tick-alone, tick-rests, tick-counts, tick-leaves, tick-state-reached}
 use Rattle.runs.specs.Plain.{Plain, unacknowledged, withCounts, plainAccepted, plainStep}
 use Rattle.runs.specs.Run.{Both, steps, runCall}
 use Rattle.runs.proofs.Invariant.{Ghost, Inv}
@@ -39,21 +40,6 @@ after-is : (u : ℕ) (b : Both) → Accepted b call.primaryTick
     → runCall steps u b call.primaryTick ≡ after (primaryTickState (b .world .primary .state)) (cond (unacknowledged (b .plain)) (b .plain .count + 1) (b .plain .count)) b
 unfolding step primaryTickReply plainStep plainAccepted
 after-is u b e = rw (eq-eqb _ _ e)
-
-not-true : (x : Bool) → not x ≡ false → x ≡ true
-not-true true e = refl
-not-true false e = absurd (true≢false e)
-
--- ---- the state, by what the tick finds
-module _ (p : Primary) where
-  state-alone : p .alone ≡ true → primaryTickState p ≡ p
-  unfolding primaryTickState
-  state-alone a = rw a
-
-  state-watched : (d : Detector) (full : Bool) → p .alone ≡ false → ticked (p .detector) (outstanding p) ≡ d → expired d ≡ full
-      → primaryTickState p ≡ cond full (withDetector p d true 0) (withDetector p d false (p .waiting))
-  unfolding primaryTickState
-  state-watched d full a e f = rw (a, e, f)
 
 module _ (g : Settings) (b : Both) (i : Inv g b) where
   abbrev state : Primary
@@ -81,8 +67,7 @@ module _ (g : Settings) (b : Both) (i : Inv g b) where
       (aloneIs : alone ≡ leb (g .t) n)
       (countIs : alone ≡ false → c ≡ n)
       (quiet : b .plain .a + 1 ≡ length (b .plain .checkpoints) → n ≡ 0)
-      (low : waiting ≤ b .world .primary .state .settings .l)
-      (facts : DetectorFacts (withCount (b .world .primary .state .detector) c) (not alone)) where
+      (reached : PrimaryReached (withDetector (b .world .primary .state) (withCount (b .world .primary .state .detector) c) alone waiting)) where
     keep-by : Inv g (after (withDetector (b .world .primary .state) (withCount (b .world .primary .state .detector) c) alone waiting) n b)
     keep-by =
         let p = b .world .primary in
@@ -122,7 +107,7 @@ module _ (g : Settings) (b : Both) (i : Inv g b) where
             primaryKept = record {
               settings = k .settings;
               patience = k .patience;
-              reached = reached-detector (p .state) (k .reached) (withCount (p .state .detector) c) alone waiting facts low;
+              reached = reached;
               memory = k .memory;
               disk = k .disk;
               dirty = k .dirty;
@@ -137,83 +122,68 @@ module _ (g : Settings) (b : Both) (i : Inv g b) where
   keep-alone : state .alone ≡ true → (n : ℕ) → b .plain .count ≤ n → (b .plain .a + 1 ≡ length (b .plain .checkpoints) → n ≡ 0) → Inv g (after (b .world .primary .state) n b)
   keep-alone a n l q =
       let p = b .world .primary .state in
-      let f = reached-facts p (i .holds .primaryKept .reached) in
-      let d = i .holds .detector in
-      let t : g .t ≤ b .plain .count = leb-true (g .t) (b .plain .count) (sym (d .aloneIs) ∙ a) in
+      let t : g .t ≤ b .plain .count = leb-true (g .t) (b .plain .count) (sym (i .holds .detector .aloneIs) ∙ a) in
       keep-by (p .detector .count) n (p .waiting) (p .alone) (i .ghost .lost) refl
-      (λ z. absurd (true≢false (sym a ∙ z))) (λ z. z) (a ∙ sym (le-leb (g .t) n (omega arith))) (λ z. absurd (true≢false (sym a ∙ z))) q (f .waiting) (f .detector)
+      (λ z. absurd (true≢false (sym a ∙ z))) (λ z. z) (a ∙ sym (le-leb (g .t) n (omega arith))) (λ z. absurd (true≢false (sym a ∙ z))) q (i .holds .primaryKept .reached)
 
   -- protected, and still so after the tick
   keep-watched : state .alone ≡ false → (n : ℕ) → n < g .t → (b .plain .a + 1 ≡ length (b .plain .checkpoints) → n ≡ 0)
+      → PrimaryReached (withDetector (b .world .primary .state) (withCount (b .world .primary .state .detector) n) false (b .world .primary .state .waiting))
       → Inv g (after (withDetector (b .world .primary .state) (withCount (b .world .primary .state .detector) n) false (b .world .primary .state .waiting)) n b)
-  keep-watched a n l q =
-      let p = b .world .primary .state in
-      let f = reached-facts p (i .holds .primaryKept .reached) in
-      let t = i .holds .primaryKept .patience in
-      keep-by n n (p .waiting) false (i .ghost .lost) refl
-      (λ z. i .holds .link .lossless a) (λ z. a) (sym (lt-leb (g .t) n l)) (λ z. refl) q (f .waiting)
-      (record { t-low = f .detector .t-low; t-high = f .detector .t-high; count-high = omega arith; below = λ z. omega arith })
+  keep-watched a n l q r =
+      keep-by n n (b .world .primary .state .waiting) false (i .ghost .lost) refl (λ z. i .holds .link .lossless a) (λ z. a) (sym (lt-leb (g .t) n l)) (λ z. refl) q r
 
   -- the tick at which the primary becomes alone: what waits is lost
-  keep-full : state .alone ≡ false → (n : ℕ) → n ≡ g .t → (b .plain .a + 1 ≡ length (b .plain .checkpoints) → n ≡ 0)
+  keep-full : (n : ℕ) → n ≡ g .t → (b .plain .a + 1 ≡ length (b .plain .checkpoints) → n ≡ 0)
+      → PrimaryReached (withDetector (b .world .primary .state) (withCount (b .world .primary .state .detector) n) true 0)
       → Inv g (after (withDetector (b .world .primary .state) (withCount (b .world .primary .state .detector) n) true 0) n b)
-  keep-full a n l q =
-      let p = b .world .primary .state in
-      let f = reached-facts p (i .holds .primaryKept .reached) in
-      let t = i .holds .primaryKept .patience in
-      keep-by n n 0 true (take (p .waiting) (b .world .primary .stream) ++ i .ghost .lost) refl
-      (λ z. absurd (true≢false z)) (λ z. absurd (true≢false z)) (sym (le-leb (g .t) n (omega arith))) (λ z. absurd (true≢false z)) q (omega arith)
-      (record { t-low = f .detector .t-low; t-high = f .detector .t-high; count-high = omega arith; below = λ z. absurd (true≢false (sym z)) })
-
-  -- while protected the count is below T
-  fresh : state .alone ≡ false → expired (b .world .primary .state .detector) ≡ false
-  fresh a =
-      let p = b .world .primary .state in
-      lt-leb (p .detector .patience) (p .detector .count) (reached-facts p (i .holds .primaryKept .reached) .detector .below (ap not a))
+  keep-full n l q r =
+      keep-by n n 0 true (take (b .world .primary .state .waiting) (b .world .primary .stream) ++ i .ghost .lost) refl
+      (λ z. absurd (true≢false z)) (λ z. absurd (true≢false z)) (sym (le-leb (g .t) n (omega arith))) (λ z. absurd (true≢false z)) q r
 
   -- ---- the three, by what the tick finds
   abbrev Kept : Primary → ℕ → Type 0
   Kept s n = Inv g (after s n b)
 
+  by-state : (s : Primary) (n : ℕ) → primaryTickState (b .world .primary .state) ≡ s → (PrimaryReached s → Kept s n) → Kept (primaryTickState (b .world .primary .state)) n
+  by-state s n is f =
+      let p = b .world .primary .state in
+      subst (λ (x : Primary). Kept x n) (sym is) (f (subst PrimaryReached is (tick-state-reached p (i .holds .primaryKept .reached))))
+
   by-alone : state .alone ≡ true → (o : Bool) → unacknowledged (b .plain) ≡ o → Kept (primaryTickState (b .world .primary .state)) (cond o (b .plain .count + 1) (b .plain .count))
   by-alone a true e =
-      subst (λ (s : Primary). Kept s (b .plain .count + 1)) (sym (state-alone (b .world .primary .state) a))
-      (keep-alone a (b .plain .count + 1) (omega arith) (λ z. absurd (true≢false (sym e ∙ ap not (eq-eqb _ _ z)))))
+      by-state state (b .plain .count + 1) (tick-alone state a) (λ r. keep-alone a (b .plain .count + 1) (omega arith) (λ z. absurd (true≢false (sym e ∙ ap not (eq-eqb _ _ z)))))
   by-alone a false e =
-      subst (λ (s : Primary). Kept s (b .plain .count)) (sym (state-alone (b .world .primary .state) a)) (keep-alone a (b .plain .count) (omega arith) (i .holds .detector .quiet))
+      by-state state (b .plain .count) (tick-alone state a) (λ r. keep-alone a (b .plain .count) (omega arith) (i .holds .detector .quiet))
 
   by-watched : state .alone ≡ false → (o : Bool) → unacknowledged (b .plain) ≡ o → Kept (primaryTickState (b .world .primary .state)) (cond o (b .plain .count + 1) (b .plain .count))
   by-watched a true e =
       let p = b .world .primary .state in
       let n = b .plain .count + 1 in
       let same : p .detector .count + 1 ≡ n = ap (λ (x : ℕ). x + 1) (i .holds .detector .countIs a) in
-      let counts : ticked (p .detector) (outstanding p) ≡ withCount (p .detector) (p .detector .count + 1)
-      = ap (ticked (p .detector)) (outstanding-is ∙ e) ∙ ticked-counts (p .detector) (fresh a) in
+      let o : outstanding p ≡ true = outstanding-is ∙ e in
       let t = i .holds .primaryKept .patience in
       let quiet : b .plain .a + 1 ≡ length (b .plain .checkpoints) → n ≡ 0 = λ z. absurd (true≢false (sym e ∙ ap not (eq-eqb _ _ z))) in
-      let low : p .detector .count < p .detector .patience = leb-false (p .detector .patience) (p .detector .count) (fresh a) in
+      let low : p .detector .count < p .detector .patience = primary-facts p (i .holds .primaryKept .reached .inRange) .detector .below (ap not a) in
       ⊎-elim
-      (λ (f : leb (p .detector .patience) (p .detector .count + 1) ≡ true).
-      let high = leb-true (p .detector .patience) (p .detector .count + 1) f in
-      subst (λ (s : Primary). Kept s n)
-      (sym (state-watched p (withCount (p .detector) (p .detector .count + 1)) true a counts f ∙ ap (λ (x : ℕ). withDetector p (withCount (p .detector) x) true 0) same))
-      (keep-full a n (omega arith) quiet))
-      (λ (f : leb (p .detector .patience) (p .detector .count + 1) ≡ false).
-      let less = leb-false (p .detector .patience) (p .detector .count + 1) f in
-      subst (λ (s : Primary). Kept s n)
-      (sym (state-watched p (withCount (p .detector) (p .detector .count + 1)) false a counts f ∙ ap (λ (x : ℕ). withDetector p (withCount (p .detector) x) false (p .waiting)) same))
+      (λ (h : p .detector .count + 1 < p .detector .patience).
+      by-state (withDetector p (withCount (p .detector) n) false (p .waiting)) n
+      (tick-counts p a low o h ∙ ap (λ (x : ℕ). withDetector p (withCount (p .detector) x) false (p .waiting)) same)
       (keep-watched a n (omega arith) quiet))
-      (by-test (leb (p .detector .patience) (p .detector .count + 1)))
+      (λ (h : p .detector .patience ≤ p .detector .count + 1).
+      by-state (withDetector p (withCount (p .detector) n) true 0) n
+      (tick-leaves p a low o h ∙ ap (λ (x : ℕ). withDetector p (withCount (p .detector) x) true 0) same)
+      (keep-full n (omega arith) quiet))
+      (lt-or-ge (p .detector .count + 1) (p .detector .patience))
   by-watched a false e =
       let p = b .world .primary .state in
       let n = b .plain .count in
       let t = i .holds .primaryKept .patience in
-      let low = reached-facts p (i .holds .primaryKept .reached) .detector .t-low in
-      let none : n ≡ 0 = i .holds .detector .quiet (eqb-true (b .plain .a + 1) (length (b .plain .checkpoints)) (not-true _ e)) in
-      let rests : ticked (p .detector) (outstanding p) ≡ withCount (p .detector) 0 = ap (ticked (p .detector)) (outstanding-is ∙ e) ∙ ticked-rests (p .detector) (fresh a) in
-      subst (λ (s : Primary). Kept s n)
-      (sym (state-watched p (withCount (p .detector) 0) false a rests (lt-leb (p .detector .patience) 0 low) ∙ ap (λ (x : ℕ). withDetector p (withCount (p .detector) x) false (p .waiting)) (sym none)))
-      (keep-watched a n (omega arith) (λ z. none))
+      let d = primary-facts p (i .holds .primaryKept .reached .inRange) .detector in
+      let none : n ≡ 0 = i .holds .detector .quiet (eqb-true (b .plain .a + 1) (length (b .plain .checkpoints)) (not-false _ e)) in
+      by-state (withDetector p (withCount (p .detector) n) false (p .waiting)) n
+      (tick-rests p a (d .below (ap not a)) (outstanding-is ∙ e) ∙ ap (λ (x : ℕ). withDetector p (withCount (p .detector) x) false (p .waiting)) (sym none))
+      (keep-watched a n (omega (arith, d .t-low)) (λ z. none))
 
 pub keep-primary-tick : (g : Settings) → KeepsAccepted g call.primaryTick
 keep-primary-tick g b i e =

@@ -37,7 +37,7 @@ use Rattle.runs.specs.Plain.{plainAccepted, plainStep}
 use Rattle.runs.specs.Run.{Both, steps, runCall}
 use Rattle.runs.proofs.Effects.{All, Readable}
 use Rattle.runs.proofs.Invariant.{Inv}
-use Rattle.runs.proofs.KeptLaws.{standby-u, standby-unit}
+use Rattle.runs.proofs.KeptLaws.{standby-u, standby-unit, lent-memory, lent-pages, lent-marks, lent-blocks}
 use Rattle.runs.proofs.RecordSteps.{readSeen, readBy, read-step}
 use Rattle.runs.proofs.Reading.{Reading, none, one, read-next}
 use Rattle.runs.proofs.ReadStaged.{Next, stagedAfter, pageEnd, blockEnd, stateEnd, keep-page, keep-block, keep-state}
@@ -110,14 +110,8 @@ module _ (g : Settings) (b : Both) (i : Inv g b) (n : ℕ) (reply : List ℕ) wh
   lent =
       let e = b .world .standby in
       let k = i .holds .standbyKept in
-      let back = sym (k .settings) in
       read-lent-of (e .state) (readLent (e .memory) (e .stagedPages) (e .stagedMarks) (e .stagedBlocks) reply)
-      (record {
-        memory-is = k .memory ∙ ap (λ (y : StandbySettings). y .m * y .u) back;
-        pages-is = k .stagedPages ∙ ap (λ (y : StandbySettings). y .m * y .u) back;
-        marks-is = k .stagedMarks ∙ ap (λ (y : StandbySettings). wordsFor (y .m)) back;
-        blocks-is = k .stagedBlocks ∙ ap (λ (y : StandbySettings). y .s * y .u) back;
-      })
+      (record { memory-is = lent-memory g e k; pages-is = lent-pages g e k; marks-is = lent-marks g e k; blocks-is = lent-blocks g e k })
 
   same-u : u ≡ g .u
   same-u = standby-u g (b .world .standby) (i .holds .standbyKept)

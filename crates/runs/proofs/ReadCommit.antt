@@ -29,14 +29,14 @@ use Rattle.rules.specs.Read.{sealedState, installedState}
 use Rattle.rules.specs.World.{StandbyEnd}
 use Rattle.rules.proofs.DetectorFacts.{detector-facts, detector-of}
 use Rattle.rules.proofs.JudgeLaws.{CommitTests}
-use Rattle.rules.proofs.StandbyReachedLaws.{reached-tests, reached-no-records, reached-received, reached-detector}
+use Rattle.rules.proofs.ReadLaws.{commit-reached}
 use Rattle.runs.specs.Plain.{Checkpoint, withCounts}
 use Rattle.runs.specs.Run.{Both}
 use Rattle.runs.proofs.Effects.{effects, Epoch, closed, checkpointsAfter, sent, All, Before, Readable}
 use Rattle.runs.proofs.Invariant.{Ghost, Rising, InvAt, Inv}
 use Rattle.runs.proofs.KeptLaws.{slots-fit}
 use Rattle.runs.proofs.StagedPages.{installed-none}
-use Rattle.runs.proofs.StandbyTick.{not-active}
+use Rattle.runs.proofs.ModeLaws.{receiving-not-active}
 
 -- ---- what precedes the first COMMIT of a list is settled by the list
 record Split (xs ys a b : List Message) : Type 0 where
@@ -92,17 +92,6 @@ commitAfter b epoch x used ack =
       plain = withCounts (b .plain) (b .plain .r + 1) (b .plain .a) (b .plain .count);
     }
 
-commit-reached : (s : Standby) (epoch : ℕ) → StandbyReached s → StandbyReached (commitState s epoch)
-unfolding allDue
-commit-reached s epoch r =
-    let f = reached-tests s r in
-    let d = detector-facts (s .detector) (isReceiving (s .mode)) (f .detector-ok) in
-    let slots = allDue (s .slots) in
-    let r₁ = reached-no-records s r slots (slots-all-due (s .slots) (s .settings .s) (s .settings .d) (f .slots-ok)) (ap length (numbers-all-due (s .slots)) ∙ r .numbers) refl in
-    let r₂ = reached-received (withNoRecords (withSlots s slots 0)) r₁ epoch (s .pending) (r .stagedProcessor) in
-    reached-detector (withReceived (withNoRecords (withSlots s slots 0)) epoch slots (s .pending)) r₂ (reset (s .detector))
-    (detector-of (reset (s .detector)) (isReceiving (s .mode)) (record { t-low = d .t-low; t-high = d .t-high; count-high = omega arith; below = λ z. omega (arith, d .t-low) }))
-
 module _ (g : Settings) (b : Both) (epoch p n : ℕ) (xs : List Message) (on : isReceiving (b .world .standby .state .mode) ≡ true)
     (seen : b .world .standby .state .seen ≡ true) (next : epoch ≡ b .world .standby .state .received + 1) where
   abbrev x : Message
@@ -126,7 +115,7 @@ module _ (g : Settings) (b : Both) (epoch p n : ℕ) (xs : List Message) (on : i
       (ap (λ (l : List Message). consumed ++ l) (sym first) ∙ v .link .records) in
       let now = effects (g .u) base (c .records) in
       let same : effects (g .u) base consumed ≡ now = ap (effects (g .u) base) (split .front) in
-      let off : b .plain .activated ≡ false = sym (t .modeIs) ∙ not-active (s .mode) on in
+      let off : b .plain .activated ≡ false = sym (t .modeIs) ∙ receiving-not-active (s .mode) on in
       let readable : All (Readable (g .u)) (message.commit epoch p n ∷ xs) = subst (All (Readable (g .u))) first (v .link .readable) in
       let few = slots-fit g e k .few in
       let is-next : epoch ≡ r + 1 = next ∙ ap (λ (m : ℕ). m + 1) (t .receivedIs) in
@@ -179,7 +168,7 @@ module _ (g : Settings) (b : Both) (epoch p n : ℕ) (xs : List Message) (on : i
           standbyKept = record {
             settings = k .settings;
             patience = k .patience;
-            reached = commit-reached s epoch (k .reached);
+            reached = commit-reached s (k .reached) epoch;
             memory = long;
             disk = k .disk;
             stagedPages = k .stagedPages;

@@ -26,12 +26,12 @@ use Rattle.rules.specs.StandbyState.{isReceiving, withPages, withSlots, withSta
 use Rattle.rules.specs.Reached.{StandbyReached}
 use Rattle.rules.specs.World.{StandbyEnd}
 use Rattle.rules.proofs.JudgeLaws.{PageTests, BlockTests, StateTests}
-use Rattle.rules.proofs.StandbyReachedLaws.{reached-tests, reached-pages, reached-slots, reached-state}
+use Rattle.rules.proofs.ReadLaws.{page-reached, block-reached, state-reached}
 use Rattle.runs.specs.Plain.{Checkpoint}
 use Rattle.runs.specs.Run.{Both}
 use Rattle.runs.proofs.Effects.{effect, effects, effects-append, All, all-append, Before, Readable}
 use Rattle.runs.proofs.Invariant.{Taker, StandbyKept, Inv}
-use Rattle.runs.proofs.KeptLaws.{standby-u, standby-m, standby-d, slots-fit}
+use Rattle.runs.proofs.KeptLaws.{standby-m, slots-few, slots-fit}
 use Rattle.runs.proofs.StagedPages.{installed-more}
 
 -- the standby after a record that is staged
@@ -136,7 +136,7 @@ module _ (g : Settings) (b : Both) (i : Inv g b) where
       (record {
         settings = k .settings;
         patience = k .patience;
-        reached = reached-pages s (k .reached) (s .pages + 1) (p + 1) (omega (arith, k .reached .pagesBelow, f .rising)) (omega (arith, f .page-low));
+        reached = page-reached s (k .reached) epoch p f;
         memory = k .memory;
         disk = k .disk;
         stagedPages = length-with-page (g .u) p (e .stagedPages) bs whole inside ∙ k .stagedPages;
@@ -161,10 +161,7 @@ module _ (g : Settings) (b : Both) (i : Inv g b) where
       let t = i .holds .taker in
       let k = i .holds .standbyKept in
       let r = k .reached in
-      let tests = reached-tests s r in
-      let few = standby-settings-facts (s .settings) (tests .settings-ok) .slots .s-high in
-      let slots = slots-tests (s .slots) (s .settings .s) (s .settings .d) (tests .slots-ok) in
-      let fits = slots-fit g e k in
+      let few = slots-few g e k in
       let whole : length bs ≡ g .u = n .fits .2 in
       let sizes = ap (λ (y : StandbySettings). y .s) (k .settings) in
       let free : s .slots .staged < g .s = omega (arith, f .slot-free) in
@@ -178,7 +175,7 @@ module _ (g : Settings) (b : Both) (i : Inv g b) where
         modeIs = t .modeIs;
         processorIs = t .processorIs;
         memoryIs = t .memoryIs;
-        diskIs = λ z. ap (storeAll (g .u) (e .disk)) (due-with-block (g .u) (s .slots) (e .stagedBlocks) (r .numbers) m bs less whole room (slots .due-high)) ∙ t .diskIs z;
+        diskIs = λ z. ap (storeAll (g .u) (e .disk)) (due-with-block (g .u) (s .slots) (e .stagedBlocks) (r .numbers) m bs less whole room (slots-fit g e k .due-high)) ∙ t .diskIs z;
         stagedMemory = λ z. t .stagedMemory z ∙ memory-done x xs n;
         stagedDisk = λ z.
             ap (storeAll (g .u) (e .disk)) more
@@ -194,9 +191,7 @@ module _ (g : Settings) (b : Both) (i : Inv g b) where
       (record {
         settings = k .settings;
         patience = k .patience;
-        reached = reached-slots s r (withBlock (s .slots) m) (s .blocks + 1)
-            (slots-with-block (s .slots) (s .settings .s) (s .settings .d) (r .numbers) few m (tests .slots-ok) (f .slot-free) (f .block-low))
-            (array-with-block (s .slots) (r .numbers) m) (omega (arith, f .allowed)) (omega (arith, r .notDue, slots .due-high));
+        reached = block-reached s r epoch m f;
         memory = k .memory;
         disk = k .disk;
         stagedPages = k .stagedPages;
@@ -235,7 +230,7 @@ module _ (g : Settings) (b : Both) (i : Inv g b) where
       (record {
         settings = k .settings;
         patience = k .patience;
-        reached = reached-state s (k .reached) bs (n .fits .1);
+        reached = state-reached s (k .reached) bs (n .fits .1);
         memory = k .memory;
         disk = k .disk;
         stagedPages = k .stagedPages;

@@ -26,12 +26,12 @@ use Rattle.rules.specs.Takeover.{dropped, takesOver, standbyTickState, standbyT
 use Rattle.rules.specs.World.{StandbyEnd}
 use Rattle.rules.specs.World as call
 use Rattle.rules.specs.Step.{atStandby, step}
-use Rattle.rules.proofs.DetectorFacts.{DetectorFacts, detector-facts, detector-of}
-use Rattle.rules.proofs.StandbyFacts.{standby-tests}
-use Rattle.rules.proofs.StandbyReachedLaws.{reached-tests, reached-no-records, reached-detector, reached-mode}
+use Rattle.rules.proofs.TakeoverLaws.{tick-rests, tick-counts, tick-takes-over, ticked-reached}
 use Rattle.runs.specs.Plain.{plainAccepted, plainStep}
 use Rattle.runs.specs.Run.{Both, steps, runCall}
 use Rattle.runs.proofs.Invariant.{Inv}
+use Rattle.runs.proofs.ModeLaws.{receiving-not-active}
+use Rattle.runs.proofs.KeptLaws.{slots-fit}
 use Rattle.runs.proofs.Frame.{Accepted, KeepsAccepted}
 
 -- the pair with this state and these marks at the standby
@@ -51,26 +51,8 @@ unfolding step standbyTickReply standbyTickMarks plainStep plainAccepted
 after-is u b e = rw (eq-eqb _ _ e)
 
 -- ---- the state, by what the tick finds
-pub not-active : (m : Mode) → isReceiving m ≡ true → isActive m ≡ false
-not-active Receiving e = refl
-not-active TakingOver e = absurd (false≢true e)
-not-active Active e = absurd (false≢true e)
-
-abbrev pub counted : Standby → Standby
+abbrev counted : Standby → Standby
 counted s = withDetector s (ticked (s .detector) true)
-
-reached-dropped : (s : Standby) → StandbyReached s → StandbyReached (withMode (dropped (counted s)) TakingOver)
-unfolding onlyDue
-reached-dropped s r =
-    let f = reached-tests s r in
-    let d = detector-facts (s .detector) (isReceiving (s .mode)) (f .detector-ok) in
-    let p = ticked-patience (s .detector) true in
-    let r₁ = reached-no-records s r (onlyDue (s .slots)) (slots-only-due (s .slots) (s .settings .s) (s .settings .d) (f .slots-ok)) (ap length (numbers-only-due (s .slots)) ∙ r .numbers) refl in
-    let r₂ = reached-mode (dropped s) r₁ TakingOver
-    (detector-of (s .detector) false (record { t-low = d .t-low; t-high = d .t-high; count-high = d .count-high; below = λ z. absurd (false≢true z) })) in
-    reached-detector (withMode (dropped s) TakingOver) r₂ (ticked (s .detector) true)
-    (detector-of (ticked (s .detector) true) false
-    (record { t-low = omega (arith, d .t-low); t-high = omega (arith, d .t-high); count-high = ticked-le (s .detector) true (d .count-high); below = λ z. absurd (false≢true z) }))
 
 module _ (g : Settings) (b : Both) (i : Inv g b) where
   -- a tick that only counts
@@ -82,7 +64,6 @@ module _ (g : Settings) (b : Both) (i : Inv g b) where
       let k = v .standbyKept in
       let t = v .taker in
       let s = e .state in
-      let d = detector-facts (s .detector) (isReceiving (s .mode)) (reached-tests s (k .reached) .detector-ok) in
       let p = ticked-patience (s .detector) true in
       record {
         ghost = i .ghost;
@@ -110,14 +91,7 @@ module _ (g : Settings) (b : Both) (i : Inv g b) where
           standbyKept = record {
             settings = k .settings;
             patience = p ∙ k .patience;
-            reached = reached-detector s (k .reached) (ticked (s .detector) true)
-                (detector-of (ticked (s .detector) true) (isReceiving (s .mode))
-                (record {
-                  t-low = omega (arith, d .t-low);
-                  t-high = omega (arith, d .t-high);
-                  count-high = ticked-le (s .detector) true (d .count-high);
-                  below = λ z. leb-false (ticked (s .detector) true .patience) (ticked (s .detector) true .count) f;
-                }));
+            reached = subst StandbyReached (tick-counts s on f .0) (ticked-reached s (k .reached));
             memory = k .memory;
             disk = k .disk;
             stagedPages = k .stagedPages;
@@ -129,19 +103,17 @@ module _ (g : Settings) (b : Both) (i : Inv g b) where
       }
 
   -- the tick at which the standby takes over
-  keep-dropped : isReceiving (b .world .standby .state .mode) ≡ true
+  keep-dropped : isReceiving (b .world .standby .state .mode) ≡ true → expired (ticked (b .world .standby .state .detector) true) ≡ true
       → Inv g (after (withMode (dropped (counted (b .world .standby .state))) TakingOver) (cleared (b .world .standby .stagedMarks) (b .world .standby .state .settings .m)) b)
-  keep-dropped on =
+  keep-dropped on f =
       let e = b .world .standby in
       let v = i .holds in
       let k = v .standbyKept in
       let t = v .taker in
       let s = e .state in
-      let f = reached-tests s (k .reached) in
-      let d = detector-facts (s .detector) (isReceiving (s .mode)) (f .detector-ok) in
       let p = ticked-patience (s .detector) true in
-      let none : isActive (s .mode) ≡ false = not-active (s .mode) on in
-      let due = slots-tests (s .slots) (s .settings .s) (s .settings .d) (f .slots-ok) .due-high in
+      let none : isActive (s .mode) ≡ false = receiving-not-active (s .mode) on in
+      let due = slots-fit g e k .due-high in
       record {
         ghost = i .ghost;
         holds = record {
@@ -168,7 +140,7 @@ module _ (g : Settings) (b : Both) (i : Inv g b) where
           standbyKept = record {
             settings = k .settings;
             patience = p ∙ k .patience;
-            reached = reached-dropped s (k .reached);
+            reached = subst StandbyReached (tick-takes-over s on f .0) (ticked-reached s (k .reached));
             memory = k .memory;
             disk = k .disk;
             stagedPages = k .stagedPages;
@@ -179,19 +151,23 @@ module _ (g : Settings) (b : Both) (i : Inv g b) where
         };
       }
 
-  abbrev Kept : Bool → Bool → Type 0
-  Kept on full =
-      Inv g
-      (after
-      (cond on (cond full (withMode (dropped (counted (b .world .standby .state))) TakingOver) (counted (b .world .standby .state))) (b .world .standby .state))
-      (cond full (cleared (b .world .standby .stagedMarks) (b .world .standby .state .settings .m)) (b .world .standby .stagedMarks)) b)
+  -- ---- the state and the marks, by what the tick finds
+  abbrev marksAfter : Bool → List ℕ
+  marksAfter full = cond full (cleared (b .world .standby .stagedMarks) (b .world .standby .state .settings .m)) (b .world .standby .stagedMarks)
 
-  by : (on full : Bool) → isReceiving (b .world .standby .state .mode) ≡ on → takesOver (b .world .standby .state) ≡ full → Kept on full
-  by true true x y = keep-dropped x
-  by true false x y = let s = b .world .standby .state in keep-counted x (sym (ap (λ (r : Bool). r && expired (ticked (s .detector) true)) x) ∙ y)
-  by false true x y = let s = b .world .standby .state in absurd (false≢true (sym (ap (λ (r : Bool). r && expired (ticked (s .detector) true)) x) ∙ y))
-  by false false x y = i
+  abbrev Kept : Standby → Bool → Type 0
+  Kept s full = Inv g (after s (marksAfter full) b)
+
+  by-state : (s : Standby) (full : Bool) → (standbyTickState (b .world .standby .state) ≡ s) × (takesOver (b .world .standby .state) ≡ full) → Kept s full
+      → Kept (standbyTickState (b .world .standby .state)) (takesOver (b .world .standby .state))
+  by-state s full is k = subst (Kept (standbyTickState (b .world .standby .state))) (sym (is .1)) (subst (λ (x : Standby). Kept x full) (sym (is .0)) k)
+
+  by : (on full : Bool) → isReceiving (b .world .standby .state .mode) ≡ on → expired (ticked (b .world .standby .state .detector) true) ≡ full
+      → Kept (standbyTickState (b .world .standby .state)) (takesOver (b .world .standby .state))
+  by false full x y = let s = b .world .standby .state in by-state s false (tick-rests s x) i
+  by true false x y = let s = b .world .standby .state in by-state (counted s) false (tick-counts s x y) (keep-counted x y)
+  by true true x y = let s = b .world .standby .state in by-state (withMode (dropped (counted s)) TakingOver) true (tick-takes-over s x y) (keep-dropped x y)
 
 pub keep-standby-tick : (g : Settings) → KeepsAccepted g call.standbyTick
-unfolding standbyTickState
-keep-standby-tick g b i e = subst (Inv g) (sym (after-is (g .u) b e)) (by g b i (isReceiving (b .world .standby .state .mode)) (takesOver (b .world .standby .state)) refl refl)
+keep-standby-tick g b i e =
+    subst (Inv g) (sym (after-is (g .u) b e)) (by g b i (isReceiving (b .world .standby .state .mode)) (expired (ticked (b .world .standby .state .detector) true)) refl refl)

@@ -29,60 +29,12 @@ use Rattle.rules.specs.Choose.{areaChoice}
 use Rattle.rules.specs.Reached.{PrimaryReached, StandbyReached}
 use Rattle.rules.specs.Start.{startLentOk, startRefusal, openedPrimary, openedStandby, started, startCopy, startMarks, startArea}
 use Rattle.rules.specs.World.{World, Processor, Buffers, startLent, startNumber, startWorld}
-use Rattle.rules.proofs.DetectorFacts.{DetectorFacts, detector-of}
-use Rattle.rules.proofs.PrimaryFacts.{primary-of}
-use Rattle.rules.proofs.StandbyFacts.{standby-tested}
+use Rattle.rules.proofs.StartLaws.{StartFacts, start-accepted, opened-primary, opened-standby}
 use Rattle.runs.specs.Plain.{Checkpoint, noCheckpoint, plainStart}
 use Rattle.runs.specs.Run.{Both, startBoth}
 use Rattle.runs.proofs.Invariant.{Packets, Inv}
 use Rattle.runs.proofs.StagedPages.{installed-none}
 use Rattle.runs.proofs.Frame.{StartLaw}
-
--- ---- what acceptance says: the settings in range, and each length
-record Lent (g : Settings) (b : Buffers) : Type 0 where
-  memory : length (b .memory) ≡ g .m * g .u
-  disk : length (b .disk) ≡ g .d * g .u
-  dirty : length (b .dirty) ≡ wordsFor (g .m)
-  held : length (b .held) ≡ g .q
-  stream : length (b .stream) ≡ g .l
-  stagedPages : length (b .stagedPages) ≡ g .m * g .u
-  stagedMarks : length (b .stagedMarks) ≡ wordsFor (g .m)
-  stagedBlocks : length (b .stagedBlocks) ≡ g .s * g .u
-
-lent-facts : (g : Settings) (b : Buffers) → startLentOk g (startLent b) ≡ true → Lent g b
-unfolding startLentOk
-lent-facts g b e =
-    let area = both _ (eqb (length (b .area)) areaLength) e in
-    let blocks = both _ (eqb (length (b .stagedBlocks)) (g .s * g .u)) (area .0) in
-    let marks = both _ (eqb (length (b .stagedMarks)) (wordsFor (g .m))) (blocks .0) in
-    let pages = both _ (eqb (length (b .stagedPages)) (g .m * g .u)) (marks .0) in
-    let disk′ = both _ (eqb (length (b .standbyDisk)) (g .d * g .u)) (pages .0) in
-    let memory′ = both _ (eqb (length (b .standbyMemory)) (g .m * g .u)) (disk′ .0) in
-    let stream = both _ (eqb (length (b .stream)) (g .l)) (memory′ .0) in
-    let held = both _ (eqb (length (b .held)) (g .q)) (stream .0) in
-    let dirty = both _ (eqb (length (b .dirty)) (wordsFor (g .m))) (held .0) in
-    let disk = both (eqb (length (b .memory)) (g .m * g .u)) (eqb (length (b .disk)) (g .d * g .u)) (dirty .0) in
-    record {
-      memory = eqb-true _ _ (disk .0);
-      disk = eqb-true _ _ (disk .1);
-      dirty = eqb-true _ _ (dirty .1);
-      held = eqb-true _ _ (held .1);
-      stream = eqb-true _ _ (stream .1);
-      stagedPages = eqb-true _ _ (pages .1);
-      stagedMarks = eqb-true _ _ (marks .1);
-      stagedBlocks = eqb-true _ _ (blocks .1);
-    }
-
-record Facts (g : Settings) (b : Buffers) : Type 0 where
-  ok : settingsOk g ≡ true
-  lent : Lent g b
-
-start-facts : (g : Settings) (b : Buffers) → startNumber g b ≡ 0 → Facts g b
-unfolding startRefusal
-start-facts g b e =
-    let h = accepted (test outOfRange (settingsOk g && startLentOk g (startLent b)) ∷ []) refl e in
-    let r = both (settingsOk g) (startLentOk g (startLent b)) (h .0) in
-    record { ok = r .0; lent = lent-facts g b (r .1) }
 
 -- ---- the pair that is started
 abbrev begun : Settings → Processor → Buffers → Both
@@ -109,44 +61,7 @@ begun-is : (g : Settings) (processor : Processor) (b : Buffers) → startNumber 
 unfolding startWorld started startCopy startMarks startArea
 begun-is g processor b e = rw (eq-eqb _ _ e)
 
-module _ (g : Settings) (processor : Processor) (b : Buffers) (f : Facts g b) where
-  watches : DetectorFacts (record { patience = g .t; count = 0 }) true
-  watches = let s = settings-facts g (f .ok) in record { t-low = s .t-low; t-high = s .t-high; count-high = omega arith; below = λ z. omega (arith, s .t-low) }
-
-  primary-reached : PrimaryReached (openedPrimary g)
-  primary-reached =
-      record {
-        inRange = primary-of (openedPrimary g)
-            (record {
-              settings = primary-settings-facts (ofPrimary g) (primary-of-settings g (f .ok));
-              queue = queue-empty 1 (g .q);
-              acknowledged = omega arith;
-              waiting = omega arith;
-              blocks = omega arith;
-              detector = watches;
-            });
-        packets = refl;
-      }
-
-  standby-reached : StandbyReached (openedStandby g (processor .bytes))
-  standby-reached =
-      record {
-        inRange = standby-tested (openedStandby g (processor .bytes))
-            (record {
-              settings-ok = standby-of-settings g (f .ok);
-              slots-ok = slots-empty (g .s) (g .d);
-              blocks-high = omega arith;
-              pages-high = omega arith;
-              detector-ok = detector-of (record { patience = g .t; count = 0 }) true watches;
-            });
-        numbers = refl;
-        stagedProcessor = refl;
-        processor = processor .size;
-        pagesBelow = omega arith;
-        nextBelow = omega arith;
-        notDue = refl;
-      }
-
+module _ (g : Settings) (processor : Processor) (b : Buffers) (f : StartFacts g (startLent b)) where
   abbrev zeroth : Checkpoint
   zeroth = record { memory = b .memory; disk = b .disk; processor = processor .bytes; packets = [] }
 
@@ -166,8 +81,8 @@ module _ (g : Settings) (processor : Processor) (b : Buffers) (f : Facts g b) wh
         holds = record {
           history = record { from = refl; count = refl; high = omega arith };
           link = record { records = refl; bytes = refl; lossless = λ z. refl; readable = tt; consumedBefore = tt; aheadBefore = tt; openedBefore = tt };
-          images = record { memoryIs = refl; diskIs = refl; size = l .memory; clean = clean-clear (b .memory) (b .dirty) (g .u) (g .m); stored = λ z. refl };
-          detector = record { acknowledgedIs = refl; rising = omega arith; acksAre = refl; aloneIs = sym (lt-leb (g .t) 0 (watches .t-low)); countIs = λ z. refl; quiet = λ z. refl };
+          images = record { memoryIs = refl; diskIs = refl; size = l .memory-is; clean = clean-clear (b .memory) (b .dirty) (g .u) (g .m); stored = λ z. refl };
+          detector = record { acknowledgedIs = refl; rising = omega arith; acksAre = refl; aloneIs = sym (lt-leb (g .t) 0 (settings-facts g (f .inRange) .t-low)); countIs = λ z. refl; quiet = λ z. refl };
           packets = subst (λ (h : List Held). Packets h [] 0 (zeroth ∷ [])) (sym (held-empty (b .held))) packets;
           taker = record {
             receivedIs = refl;
@@ -175,7 +90,7 @@ module _ (g : Settings) (processor : Processor) (b : Buffers) (f : Facts g b) wh
             processorIs = refl;
             memoryIs = λ z. refl;
             diskIs = λ z. refl;
-            stagedMemory = λ z. installed-none (b .memory) (b .stagedPages) (b .stagedMarks) (g .u) (g .m) (l .memory) (l .stagedPages);
+            stagedMemory = λ z. installed-none (b .memory) (b .stagedPages) (b .stagedMarks) (g .u) (g .m) (l .memory-is) (l .pages-is);
             stagedDisk = λ z. refl;
             stagedProcessor = λ z y. absurd (false≢true y);
             activeMemory = λ z. absurd (false≢true z);
@@ -186,26 +101,26 @@ module _ (g : Settings) (processor : Processor) (b : Buffers) (f : Facts g b) wh
           primaryKept = record {
             settings = refl;
             patience = refl;
-            reached = primary-reached;
-            memory = l .memory;
-            disk = l .disk;
-            dirty = length-cleared (b .dirty) (g .m) ∙ l .dirty;
-            held = l .held;
-            stream = l .stream;
+            reached = opened-primary g (f .inRange);
+            memory = l .memory-is;
+            disk = l .disk-is;
+            dirty = length-cleared (b .dirty) (g .m) ∙ l .dirty-is;
+            held = l .held-is;
+            stream = l .stream-is;
           };
           standbyKept = record {
             settings = refl;
             patience = refl;
-            reached = standby-reached;
-            memory = l .memory;
-            disk = l .disk;
-            stagedPages = l .stagedPages;
-            stagedMarks = length-cleared (b .stagedMarks) (g .m) ∙ l .stagedMarks;
-            stagedBlocks = l .stagedBlocks;
+            reached = opened-standby g (f .inRange) (processor .bytes) (processor .size);
+            memory = l .memory-is;
+            disk = l .disk-is;
+            stagedPages = l .pages-is;
+            stagedMarks = length-cleared (b .stagedMarks) (g .m) ∙ l .marks-is;
+            stagedBlocks = l .blocks-is;
             area = refl;
           };
         };
       }
 
 pub start-law : (g : Settings) → StartLaw g
-start-law g processor b e = subst (Inv g) (sym (begun-is g processor b e)) (start-inv g processor b (start-facts g b e))
+start-law g processor b e = subst (Inv g) (sym (begun-is g processor b e)) (start-inv g processor b (start-accepted g (startLent b) e))

@@ -17,8 +17,8 @@ use Rattle.rules.specs.PrimaryState.{withQueue}
 use Rattle.rules.specs.Packets.{takeReply, takeHeld, takeDestination}
 use Rattle.rules.specs.World as call
 use Rattle.rules.specs.Step.{atPrimary, step}
-use Rattle.rules.proofs.PacketLaws.{TakeFacts, take-accepted}
-use Rattle.rules.proofs.PrimaryReachedLaws.{reached-facts, reached-queue}
+use Rattle.rules.proofs.PacketLaws.{TakeFacts, take-accepted, take-state-reached}
+use Rattle.rules.proofs.PrimaryFacts.{primary-facts}
 use Rattle.runs.specs.Plain.{isAlone, withPackets, plainAccepted, plainStep}
 use Rattle.runs.specs.Run.{Both, steps, runCall}
 use Rattle.runs.specs.Demand3.{HandedRight, TakeRight}
@@ -78,7 +78,7 @@ module _ (destination : List ℕ) where
         let p = b .world .primary in
         let k = i .holds .primaryKept .reached in
         subst (λ (l : List Held). Packets l (b .plain .accepted) (b .plain .taken) (b .plain .checkpoints))
-        (held-oldest (p .state .queue) (k .packets) (p .state .epoch) (p .state .settings .q) (reached-facts (p .state) k .queue) (p .held) (f .held-is) (f .released .some))
+        (held-oldest (p .state .queue) (k .packets) (p .state .epoch) (p .state .settings .q) (primary-facts (p .state) (f .ok) .queue) (p .held) (f .held-is) (f .released .some))
         (i .holds .packets)
 
     keep : Inv g (after b)
@@ -90,7 +90,7 @@ module _ (destination : List ℕ) where
         let q = p .state .settings .q in
         let epoch = p .state .epoch in
         let array = k .reached .packets in
-        let ok = reached-facts (p .state) (k .reached) .queue in
+        let ok = primary-facts (p .state) (f .ok) .queue in
         let some = f .released .some in
         record {
           ghost = i .ghost;
@@ -104,7 +104,7 @@ module _ (destination : List ℕ) where
             primaryKept = record {
               settings = k .settings;
               patience = k .patience;
-              reached = reached-queue (p .state) (k .reached) (withoutOldest queue) (queue-removed queue array epoch q ok some) (array-removed queue array epoch q ok some);
+              reached = take-state-reached (p .state) (length (p .held)) (length destination) f (k .reached);
               memory = k .memory;
               disk = k .disk;
               dirty = k .dirty;
@@ -139,7 +139,7 @@ module _ (destination : List ℕ) where
         let p = b .world .primary in
         let k = i .holds .primaryKept .reached in
         handed-accepted b e
-        ∙ handed-out (p .state .queue) (k .packets) (p .state .epoch) (p .state .settings .q) (reached-facts (p .state) k .queue) (p .held) (f .held-is) (f .released .some) destination
+        ∙ handed-out (p .state .queue) (k .packets) (p .state .epoch) (p .state .settings .q) (primary-facts (p .state) (f .ok) .queue) (p .held) (f .held-is) (f .released .some) destination
 
 pub keep-take : (g : Settings) (destination : List ℕ) → KeepsAccepted g (call.take destination)
 keep-take g destination b i e = subst (Inv g) (sym (after-is destination (g .u) b e)) (keep destination g b i (facts destination b e))

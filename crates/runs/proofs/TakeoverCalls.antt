@@ -28,20 +28,22 @@ use Rattle.rules.specs.Takeover.{dropped, takesOver, standbyTickRefusal, standb
 use Rattle.rules.specs.World.{World, Call}
 use Rattle.rules.specs.World as call
 use Rattle.rules.specs.Step.{step}
-use Rattle.rules.proofs.DetectorFacts.{detector-facts}
-use Rattle.rules.proofs.StandbyReachedLaws.{reached-tests}
+use Rattle.rules.proofs.StandbyFacts.{standby-facts}
+use Rattle.rules.proofs.FlushLaws.{flush-accepts}
+use Rattle.rules.proofs.TakeoverLaws.{tick-accepts, activation-accepts, tick-rests, tick-counts, tick-takes-over}
 use Rattle.runs.specs.Plain.{Plain, Checkpoint, receivedCheckpoint}
 use Rattle.runs.specs.Run.{Both, Steps, steps, runCall, run}
 use Rattle.runs.specs.Demand3.{active, ticksAndFlush, takeoverCalls, AllAccepted, TakeoverRight}
 use Rattle.runs.proofs.Invariant.{StandbyKept, Inv}
 use Rattle.runs.proofs.Conclusions.{standby-right}
-use Rattle.runs.proofs.StandbyTick.{counted, keep-standby-tick}
+use Rattle.runs.proofs.ModeLaws.{taking-not-receiving}
+use Rattle.runs.proofs.KeptLaws.{lent-disk, lent-marks, lent-blocks}
+use Rattle.runs.proofs.StandbyTick.{keep-standby-tick}
 use Rattle.runs.proofs.StandbyTick as tick
 use Rattle.runs.proofs.Flush.{keep-flush}
 use Rattle.runs.proofs.Flush as flush
 use Rattle.runs.proofs.Activation.{keep-activation}
-use Rattle.runs.proofs.Activation as activation
-use Rattle.runs.proofs.PlainLaws.{run-append}
+use Rattle.runs.proofs.PlainLaws.{run-append, Activated, activation-plain}
 use Rattle.runs.proofs.Frame.{Accepted, TakeoverLaw}
 
 -- ---- lists of calls, one after the other
@@ -54,29 +56,20 @@ module _ (g : Settings) where
   -- ---- each of the calls is accepted
   module _ (b : Both) (k : StandbyKept g (b .world .standby)) where
     tick-accepted : Accepted b call.standbyTick
-    unfolding step standbyTickReply standbyTickRefusal
-    tick-accepted =
-        let e = b .world .standby in
-        let marks : length (e .stagedMarks) ≡ marksLength (e .state) = k .stagedMarks ∙ ap (λ (x : StandbySettings). wordsFor (x .m)) (sym (k .settings)) in
-        accepts (test outOfRange (standbyOk (e .state) && eqb (length (e .stagedMarks)) (marksLength (e .state))) ∷ []) (join _ _ (k .reached .inRange) (eq-eqb _ _ marks), tt)
+    unfolding step standbyTickReply
+    tick-accepted = let e = b .world .standby in tick-accepts (e .state) (length (e .stagedMarks)) (record { inRange = k .reached .inRange; marksLent = lent-marks g e k })
 
     flush-accepted : (n : ℕ) → Accepted b (call.flush n)
-    unfolding step flushReply flushRefusal
+    unfolding step flushReply
     flush-accepted n =
         let e = b .world .standby in
-        let back = sym (k .settings) in
-        let slots : length (e .stagedBlocks) ≡ slotsLength (e .state) = k .stagedBlocks ∙ ap (λ (x : StandbySettings). x .s * x .u) back in
-        let disk : length (e .disk) ≡ diskLength (e .state) = k .disk ∙ ap (λ (x : StandbySettings). x .d * x .u) back in
-        accepts (test outOfRange (standbyOk (e .state) && eqb (length (e .stagedBlocks)) (slotsLength (e .state)) && eqb (length (e .disk)) (diskLength (e .state))) ∷ [])
-        (join _ _ (join _ _ (k .reached .inRange) (eq-eqb _ _ slots)) (eq-eqb _ _ disk), tt)
+        flush-accepts (e .state) (length (e .stagedBlocks)) (length (e .disk)) (record { inRange = k .reached .inRange; slotsLent = lent-blocks g e k; diskLent = lent-disk g e k })
 
     activation-accepted : isTakingOver (b .world .standby .state .mode) ≡ true → b .world .standby .state .slots .due ≡ 0 → Accepted b call.activation
-    unfolding step activationReply activationRefusal
+    unfolding step activationReply
     activation-accepted t z =
         let e = b .world .standby in
-        accepts
-        (test outOfRange (standbyOk (e .state) && eqb (length (e .area)) areaLength) ∷ test wrongMode (isTakingOver (e .state .mode)) ∷ test blocksDue (eqb (e .state .slots .due) 0) ∷ [])
-        (join _ _ (k .reached .inRange) (eq-eqb _ _ (k .area)), (t, (eq-eqb _ _ z, tt)))
+        activation-accepts (e .state) (length (e .area)) (record { inRange = k .reached .inRange; areaLent = k .area; takingOver = t; noneDue = z })
 
   -- its value is the last received epoch
   activation-value : (b : Both) → Accepted b call.activation → step (b .world) call.activation .outcome .value ≡ b .world .standby .state .received
@@ -84,18 +77,6 @@ module _ (g : Settings) where
   activation-value b e = rw (eq-eqb _ _ e)
 
   -- ---- one tick
-  taking-not-receiving : (m : Mode) → isTakingOver m ≡ true → isReceiving m ≡ false
-  taking-not-receiving Receiving e = absurd (false≢true e)
-  taking-not-receiving TakingOver e = refl
-  taking-not-receiving Active e = absurd (false≢true e)
-
-  tick-of : (s : Standby) (on full : Bool) → isReceiving (s .mode) ≡ on → takesOver s ≡ full
-      → standbyTickState s ≡ cond on (cond full (withMode (dropped (counted s)) TakingOver) (counted s)) s
-  unfolding standbyTickState
-  tick-of s on full x y =
-      ap (λ (f : Bool). cond (isReceiving (s .mode)) (cond f (withMode (dropped (counted s)) TakingOver) (counted s)) s) y
-      ∙ ap (λ (o : Bool). cond o (cond full (withMode (dropped (counted s)) TakingOver) (counted s)) s) x
-
   -- takes over, or receives and will have counted to T after k ticks
   abbrev Waits : ℕ → Standby → Type 0
   Waits k s = (isTakingOver (s .mode) ≡ true) ⊎ ((isReceiving (s .mode) ≡ true) × (g .t ≤ s .detector .count + k))
@@ -107,16 +88,14 @@ module _ (g : Settings) where
   module _ (s : Standby) (k : ℕ) (fresh : isReceiving (s .mode) ≡ true → expired (s .detector) ≡ false) where
     one-tick : Waits (suc k) s → Ticked k (s .slots .due) (standbyTickState s)
     unfolding onlyDue
-    one-tick (inl t) =
-        let still : standbyTickState s ≡ s = tick-of s false (takesOver s) (taking-not-receiving (s .mode) t) refl in
-        subst (Ticked k (s .slots .due)) (sym still) (record { waits = inl t; same = refl })
+    one-tick (inl t) = subst (Ticked k (s .slots .due)) (sym (tick-rests s (taking-not-receiving (s .mode) t) .0)) (record { waits = inl t; same = refl })
     one-tick (inr h) =
         ⊎-elim
-        (λ (y : takesOver s ≡ true). subst (Ticked k (s .slots .due)) (sym (tick-of s true true (h .0) y)) (record { waits = inl refl; same = refl }))
-        (λ (y : takesOver s ≡ false).
+        (λ (y : expired (ticked (s .detector) true) ≡ true). subst (Ticked k (s .slots .due)) (sym (tick-takes-over s (h .0) y .0)) (record { waits = inl refl; same = refl }))
+        (λ (y : expired (ticked (s .detector) true) ≡ false).
         let c = ap (λ (d : Detector). d .count) (ticked-counts (s .detector) (fresh (h .0))) in
-        subst (Ticked k (s .slots .due)) (sym (tick-of s true false (h .0) y)) (record { waits = inr (h .0, omega (arith, h .1, c)); same = refl }))
-        (by-test (takesOver s))
+        subst (Ticked k (s .slots .due)) (sym (tick-counts s (h .0) y .0)) (record { waits = inr (h .0, omega (arith, h .1, c)); same = refl }))
+        (by-test (expired (ticked (s .detector) true)))
 
   -- ---- k ticks
   record After (b : Both) (calls : List Call) (due : ℕ) (b′ : Both) : Type 0 where
@@ -130,7 +109,7 @@ module _ (g : Settings) where
   fresh-at b i on =
       let s = b .world .standby .state in
       let k = i .holds .standbyKept in
-      let d = detector-facts (s .detector) (isReceiving (s .mode)) (reached-tests s (k .reached) .detector-ok) in
+      let d = standby-facts s (k .reached .inRange) .detector in
       omega (arith, d .below on, k .patience)
 
   after-ticks : (k : ℕ) (b : Both) → Inv g b → Waits k (b .world .standby .state) → After b (replicate k call.standbyTick) (b .world .standby .state .slots .due) (run steps (g .u) b (replicate k call.standbyTick))
@@ -158,16 +137,6 @@ module _ (g : Settings) where
   unfolding flushed
   after-flush b n a t l = subst (Flushed b) (sym (flush.after-is n (g .u) b a)) (record { takes = t; none = omega arith; plain = refl })
 
-  -- ---- the activation
-  record Activated (b b′ : Both) : Type 0 where
-    activates : active (b′ .world) ≡ true
-    memory : b′ .plain .standbyMemory ≡ receivedCheckpoint (b .plain) .memory
-    disk : b′ .plain .standbyDisk ≡ receivedCheckpoint (b .plain) .disk
-    checkpoint : receivedCheckpoint (b′ .plain) ≡ receivedCheckpoint (b .plain)
-
-  after-activation : (b : Both) → Accepted b call.activation → Activated b (runCall steps (g .u) b call.activation)
-  after-activation b a = subst (Activated b) (sym (activation.after-is (g .u) b a)) (record { activates = refl; memory = refl; disk = refl; checkpoint = refl })
-
   -- ---- all of them
   waits-of : (m : Mode) (count : ℕ) → isActive m ≡ false → (isTakingOver m ≡ true) ⊎ ((isReceiving m ≡ true) × (g .t ≤ count + g .t))
   waits-of Receiving count e = inr (refl, omega arith)
@@ -185,9 +154,10 @@ module _ (g : Settings) where
       let f : Flushed b₁ b₂ = after-flush b₁ n a₂ (r .takes) (omega (arith, r .same)) in
       let i₂ : Inv g b₂ = keep-flush g n b₁ (r .inv) a₂ in
       let a₃ = activation-accepted b₂ (i₂ .holds .standbyKept) (f .takes) (f .none) in
-      let t : Activated b₂ b₃ = after-activation b₂ a₃ in
+      let t : Activated (b₂ .plain) (b₃ .plain) = activation-plain (g .u) b₂ a₃ in
       let i₃ : Inv g b₃ = keep-activation g b₂ i₂ a₃ in
       let c = standby-right g b₃ i₃ in
+      let on : active (b₃ .world) ≡ true = c .same ∙ t .activated in
       let plain : b₂ .plain ≡ b .plain = f .plain ∙ r .plain in
       let flushes : run steps (g .u) b (ticksAndFlush (g .t) n) ≡ b₂ = run-append steps (g .u) ticks (call.flush n ∷ []) b in
       let all : run steps (g .u) b (takeoverCalls (g .t) n) ≡ b₃
@@ -198,18 +168,18 @@ module _ (g : Settings) where
             accepted-append steps (g .u) (ticksAndFlush (g .t) n) (call.activation ∷ []) b
             (accepted-append steps (g .u) ticks (call.flush n ∷ []) b (r .accepted) (a₂, tt))
             (subst (λ (x : Both). AllAccepted steps (x .world) (call.activation ∷ [])) (sym flushes) (a₃, tt));
-        activates = subst (λ (x : Both). active (x .world) ≡ true) back (t .activates);
+        activates = subst (λ (x : Both). active (x .world) ≡ true) back on;
         value =
             ap (λ (x : Both). step (x .world) call.activation .outcome .value) flushes
             ∙ activation-value b₂ a₃
             ∙ i₂ .holds .taker .receivedIs
             ∙ ap (λ (p : Plain). p .r) plain;
         memory = subst (λ (x : Both). x .world .standby .memory ≡ receivedCheckpoint (b .plain) .memory) back
-            (c .memory (t .activates) ∙ t .memory ∙ ap (λ (p : Plain). receivedCheckpoint p .memory) plain);
+            (c .memory on ∙ t .memory ∙ ap (λ (p : Plain). receivedCheckpoint p .memory) plain);
         disk = subst (λ (x : Both). x .world .standby .disk ≡ receivedCheckpoint (b .plain) .disk) back
-            (c .disk (t .activates) ∙ t .disk ∙ ap (λ (p : Plain). receivedCheckpoint p .disk) plain);
+            (c .disk on ∙ t .disk ∙ ap (λ (p : Plain). receivedCheckpoint p .disk) plain);
         processor = subst (λ (x : Both). x .world .standby .state .processor ≡ receivedCheckpoint (b .plain) .processor) back
-            (c .processor (t .activates) ∙ ap (λ (y : Checkpoint). y .processor) (t .checkpoint) ∙ ap (λ (p : Plain). receivedCheckpoint p .processor) plain);
+            (c .processor on ∙ ap (λ (y : Checkpoint). y .processor) (t .checkpoint) ∙ ap (λ (p : Plain). receivedCheckpoint p .processor) plain);
       }
 
 pub takeover-law : (g : Settings) → TakeoverLaw g
