@@ -69,9 +69,9 @@ module _ (g : Settings) (b : Both) (i : Inv g b) where
       omega (arith, rising-le e (b .plain .r) es (r .1), r-low)
 
   -- the oldest ACK under way
-  keep-ack-by : (e : ℕ) (es : List ℕ) → i .ghost .acks ≡ e ∷ es → AckFacts (b .world .primary .state) e
+  ack-inv : (e : ℕ) (es : List ℕ) → i .ghost .acks ≡ e ∷ es → AckFacts (b .world .primary .state) e
       → drop (length (encode (message.ack e))) (b .world .acks) ≡ encodeAll (map message.ack es) → Inv g (after e (length (encode (message.ack e))) b)
-  keep-ack-by e es same f bytes =
+  ack-inv e es same f bytes =
       let p = b .world .primary in
       let v = i .holds in
       let k = v .primaryKept in
@@ -122,7 +122,7 @@ module _ (g : Settings) (b : Both) (i : Inv g b) where
         → Inv g (bothBy (readAs (b .world .primary .state .settings .u) (message.ack e)))
     unfolding plainStep plainAccepted
     by-ack e es same f bytes =
-        subst (λ (used : ℕ). Inv g (after e used b)) (sym (used-message (b .world .primary .state .settings .u) (message.ack e) (fits e es same))) (keep-ack-by e es same f bytes)
+        subst (λ (used : ℕ). Inv g (after e used b)) (sym (used-message (b .world .primary .state .settings .u) (message.ack e) (fits e es same))) (ack-inv e es same f bytes)
 
     -- what is judged is the record read, or its refusal
     module _ (on : protected (b .world .primary .state) ≡ true) (accepted : numberOf (answerOf (ackSeen (b .world) n)) ≡ 0) where
@@ -152,8 +152,8 @@ module _ (g : Settings) (b : Both) (i : Inv g b) where
           absurd (a (sym (ap (λ (y : Record). numberOf (answerOf y)) (seen r read-is ∙ unless-refused (ackRefusal p r) r a)) ∙ accepted)))
           (eq-or-ne (ackRefusal p r) 0)
 
-pub keep-ack : (g : Settings) (n : ℕ) → KeepsAccepted g (call.ack n)
-keep-ack g n b i e =
+pub ack-keeps : (g : Settings) (n : ℕ) → KeepsAccepted g (call.ack n)
+ack-keeps g n b i e =
     let p = b .world .primary .state in
     let accepted : numberOf (answerOf (ackSeen (b .world) n)) ≡ 0 = sym (ap (λ (s : Stepped). s .outcome .number) (ack-step (b .world) n)) ∙ e in
     let u-ok = shared-unit (primary-facts p (i .holds .primaryKept .reached .inRange) .settings .shared) in

@@ -75,8 +75,8 @@ module _ (g : Settings) (b : Both) (i : Inv g b) (f : ActivationAccepted (b .wor
   low : b .world .standby .state .received < 2 ^ 32
   low = let h = i .holds .history in omega (arith, received-exists g b i, h .count, h .high, i .holds .taker .receivedIs)
 
-  keep : Inv g (after b)
-  keep =
+  after-inv : Inv g (after b)
+  after-inv =
       let e = b .world .standby in
       let v = i .holds in
       let k = v .standbyKept in
@@ -121,5 +121,5 @@ module _ (g : Settings) (b : Both) (i : Inv g b) (f : ActivationAccepted (b .wor
         };
       }
 
-pub keep-activation : (g : Settings) → KeepsAccepted g call.activation
-keep-activation g b i e = subst (Inv g) (sym (after-is (g .u) b e)) (keep g b i (facts b e))
+pub activation-keeps : (g : Settings) → KeepsAccepted g call.activation
+activation-keeps g b i e = subst (Inv g) (sym (after-is (g .u) b e)) (after-inv g b i (facts b e))

@@ -40,9 +40,9 @@ after memory disk memory′ disk′ b =
       plain = withStandbyImages (b .plain) (b .plain .activated) memory′ disk′;
     }
 
-keep : (g : Settings) (b : Both) (memory disk memory′ disk′ : List ℕ) → isActive (b .world .standby .state .mode) ≡ true → memory ≡ memory′ → disk ≡ disk′
+images-inv : (g : Settings) (b : Both) (memory disk memory′ disk′ : List ℕ) → isActive (b .world .standby .state .mode) ≡ true → memory ≡ memory′ → disk ≡ disk′
     → length memory ≡ g .m * g .u → length disk ≡ g .d * g .u → Inv g b → Inv g (after memory disk memory′ disk′ b)
-keep g b memory disk memory′ disk′ on em ed lm ld i =
+images-inv g b memory disk memory′ disk′ on em ed lm ld i =
     let v = i .holds in
     let k = v .standbyKept in
     let t = v .taker in
@@ -101,26 +101,26 @@ module _ (page offset : ℕ) (bytes : List ℕ) where
   unfolding step activeMemoryWriteReply
   facts-memory b e = active-memory-write-accepted (b .world .standby .state) (length (b .world .standby .memory)) page offset (length bytes) e
 
-  keep-memory : (g : Settings) (b : Both) → Inv g b → isActive (b .world .standby .state .mode) ≡ true → page < g .m → offset + length bytes ≤ g .u → Inv g (afterMemory (g .u) (g .u) b)
+  memory-inv : (g : Settings) (b : Both) → Inv g b → isActive (b .world .standby .state .mode) ≡ true → page < g .m → offset + length bytes ≤ g .u → Inv g (afterMemory (g .u) (g .u) b)
   unfolding written
-  keep-memory g b i on below inside =
+  memory-inv g b i on below inside =
       let e = b .world .standby in
       let t = i .holds .taker in
       let k = i .holds .standbyKept in
       let at = page * g .u + offset in
       let fits : at + length bytes ≤ length (e .memory) = omega (arith, page-end page (g .m) (g .u) below, k .memory) in
       let is : b .plain .activated ≡ true = sym (t .modeIs) ∙ on in
-      keep g b (put (e .memory) at bytes) (e .disk) (put (b .plain .standbyMemory) at bytes) (b .plain .standbyDisk) on
+      images-inv g b (put (e .memory) at bytes) (e .disk) (put (b .plain .standbyMemory) at bytes) (b .plain .standbyDisk) on
       (ap (λ (l : List ℕ). put l at bytes) (t .activeMemory is)) (t .activeDisk is) (length-put (e .memory) at bytes fits ∙ k .memory) (k .disk) i
 
-pub keep-active-memory-write : (g : Settings) (page offset : ℕ) (bytes : List ℕ) → KeepsAccepted g (call.activeMemoryWrite page offset bytes)
-keep-active-memory-write g page offset bytes b i e =
+pub active-memory-write-keeps : (g : Settings) (page offset : ℕ) (bytes : List ℕ) → KeepsAccepted g (call.activeMemoryWrite page offset bytes)
+active-memory-write-keeps g page offset bytes b i e =
     let k = i .holds .standbyKept in
     let f = facts-memory page offset bytes b e in
     let u = standby-u g (b .world .standby) k in
     let m = standby-m g (b .world .standby) k in
     subst (Inv g) (sym (after-memory page offset bytes (g .u) b e ∙ ap (λ (v : ℕ). afterMemory page offset bytes v (g .u) b) u))
-    (keep-memory page offset bytes g b i (f .active) (omega (arith, f .pageBelow)) (omega (arith, f .inside)))
+    (memory-inv page offset bytes g b i (f .active) (omega (arith, f .pageBelow)) (omega (arith, f .inside)))
 
 -- ---- disk write
 module _ (block : ℕ) (bytes : List ℕ) where
@@ -138,21 +138,21 @@ module _ (block : ℕ) (bytes : List ℕ) where
   unfolding step activeDiskWriteReply
   facts-disk b e = active-disk-write-accepted (b .world .standby .state) (length (b .world .standby .disk)) block (length bytes) e
 
-  keep-disk : (g : Settings) (b : Both) → Inv g b → isActive (b .world .standby .state .mode) ≡ true → block < g .d → length bytes ≡ g .u → Inv g (afterDisk (g .u) (g .u) b)
-  keep-disk g b i on below whole =
+  disk-inv : (g : Settings) (b : Both) → Inv g b → isActive (b .world .standby .state .mode) ≡ true → block < g .d → length bytes ≡ g .u → Inv g (afterDisk (g .u) (g .u) b)
+  disk-inv g b i on below whole =
       let e = b .world .standby in
       let t = i .holds .taker in
       let k = i .holds .standbyKept in
       let fits : block * g .u + g .u ≤ length (e .disk) = omega (arith, page-end block (g .d) (g .u) below, k .disk) in
       let is : b .plain .activated ≡ true = sym (t .modeIs) ∙ on in
-      keep g b (e .memory) (withPage (g .u) (e .disk) block bytes) (b .plain .standbyMemory) (withPage (g .u) (b .plain .standbyDisk) block bytes) on
+      images-inv g b (e .memory) (withPage (g .u) (e .disk) block bytes) (b .plain .standbyMemory) (withPage (g .u) (b .plain .standbyDisk) block bytes) on
       (t .activeMemory is) (ap (λ (l : List ℕ). withPage (g .u) l block bytes) (t .activeDisk is)) (k .memory) (length-with-page (g .u) block (e .disk) bytes whole fits ∙ k .disk) i
 
-pub keep-active-disk-write : (g : Settings) (block : ℕ) (bytes : List ℕ) → KeepsAccepted g (call.activeDiskWrite block bytes)
-keep-active-disk-write g block bytes b i e =
+pub active-disk-write-keeps : (g : Settings) (block : ℕ) (bytes : List ℕ) → KeepsAccepted g (call.activeDiskWrite block bytes)
+active-disk-write-keeps g block bytes b i e =
     let k = i .holds .standbyKept in
     let f = facts-disk block bytes b e in
     let u = standby-u g (b .world .standby) k in
     let d = standby-d g (b .world .standby) k in
     subst (Inv g) (sym (after-disk block bytes (g .u) b e ∙ ap (λ (v : ℕ). afterDisk block bytes v (g .u) b) u))
-    (keep-disk block bytes g b i (f .active) (omega (arith, f .blockBelow)) (omega (arith, f .size)))
+    (disk-inv block bytes g b i (f .active) (omega (arith, f .blockBelow)) (omega (arith, f .size)))

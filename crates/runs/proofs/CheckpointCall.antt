@@ -196,8 +196,8 @@ module _ (processor : Processor) where
         subst (λ (n : ℕ). Link (g .u) (h .ahead ++ (shut ∷ [])) [] (h .consumed) (h .pending ++ ms) (b .world .link) (put (p .stream) (p .state .waiting) (bytesOf b (ofPrimary g))) (h .lost) (p .state .waiting + n) (p .state .alone)) long
         (subst (λ (l : List ℕ). Link (g .u) (h .ahead ++ (shut ∷ [])) [] (h .consumed) (h .pending ++ ms) (b .world .link) (put (p .stream) (p .state .waiting) l) (h .lost) (p .state .waiting + length l) (p .state .alone)) bytes-are more)
 
-    keep : Inv g (after b (ofPrimary g))
-    keep =
+    after-inv : Inv g (after b (ofPrimary g))
+    after-inv =
         let p = b .world .primary in
         let v = i .holds in
         let k = v .primaryKept in
@@ -249,6 +249,6 @@ module _ (processor : Processor) where
           };
         }
 
-pub keep-checkpoint : (g : Settings) (processor : Processor) → KeepsAccepted g (call.checkpoint processor)
-keep-checkpoint g processor b i e =
-    subst (Inv g) (sym (after-is processor (g .u) b e ∙ ap (after processor b) (i .holds .primaryKept .settings))) (keep processor g b i (facts processor b e))
+pub checkpoint-keeps : (g : Settings) (processor : Processor) → KeepsAccepted g (call.checkpoint processor)
+checkpoint-keeps g processor b i e =
+    subst (Inv g) (sym (after-is processor (g .u) b e ∙ ap (after processor b) (i .holds .primaryKept .settings))) (after-inv processor g b i (facts processor b e))

@@ -75,8 +75,8 @@ module _ (block : ℕ) (bytes : List ℕ) where
     same = ap (λ (l : List ℕ). withPage (g .u) l block bytes) (i .holds .images .diskIs)
 
     -- alone: "disk writes append nothing"
-    keep-alone : b .world .primary .state .alone ≡ true → Inv g (after (b .world .primary .state) (b .world .primary .stream) (g .u) (g .u) b)
-    keep-alone a =
+    alone-inv : b .world .primary .state .alone ≡ true → Inv g (after (b .world .primary .state) (b .world .primary .stream) (g .u) (g .u) b)
+    alone-inv a =
         let v = i .holds in
         let k = v .primaryKept in
         record {
@@ -123,8 +123,8 @@ module _ (block : ℕ) (bytes : List ℕ) where
         ap length (append-nil (encode added)) ∙ length-message (g .u) added fits
         ∙ ap (λ (u : ℕ). recordLength u BLOCK) (sym (primary-u g (b .world .primary) (i .holds .primaryKept)))
 
-    keep-protected : b .world .primary .state .alone ≡ false → Facts b → Inv g (after (stateAfter b) (streamAfter b) (g .u) (g .u) b)
-    keep-protected al f =
+    protected-inv : b .world .primary .state .alone ≡ false → Facts b → Inv g (after (stateAfter b) (streamAfter b) (g .u) (g .u) b)
+    protected-inv al f =
         let p = b .world .primary in
         let v = i .holds in
         let k = v .primaryKept in
@@ -172,8 +172,8 @@ module _ (block : ℕ) (bytes : List ℕ) where
           };
         }
 
-pub keep-disk-write : (g : Settings) (block : ℕ) (bytes : List ℕ) → KeepsAccepted g (call.diskWrite block bytes)
-keep-disk-write g block bytes b i e =
+pub disk-write-keeps : (g : Settings) (block : ℕ) (bytes : List ℕ) → KeepsAccepted g (call.diskWrite block bytes)
+disk-write-keeps g block bytes b i e =
     let k = i .holds .primaryKept in
     let p = b .world .primary in
     let f = facts block bytes b e in
@@ -183,8 +183,8 @@ keep-disk-write g block bytes b i e =
     let whole : length bytes ≡ g .u = f .size ∙ u in
     ⊎-elim
     (λ (a : p .state .alone ≡ true).
-    subst (Inv g) (sym (after-is block bytes (g .u) b true a e ∙ ap (λ (v : ℕ). after block bytes (p .state) (p .stream) v (g .u) b) u)) (keep-alone block bytes g b i below whole a))
+    subst (Inv g) (sym (after-is block bytes (g .u) b true a e ∙ ap (λ (v : ℕ). after block bytes (p .state) (p .stream) v (g .u) b) u)) (alone-inv block bytes g b i below whole a))
     (λ (a : p .state .alone ≡ false).
     subst (Inv g) (sym (after-is block bytes (g .u) b false a e ∙ ap (λ (v : ℕ). after block bytes (stateAfter block bytes b) (streamAfter block bytes b) v (g .u) b) u))
-    (keep-protected block bytes g b i below whole a f))
+    (protected-inv block bytes g b i below whole a f))
     (by-test (p .state .alone))

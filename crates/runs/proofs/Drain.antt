@@ -75,8 +75,8 @@ module _ (n : ℕ) (destination : List ℕ) where
         ∙ take-at (take c s) (drop (length (take c s)) destination) c l
         ∙ sym (take-take c (b .world .primary .state .waiting) s (omega arith))
 
-    keep : Inv g (after b)
-    keep =
+    after-inv : Inv g (after b)
+    after-inv =
         let w = b .world in
         let p = w .primary in
         let c = countOf b in
@@ -117,5 +117,5 @@ module _ (n : ℕ) (destination : List ℕ) where
           };
         }
 
-pub keep-drain : (g : Settings) (n : ℕ) (destination : List ℕ) → KeepsAccepted g (call.drain n destination)
-keep-drain g n destination b i e = subst (Inv g) (sym (after-is n destination (g .u) b e)) (keep n destination g b i (facts n destination b e))
+pub drain-keeps : (g : Settings) (n : ℕ) (destination : List ℕ) → KeepsAccepted g (call.drain n destination)
+drain-keeps g n destination b i e = subst (Inv g) (sym (after-is n destination (g .u) b e)) (after-inv n destination g b i (facts n destination b e))

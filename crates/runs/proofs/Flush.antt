@@ -95,9 +95,9 @@ module _ (n : ℕ) where
     none-stored : slots .due ≡ 0 → stored (g .u) (slots .numbers) (b .world .standby .stagedBlocks) (b .world .standby .disk) (flushCount slots n) ≡ b .world .standby .disk
     none-stored z = let c : flushCount slots n ≡ 0 = omega arith in rw c (stored-none (g .u) (slots .numbers) (b .world .standby .stagedBlocks) (b .world .standby .disk))
 
-    keep : Inv g (after (g .u) b)
+    after-inv : Inv g (after (g .u) b)
     unfolding flushed
-    keep =
+    after-inv =
         let e = b .world .standby in
         let c = flushCount slots n in
         let v = i .holds in
@@ -141,6 +141,6 @@ module _ (n : ℕ) where
           };
         }
 
-pub keep-flush : (g : Settings) (n : ℕ) → KeepsAccepted g (call.flush n)
-keep-flush g n b i e =
-    subst (Inv g) (sym (after-is n (g .u) b e ∙ ap (λ (v : ℕ). after n v b) (standby-u g (b .world .standby) (i .holds .standbyKept)))) (keep n g b i)
+pub flush-keeps : (g : Settings) (n : ℕ) → KeepsAccepted g (call.flush n)
+flush-keeps g n b i e =
+    subst (Inv g) (sym (after-is n (g .u) b e ∙ ap (λ (v : ℕ). after n v b) (standby-u g (b .world .standby) (i .holds .standbyKept)))) (after-inv n g b i)

@@ -66,9 +66,9 @@ module _ (page offset : ℕ) (bytes : List ℕ) where
     word : page / 64 < length (b .world .primary .dirty)
     word = rw (i .holds .primaryKept .dirty) (words-cover (g .m) page below)
 
-    keep : Inv g (after (g .u) (g .u) b)
+    after-inv : Inv g (after (g .u) (g .u) b)
     unfolding written
-    keep =
+    after-inv =
         let p = b .world .primary in
         let v = i .holds in
         let k = v .primaryKept in
@@ -101,11 +101,11 @@ module _ (page offset : ℕ) (bytes : List ℕ) where
           };
         }
 
-pub keep-memory-write : (g : Settings) (page offset : ℕ) (bytes : List ℕ) → KeepsAccepted g (call.memoryWrite page offset bytes)
-keep-memory-write g page offset bytes b i e =
+pub memory-write-keeps : (g : Settings) (page offset : ℕ) (bytes : List ℕ) → KeepsAccepted g (call.memoryWrite page offset bytes)
+memory-write-keeps g page offset bytes b i e =
     let k = i .holds .primaryKept in
     let f = facts page offset bytes b e in
     let m = primary-m g (b .world .primary) k in
     let u = primary-u g (b .world .primary) k in
     subst (Inv g) (sym (after-is page offset bytes (g .u) b e ∙ ap (λ (v : ℕ). after page offset bytes v (g .u) b) u))
-    (keep page offset bytes g b i (omega (arith, f .below)) (omega (arith, f .inside)))
+    (after-inv page offset bytes g b i (omega (arith, f .below)) (omega (arith, f .inside)))

@@ -47,8 +47,8 @@ module _ (bytes : List ℕ) where
   unfolding step packetReply
   facts b e = packet-accepted (b .world .primary .state) (length (b .world .primary .held)) (length bytes) e
 
-  keep : (g : Settings) (b : Both) → Inv g b → PacketFacts (b .world .primary .state) (length (b .world .primary .held)) (length bytes) → Inv g (after b)
-  keep g b i f =
+  after-inv : (g : Settings) (b : Both) → Inv g b → PacketFacts (b .world .primary .state) (length (b .world .primary .held)) (length bytes) → Inv g (after b)
+  after-inv g b i f =
       let p = b .world .primary in
       let v = i .holds in
       let k = v .primaryKept in
@@ -85,5 +85,5 @@ module _ (bytes : List ℕ) where
         };
       }
 
-pub keep-packet : (g : Settings) (bytes : List ℕ) → KeepsAccepted g (call.packet bytes)
-keep-packet g bytes b i e = subst (Inv g) (sym (after-is bytes (g .u) b e)) (keep bytes g b i (facts bytes b e))
+pub packet-keeps : (g : Settings) (bytes : List ℕ) → KeepsAccepted g (call.packet bytes)
+packet-keeps g bytes b i e = subst (Inv g) (sym (after-is bytes (g .u) b e)) (after-inv bytes g b i (facts bytes b e))

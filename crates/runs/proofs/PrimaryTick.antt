@@ -68,8 +68,8 @@ module _ (g : Settings) (b : Both) (i : Inv g b) where
       (countIs : alone ≡ false → c ≡ n)
       (quiet : b .plain .a + 1 ≡ length (b .plain .checkpoints) → n ≡ 0)
       (reached : PrimaryReached (withDetector (b .world .primary .state) (withCount (b .world .primary .state .detector) c) alone waiting)) where
-    keep-by : Inv g (after (withDetector (b .world .primary .state) (withCount (b .world .primary .state .detector) c) alone waiting) n b)
-    keep-by =
+    tick-inv : Inv g (after (withDetector (b .world .primary .state) (withCount (b .world .primary .state .detector) c) alone waiting) n b)
+    tick-inv =
         let p = b .world .primary in
         let v = i .holds in
         let h = i .ghost in
@@ -119,26 +119,26 @@ module _ (g : Settings) (b : Both) (i : Inv g b) where
         }
 
   -- alone: only the plain count goes on
-  keep-alone : state .alone ≡ true → (n : ℕ) → b .plain .count ≤ n → (b .plain .a + 1 ≡ length (b .plain .checkpoints) → n ≡ 0) → Inv g (after (b .world .primary .state) n b)
-  keep-alone a n l q =
+  alone-inv : state .alone ≡ true → (n : ℕ) → b .plain .count ≤ n → (b .plain .a + 1 ≡ length (b .plain .checkpoints) → n ≡ 0) → Inv g (after (b .world .primary .state) n b)
+  alone-inv a n l q =
       let p = b .world .primary .state in
       let t : g .t ≤ b .plain .count = leb-true (g .t) (b .plain .count) (sym (i .holds .detector .aloneIs) ∙ a) in
-      keep-by (p .detector .count) n (p .waiting) (p .alone) (i .ghost .lost) refl
+      tick-inv (p .detector .count) n (p .waiting) (p .alone) (i .ghost .lost) refl
       (λ z. absurd (true≢false (sym a ∙ z))) (λ z. z) (a ∙ sym (le-leb (g .t) n (omega arith))) (λ z. absurd (true≢false (sym a ∙ z))) q (i .holds .primaryKept .reached)
 
   -- protected, and still so after the tick
-  keep-watched : state .alone ≡ false → (n : ℕ) → n < g .t → (b .plain .a + 1 ≡ length (b .plain .checkpoints) → n ≡ 0)
+  watched-inv : state .alone ≡ false → (n : ℕ) → n < g .t → (b .plain .a + 1 ≡ length (b .plain .checkpoints) → n ≡ 0)
       → PrimaryReached (withDetector (b .world .primary .state) (withCount (b .world .primary .state .detector) n) false (b .world .primary .state .waiting))
       → Inv g (after (withDetector (b .world .primary .state) (withCount (b .world .primary .state .detector) n) false (b .world .primary .state .waiting)) n b)
-  keep-watched a n l q r =
-      keep-by n n (b .world .primary .state .waiting) false (i .ghost .lost) refl (λ z. i .holds .link .lossless a) (λ z. a) (sym (lt-leb (g .t) n l)) (λ z. refl) q r
+  watched-inv a n l q r =
+      tick-inv n n (b .world .primary .state .waiting) false (i .ghost .lost) refl (λ z. i .holds .link .lossless a) (λ z. a) (sym (lt-leb (g .t) n l)) (λ z. refl) q r
 
   -- the tick at which the primary becomes alone: what waits is lost
-  keep-full : (n : ℕ) → n ≡ g .t → (b .plain .a + 1 ≡ length (b .plain .checkpoints) → n ≡ 0)
+  full-inv : (n : ℕ) → n ≡ g .t → (b .plain .a + 1 ≡ length (b .plain .checkpoints) → n ≡ 0)
       → PrimaryReached (withDetector (b .world .primary .state) (withCount (b .world .primary .state .detector) n) true 0)
       → Inv g (after (withDetector (b .world .primary .state) (withCount (b .world .primary .state .detector) n) true 0) n b)
-  keep-full n l q r =
-      keep-by n n 0 true (take (b .world .primary .state .waiting) (b .world .primary .stream) ++ i .ghost .lost) refl
+  full-inv n l q r =
+      tick-inv n n 0 true (take (b .world .primary .state .waiting) (b .world .primary .stream) ++ i .ghost .lost) refl
       (λ z. absurd (true≢false z)) (λ z. absurd (true≢false z)) (sym (le-leb (g .t) n (omega arith))) (λ z. absurd (true≢false z)) q r
 
   -- ---- the three, by what the tick finds
@@ -152,9 +152,9 @@ module _ (g : Settings) (b : Both) (i : Inv g b) where
 
   by-alone : state .alone ≡ true → (o : Bool) → unacknowledged (b .plain) ≡ o → Kept (primaryTickState (b .world .primary .state)) (cond o (b .plain .count + 1) (b .plain .count))
   by-alone a true e =
-      by-state state (b .plain .count + 1) (tick-alone state a) (λ r. keep-alone a (b .plain .count + 1) (omega arith) (λ z. absurd (true≢false (sym e ∙ ap not (eq-eqb _ _ z)))))
+      by-state state (b .plain .count + 1) (tick-alone state a) (λ r. alone-inv a (b .plain .count + 1) (omega arith) (λ z. absurd (true≢false (sym e ∙ ap not (eq-eqb _ _ z)))))
   by-alone a false e =
-      by-state state (b .plain .count) (tick-alone state a) (λ r. keep-alone a (b .plain .count) (omega arith) (i .holds .detector .quiet))
+      by-state state (b .plain .count) (tick-alone state a) (λ r. alone-inv a (b .plain .count) (omega arith) (i .holds .detector .quiet))
 
   by-watched : state .alone ≡ false → (o : Bool) → unacknowledged (b .plain) ≡ o → Kept (primaryTickState (b .world .primary .state)) (cond o (b .plain .count + 1) (b .plain .count))
   by-watched a true e =
@@ -169,11 +169,11 @@ module _ (g : Settings) (b : Both) (i : Inv g b) where
       (λ (h : p .detector .count + 1 < p .detector .patience).
       by-state (withDetector p (withCount (p .detector) n) false (p .waiting)) n
       (tick-counts p a low o h ∙ ap (λ (x : ℕ). withDetector p (withCount (p .detector) x) false (p .waiting)) same)
-      (keep-watched a n (omega arith) quiet))
+      (watched-inv a n (omega arith) quiet))
       (λ (h : p .detector .patience ≤ p .detector .count + 1).
       by-state (withDetector p (withCount (p .detector) n) true 0) n
       (tick-leaves p a low o h ∙ ap (λ (x : ℕ). withDetector p (withCount (p .detector) x) true 0) same)
-      (keep-full n (omega arith) quiet))
+      (full-inv n (omega arith) quiet))
       (lt-or-ge (p .detector .count + 1) (p .detector .patience))
   by-watched a false e =
       let p = b .world .primary .state in
@@ -183,10 +183,10 @@ module _ (g : Settings) (b : Both) (i : Inv g b) where
       let none : n ≡ 0 = i .holds .detector .quiet (eqb-true (b .plain .a + 1) (length (b .plain .checkpoints)) (not-false _ e)) in
       by-state (withDetector p (withCount (p .detector) n) false (p .waiting)) n
       (tick-rests p a (d .below (ap not a)) (outstanding-is ∙ e) ∙ ap (λ (x : ℕ). withDetector p (withCount (p .detector) x) false (p .waiting)) (sym none))
-      (keep-watched a n (omega (arith, d .t-low)) (λ z. none))
+      (watched-inv a n (omega (arith, d .t-low)) (λ z. none))
 
-pub keep-primary-tick : (g : Settings) → KeepsAccepted g call.primaryTick
-keep-primary-tick g b i e =
+pub primary-tick-keeps : (g : Settings) → KeepsAccepted g call.primaryTick
+primary-tick-keeps g b i e =
     let o = unacknowledged (b .plain) in
     subst (Inv g) (sym (after-is (g .u) b e))
     (⊎-elim (λ a. by-alone g b i a o refl) (λ a. by-watched g b i a o refl) (by-test (b .world .primary .state .alone)))

@@ -2,39 +2,39 @@
 use Rattle.settings.specs.declared.Settings.{Settings}
 use Rattle.runs.specs.Demand3.{Demand3}
 use Rattle.runs.proofs.Frame.{PerCall, demand-3-from}
-use Rattle.runs.proofs.MemoryWrite.{keep-memory-write}
-use Rattle.runs.proofs.DiskWrite.{keep-disk-write}
-use Rattle.runs.proofs.Packet.{keep-packet}
-use Rattle.runs.proofs.CheckpointCall.{keep-checkpoint}
-use Rattle.runs.proofs.Drain.{keep-drain}
-use Rattle.runs.proofs.Ack.{keep-ack}
-use Rattle.runs.proofs.Take.{keep-take, take-right}
-use Rattle.runs.proofs.PrimaryTick.{keep-primary-tick}
-use Rattle.runs.proofs.ReadCall.{keep-read}
-use Rattle.runs.proofs.Flush.{keep-flush}
-use Rattle.runs.proofs.StandbyTick.{keep-standby-tick}
-use Rattle.runs.proofs.Activation.{keep-activation}
-use Rattle.runs.proofs.ActiveWrites.{keep-active-memory-write, keep-active-disk-write}
+use Rattle.runs.proofs.MemoryWrite.{memory-write-keeps}
+use Rattle.runs.proofs.DiskWrite.{disk-write-keeps}
+use Rattle.runs.proofs.Packet.{packet-keeps}
+use Rattle.runs.proofs.CheckpointCall.{checkpoint-keeps}
+use Rattle.runs.proofs.Drain.{drain-keeps}
+use Rattle.runs.proofs.Ack.{ack-keeps}
+use Rattle.runs.proofs.Take.{take-keeps, take-right}
+use Rattle.runs.proofs.PrimaryTick.{primary-tick-keeps}
+use Rattle.runs.proofs.ReadCall.{read-keeps}
+use Rattle.runs.proofs.Flush.{flush-keeps}
+use Rattle.runs.proofs.StandbyTick.{standby-tick-keeps}
+use Rattle.runs.proofs.Activation.{activation-keeps}
+use Rattle.runs.proofs.ActiveWrites.{active-memory-write-keeps, active-disk-write-keeps}
 use Rattle.runs.proofs.TakeoverCalls.{takeover-law}
 use Rattle.runs.proofs.StartCall.{start-law}
 
 pub per-call : (g : Settings) → PerCall g
 per-call g =
     record {
-      memoryWrite = keep-memory-write g;
-      diskWrite = keep-disk-write g;
-      packet = keep-packet g;
-      checkpoint = keep-checkpoint g;
-      drain = keep-drain g;
-      ack = keep-ack g;
-      take = keep-take g;
-      primaryTick = keep-primary-tick g;
-      read = keep-read g;
-      flush = keep-flush g;
-      standbyTick = keep-standby-tick g;
-      activation = keep-activation g;
-      activeMemoryWrite = keep-active-memory-write g;
-      activeDiskWrite = keep-active-disk-write g;
+      memoryWrite = memory-write-keeps g;
+      diskWrite = disk-write-keeps g;
+      packet = packet-keeps g;
+      checkpoint = checkpoint-keeps g;
+      drain = drain-keeps g;
+      ack = ack-keeps g;
+      take = take-keeps g;
+      primaryTick = primary-tick-keeps g;
+      read = read-keeps g;
+      flush = flush-keeps g;
+      standbyTick = standby-tick-keeps g;
+      activation = activation-keeps g;
+      activeMemoryWrite = active-memory-write-keeps g;
+      activeDiskWrite = active-disk-write-keeps g;
     }
 
 pub demand-3 : Demand3

@@ -40,8 +40,8 @@ use Rattle.runs.proofs.Invariant.{Inv}
 use Rattle.runs.proofs.KeptLaws.{standby-u, standby-unit, lent-memory, lent-pages, lent-marks, lent-blocks}
 use Rattle.runs.proofs.RecordSteps.{readSeen, readBy, read-step}
 use Rattle.runs.proofs.Reading.{Reading, none, one, read-next}
-use Rattle.runs.proofs.ReadStaged.{Next, stagedAfter, pageEnd, blockEnd, stateEnd, keep-page, keep-block, keep-state}
-use Rattle.runs.proofs.ReadCommit.{commitAfter, keep-commit}
+use Rattle.runs.proofs.ReadStaged.{Next, stagedAfter, pageEnd, blockEnd, stateEnd, page-inv, block-inv, state-inv}
+use Rattle.runs.proofs.ReadCommit.{commitAfter, commit-inv}
 use Rattle.runs.proofs.Frame.{Accepted, KeepsAccepted}
 
 -- the ACK that a COMMIT writes is what the reply then begins with
@@ -127,20 +127,20 @@ module _ (g : Settings) (b : Both) (i : Inv g b) (n : ℕ) (reply : List ℕ) wh
     by-message (message.page e p bs) xs first f whole rest z =
         let x = message.page e p bs in
         subst (Inv g) (sym (page-is e p bs (subst (λ (v : ℕ). message.Fits v x) (sym same-u) (f .0)) whole ∙ ap (λ (v : ℕ). stagedAfter b (pageEnd g b i v p bs) (length (encode x))) same-u))
-        (keep-page g b i e p bs xs (record { first = first; behind = rest; before = refl; fits = f .0; receives = on }) (page-accepted state e p z))
+        (page-inv g b i e p bs xs (record { first = first; behind = rest; before = refl; fits = f .0; receives = on }) (page-accepted state e p z))
     by-message (message.block e m bs) xs first f whole rest z =
         let x = message.block e m bs in
         subst (Inv g) (sym (block-is e m bs (subst (λ (v : ℕ). message.Fits v x) (sym same-u) (f .0)) whole ∙ ap (λ (v : ℕ). stagedAfter b (blockEnd g b i v m bs) (length (encode x))) same-u))
-        (keep-block g b i e m bs xs (record { first = first; behind = rest; before = refl; fits = f .0; receives = on }) (block-accepted state e m z))
+        (block-inv g b i e m bs xs (record { first = first; behind = rest; before = refl; fits = f .0; receives = on }) (block-accepted state e m z))
     by-message (message.state e bs) xs first f whole rest z =
         let x = message.state e bs in
         subst (Inv g) (sym (state-is e bs (subst (λ (v : ℕ). message.Fits v x) (sym same-u) (f .0)) whole))
-        (keep-state g b i e bs xs (record { first = first; behind = rest; before = refl; fits = f .0; receives = on }))
+        (state-inv g b i e bs xs (record { first = first; behind = rest; before = refl; fits = f .0; receives = on }))
     by-message (message.commit e p m) xs first f whole rest z =
         let x = message.commit e p m in
         let t = commit-accepted state (length reply) e p m z in
         subst (Inv g) (sym (commit-is e p m (subst (λ (v : ℕ). message.Fits v x) (sym same-u) (f .0)) ∙ ap (λ (y : StandbySettings). commitAfter b e y (length (encode x)) (ackRecord e)) (i .holds .standbyKept .settings)))
-        (keep-commit g b e p m xs on (t .after-state) (t .epoch-next) i first rest)
+        (commit-inv g b e p m xs on (t .after-state) (t .epoch-next) i first rest)
     by-message (message.ack e) xs first f whole rest z = absurd (false≢true (f .1))
 
     -- ---- what is judged is the record read, or its refusal
@@ -166,8 +166,8 @@ module _ (g : Settings) (b : Both) (i : Inv g b) (n : ℕ) (reply : List ℕ) wh
           absurd (a (sym (ap (λ (y : Record). numberOf (answerOf y)) (seen r z ∙ unless-refused m r a)) ∙ accepted)))
           (eq-or-ne m 0)
 
-pub keep-read : (g : Settings) (n : ℕ) (reply : List ℕ) → KeepsAccepted g (call.read n reply)
-keep-read g n reply b i e =
+pub read-keeps : (g : Settings) (n : ℕ) (reply : List ℕ) → KeepsAccepted g (call.read n reply)
+read-keeps g n reply b i e =
     let s = b .world .standby in
     let k = i .holds .standbyKept in
     let h = i .ghost in

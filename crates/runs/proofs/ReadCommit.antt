@@ -97,14 +97,14 @@ module _ (g : Settings) (b : Both) (epoch p n : ℕ) (xs : List Message) (on : i
   abbrev x : Message
   x = message.commit epoch p n
 
-  keep-commit-at : (base : Checkpoint) (ahead : List Epoch) (opened consumed pending : List Message) (lost : List ℕ) (acks : List ℕ)
+  commit-inv-at : (base : Checkpoint) (ahead : List Epoch) (opened consumed pending : List Message) (lost : List ℕ) (acks : List ℕ)
       → InvAt g (record { base = base; ahead = ahead; opened = opened; consumed = consumed; pending = pending; lost = lost; acks = acks }) b
       → pending ≡ message.commit epoch p n ∷ xs
       → drop (length (encode (message.commit epoch p n))) (b .world .link) ++ (take (b .world .primary .state .waiting) (b .world .primary .stream) ++ lost) ≡ encodeAll xs
       → Inv g (commitAfter b epoch (ofStandby g) (length (encode (message.commit epoch p n))) (ackRecord epoch))
-  keep-commit-at base [] opened consumed pending lost acks v first behind =
+  commit-inv-at base [] opened consumed pending lost acks v first behind =
       absurd (no-commit consumed xs epoch p n opened (v .link .openedBefore) (ap (λ (l : List Message). consumed ++ l) (sym first) ∙ v .link .records))
-  keep-commit-at base (c ∷ cs) opened consumed pending lost acks v first behind =
+  commit-inv-at base (c ∷ cs) opened consumed pending lost acks v first behind =
       let e = b .world .standby in
       let s = e .state in
       let t = v .taker in
@@ -179,9 +179,9 @@ module _ (g : Settings) (b : Both) (epoch p n : ℕ) (xs : List Message) (on : i
         };
       }
 
-  pub keep-commit : (i : Inv g b) → i .ghost .pending ≡ message.commit epoch p n ∷ xs
+  pub commit-inv : (i : Inv g b) → i .ghost .pending ≡ message.commit epoch p n ∷ xs
       → drop (length (encode (message.commit epoch p n))) (b .world .link) ++ (take (b .world .primary .state .waiting) (b .world .primary .stream) ++ i .ghost .lost) ≡ encodeAll xs
       → Inv g (commitAfter b epoch (ofStandby g) (length (encode (message.commit epoch p n))) (ackRecord epoch))
-  keep-commit i first behind =
+  commit-inv i first behind =
       let h = i .ghost in
-      keep-commit-at (h .base) (h .ahead) (h .opened) (h .consumed) (h .pending) (h .lost) (h .acks) (i .holds) first behind
+      commit-inv-at (h .base) (h .ahead) (h .opened) (h .consumed) (h .pending) (h .lost) (h .acks) (i .holds) first behind

@@ -55,9 +55,9 @@ pub record Next (g : Settings) (b : Both) (i : Inv g b) (x : Message) (xs : List
 module _ (g : Settings) (b : Both) (i : Inv g b) where
   -- every group but those of the standby
   module _ (x : Message) (xs : List Message) (n : Next g b i x xs) where
-    pub keep-staged : (e : StandbyEnd) → Taker (g .u) (g .m) e (b .plain .activated) (b .plain .standbyMemory) (b .plain .standbyDisk) (i .ghost .base) (i .ghost .consumed ++ (x ∷ [])) (b .plain .r)
+    pub staged-inv : (e : StandbyEnd) → Taker (g .u) (g .m) e (b .plain .activated) (b .plain .standbyMemory) (b .plain .standbyDisk) (i .ghost .base) (i .ghost .consumed ++ (x ∷ [])) (b .plain .r)
         → StandbyKept g e → Inv g (stagedAfter b e (length (encode x)))
-    keep-staged e t k =
+    staged-inv e t k =
         let v = i .holds in
         let h = i .ghost in
         let readable : All (Readable (g .u)) (x ∷ xs) = subst (All (Readable (g .u))) (n .first) (v .link .readable) in
@@ -102,9 +102,9 @@ module _ (g : Settings) (b : Both) (i : Inv g b) where
       let e = b .world .standby in
       stagedEnd e (withPages (e .state) (e .state .pages + 1) (p + 1)) (withPage v (e .stagedPages) p bs) (withMark (e .stagedMarks) p) (e .stagedBlocks)
 
-  pub keep-page : (epoch p : ℕ) (bs : List ℕ) (xs : List Message) → Next g b i (message.page epoch p bs) xs → PageTests (b .world .standby .state) epoch p
+  pub page-inv : (epoch p : ℕ) (bs : List ℕ) (xs : List Message) → Next g b i (message.page epoch p bs) xs → PageTests (b .world .standby .state) epoch p
       → Inv g (stagedAfter b (pageEnd (g .u) p bs) (length (encode (message.page epoch p bs))))
-  keep-page epoch p bs xs n f =
+  page-inv epoch p bs xs n f =
       let x = message.page epoch p bs in
       let e = b .world .standby in
       let s = e .state in
@@ -115,7 +115,7 @@ module _ (g : Settings) (b : Both) (i : Inv g b) where
       let whole : length bs ≡ g .u = n .fits .2 in
       let inside : p * g .u + g .u ≤ length (e .stagedPages) = omega (arith, page-end p (g .m) (g .u) below, k .stagedPages) in
       let word : p / 64 < length (e .stagedMarks) = rw (k .stagedMarks) (words-cover (g .m) p below) in
-      keep-staged x xs n (pageEnd (g .u) p bs)
+      staged-inv x xs n (pageEnd (g .u) p bs)
       (record {
         receivedIs = t .receivedIs;
         modeIs = t .modeIs;
@@ -151,10 +151,10 @@ module _ (g : Settings) (b : Both) (i : Inv g b) where
       let e = b .world .standby in
       stagedEnd e (withSlots (e .state) (withBlock (e .state .slots) n) (e .state .blocks + 1)) (e .stagedPages) (e .stagedMarks) (withBlockBytes v (e .state .slots) (e .stagedBlocks) bs)
 
-  pub keep-block : (epoch m : ℕ) (bs : List ℕ) (xs : List Message) → Next g b i (message.block epoch m bs) xs → BlockTests (b .world .standby .state) epoch m
+  pub block-inv : (epoch m : ℕ) (bs : List ℕ) (xs : List Message) → Next g b i (message.block epoch m bs) xs → BlockTests (b .world .standby .state) epoch m
       → Inv g (stagedAfter b (blockEnd (g .u) m bs) (length (encode (message.block epoch m bs))))
   unfolding withBlockBytes withBlock storeAll
-  keep-block epoch m bs xs n f =
+  block-inv epoch m bs xs n f =
       let x = message.block epoch m bs in
       let e = b .world .standby in
       let s = e .state in
@@ -169,7 +169,7 @@ module _ (g : Settings) (b : Both) (i : Inv g b) where
       let less : s .slots .staged < 64 = omega arith in
       let one : Staged = record { number = m; bytes = bs } in
       let more = list-with-block (g .u) (s .slots) (e .stagedBlocks) (r .numbers) m bs less whole room in
-      keep-staged x xs n (blockEnd (g .u) m bs)
+      staged-inv x xs n (blockEnd (g .u) m bs)
       (record {
         receivedIs = t .receivedIs;
         modeIs = t .modeIs;
@@ -204,15 +204,15 @@ module _ (g : Settings) (b : Both) (i : Inv g b) where
   abbrev pub stateEnd : List ℕ → StandbyEnd
   stateEnd bs = let e = b .world .standby in stagedEnd e (withState (e .state) bs) (e .stagedPages) (e .stagedMarks) (e .stagedBlocks)
 
-  pub keep-state : (epoch : ℕ) (bs : List ℕ) (xs : List Message) → Next g b i (message.state epoch bs) xs
+  pub state-inv : (epoch : ℕ) (bs : List ℕ) (xs : List Message) → Next g b i (message.state epoch bs) xs
       → Inv g (stagedAfter b (stateEnd bs) (length (encode (message.state epoch bs))))
-  keep-state epoch bs xs n =
+  state-inv epoch bs xs n =
       let x = message.state epoch bs in
       let e = b .world .standby in
       let s = e .state in
       let t = i .holds .taker in
       let k = i .holds .standbyKept in
-      keep-staged x xs n (stateEnd bs)
+      staged-inv x xs n (stateEnd bs)
       (record {
         receivedIs = t .receivedIs;
         modeIs = t .modeIs;

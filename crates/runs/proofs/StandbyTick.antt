@@ -56,9 +56,9 @@ counted s = withDetector s (ticked (s .detector) true)
 
 module _ (g : Settings) (b : Both) (i : Inv g b) where
   -- a tick that only counts
-  keep-counted : isReceiving (b .world .standby .state .mode) ≡ true → expired (ticked (b .world .standby .state .detector) true) ≡ false
+  counted-inv : isReceiving (b .world .standby .state .mode) ≡ true → expired (ticked (b .world .standby .state .detector) true) ≡ false
       → Inv g (after (counted (b .world .standby .state)) (b .world .standby .stagedMarks) b)
-  keep-counted on f =
+  counted-inv on f =
       let e = b .world .standby in
       let v = i .holds in
       let k = v .standbyKept in
@@ -103,9 +103,9 @@ module _ (g : Settings) (b : Both) (i : Inv g b) where
       }
 
   -- the tick at which the standby takes over
-  keep-dropped : isReceiving (b .world .standby .state .mode) ≡ true → expired (ticked (b .world .standby .state .detector) true) ≡ true
+  dropped-inv : isReceiving (b .world .standby .state .mode) ≡ true → expired (ticked (b .world .standby .state .detector) true) ≡ true
       → Inv g (after (withMode (dropped (counted (b .world .standby .state))) TakingOver) (cleared (b .world .standby .stagedMarks) (b .world .standby .state .settings .m)) b)
-  keep-dropped on f =
+  dropped-inv on f =
       let e = b .world .standby in
       let v = i .holds in
       let k = v .standbyKept in
@@ -165,9 +165,9 @@ module _ (g : Settings) (b : Both) (i : Inv g b) where
   by : (on full : Bool) → isReceiving (b .world .standby .state .mode) ≡ on → expired (ticked (b .world .standby .state .detector) true) ≡ full
       → Kept (standbyTickState (b .world .standby .state)) (takesOver (b .world .standby .state))
   by false full x y = let s = b .world .standby .state in by-state s false (tick-rests s x) i
-  by true false x y = let s = b .world .standby .state in by-state (counted s) false (tick-counts s x y) (keep-counted x y)
-  by true true x y = let s = b .world .standby .state in by-state (withMode (dropped (counted s)) TakingOver) true (tick-takes-over s x y) (keep-dropped x y)
+  by true false x y = let s = b .world .standby .state in by-state (counted s) false (tick-counts s x y) (counted-inv x y)
+  by true true x y = let s = b .world .standby .state in by-state (withMode (dropped (counted s)) TakingOver) true (tick-takes-over s x y) (dropped-inv x y)
 
-pub keep-standby-tick : (g : Settings) → KeepsAccepted g call.standbyTick
-keep-standby-tick g b i e =
+pub standby-tick-keeps : (g : Settings) → KeepsAccepted g call.standbyTick
+standby-tick-keeps g b i e =
     subst (Inv g) (sym (after-is (g .u) b e)) (by g b i (isReceiving (b .world .standby .state .mode)) (expired (ticked (b .world .standby .state .detector) true)) refl refl)

@@ -81,8 +81,8 @@ module _ (destination : List ℕ) where
         (held-oldest (p .state .queue) (k .packets) (p .state .epoch) (p .state .settings .q) (primary-facts (p .state) (f .ok) .queue) (p .held) (f .held-is) (f .released .some))
         (i .holds .packets)
 
-    keep : Inv g (after b)
-    keep =
+    after-inv : Inv g (after b)
+    after-inv =
         let p = b .world .primary in
         let v = i .holds in
         let k = v .primaryKept in
@@ -141,8 +141,8 @@ module _ (destination : List ℕ) where
         handed-accepted b e
         ∙ handed-out (p .state .queue) (k .packets) (p .state .epoch) (p .state .settings .q) (primary-facts (p .state) (f .ok) .queue) (p .held) (f .held-is) (f .released .some) destination
 
-pub keep-take : (g : Settings) (destination : List ℕ) → KeepsAccepted g (call.take destination)
-keep-take g destination b i e = subst (Inv g) (sym (after-is destination (g .u) b e)) (keep destination g b i (facts destination b e))
+pub take-keeps : (g : Settings) (destination : List ℕ) → KeepsAccepted g (call.take destination)
+take-keeps g destination b i e = subst (Inv g) (sym (after-is destination (g .u) b e)) (after-inv destination g b i (facts destination b e))
 
 pub take-right : (g : Settings) → TakeLaw g
 take-right g b i destination =

@@ -38,11 +38,11 @@ use Rattle.runs.proofs.Invariant.{StandbyKept, Inv}
 use Rattle.runs.proofs.Conclusions.{standby-right}
 use Rattle.runs.proofs.ModeLaws.{taking-not-receiving}
 use Rattle.runs.proofs.KeptLaws.{lent-disk, lent-marks, lent-blocks}
-use Rattle.runs.proofs.StandbyTick.{keep-standby-tick}
+use Rattle.runs.proofs.StandbyTick.{standby-tick-keeps}
 use Rattle.runs.proofs.StandbyTick as tick
-use Rattle.runs.proofs.Flush.{keep-flush}
+use Rattle.runs.proofs.Flush.{flush-keeps}
 use Rattle.runs.proofs.Flush as flush
-use Rattle.runs.proofs.Activation.{keep-activation}
+use Rattle.runs.proofs.Activation.{activation-keeps}
 use Rattle.runs.proofs.PlainLaws.{run-append, Activated, activation-plain}
 use Rattle.runs.proofs.Frame.{Accepted, TakeoverLaw}
 
@@ -123,7 +123,7 @@ module _ (g : Settings) where
       let t = one-tick s k (λ on. lt-leb (s .detector .patience) (s .detector .count) (omega (arith, fresh-at b i on, i .holds .standbyKept .patience))) w in
       let t₁ : Ticked k (s .slots .due) (b₁ .world .standby .state) = subst (λ (x : Both). Ticked k (s .slots .due) (x .world .standby .state)) (sym is) t in
       let p₁ : b₁ .plain ≡ b .plain = ap (λ (x : Both). x .plain) is in
-      let r = after-ticks k b₁ (keep-standby-tick g b i a) (t₁ .waits) in
+      let r = after-ticks k b₁ (standby-tick-keeps g b i a) (t₁ .waits) in
       record { accepted = (a, r .accepted); inv = r .inv; takes = r .takes; same = r .same ∙ t₁ .same; plain = r .plain ∙ p₁ }
 
   -- ---- the flush: nothing stays due
@@ -152,10 +152,10 @@ module _ (g : Settings) where
       let r : After b ticks (b .world .standby .state .slots .due) b₁ = after-ticks (g .t) b i (waits-of (b .world .standby .state .mode) (b .world .standby .state .detector .count) off) in
       let a₂ = flush-accepted b₁ (r .inv .holds .standbyKept) n in
       let f : Flushed b₁ b₂ = after-flush b₁ n a₂ (r .takes) (omega (arith, r .same)) in
-      let i₂ : Inv g b₂ = keep-flush g n b₁ (r .inv) a₂ in
+      let i₂ : Inv g b₂ = flush-keeps g n b₁ (r .inv) a₂ in
       let a₃ = activation-accepted b₂ (i₂ .holds .standbyKept) (f .takes) (f .none) in
       let t : Activated (b₂ .plain) (b₃ .plain) = activation-plain (g .u) b₂ a₃ in
-      let i₃ : Inv g b₃ = keep-activation g b₂ i₂ a₃ in
+      let i₃ : Inv g b₃ = activation-keeps g b₂ i₂ a₃ in
       let c = standby-right g b₃ i₃ in
       let on : active (b₃ .world) ≡ true = c .same ∙ t .activated in
       let plain : b₂ .plain ≡ b .plain = f .plain ∙ r .plain in
