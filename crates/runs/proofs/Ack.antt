@@ -1,11 +1,10 @@
 -- An accepted ACK keeps the invariant. Assumes nothing.
-use Prim.Native.Nat.{ℕ, _+_, _≤_, _<_, _^_}
+use Prim.Native.Nat.{ℕ, _<_, _^_}
 use mathlib.Core.Path.{_≡_, refl, sym, ap, _∙_, subst}
 use mathlib.Core.Logic.{⊎-elim}
-use mathlib.Core.Bool.{Bool, true, false, not, true≢false}
-use mathlib.Core.List.{List, [], _∷_, _++_, map, append-nil}
+use mathlib.Core.Bool.{true, false}
+use mathlib.Core.List.{List, [], _∷_, map, append-nil}
 use native.Mathlib.Omega.{arith}
-use lib.Dec.{leb}
 use lib.ListN.{length, take, drop}
 use borrow.Author.Tests.{not-true, lt-leb}
 use Rattle.lists.proofs.TestLaws.{by-test, eq-or-ne}
@@ -24,20 +23,19 @@ use Rattle.rules.specs.declared.Primary.{Primary}
 use Rattle.rules.specs.PrimaryState.{protected, withAcknowledged}
 use Rattle.rules.specs.Reply.{answerOf, numberOf, unlessRefused}
 use Rattle.rules.specs.Stream.{ackRefusal}
-use Rattle.rules.specs.World.{World}
 use Rattle.rules.specs.World as call
-use Rattle.rules.specs.Step.{Stepped, step}
+use Rattle.rules.specs.Step.{Stepped}
 use Rattle.rules.proofs.ReplyLaws.{unless-accepted, unless-refused}
 use Rattle.rules.proofs.StreamLaws.{AckFacts, ack-epochs, ack-mode, ack-number, ack-state-reached}
 use Rattle.rules.proofs.PrimaryFacts.{primary-facts}
 use Rattle.runs.specs.Plain.{withCounts, plainAccepted, plainStep}
 use Rattle.runs.specs.Run.{Both, steps, runCall}
 use Rattle.runs.proofs.Effects.{All, ReadableBy}
-use Rattle.runs.proofs.Invariant.{Rising, Detector, Inv}
+use Rattle.runs.proofs.Invariant.{Rising, Inv}
 use Rattle.runs.proofs.Conclusions.{received-exists, rising-le}
 use Rattle.runs.proofs.RecordSteps.{ackSeen, ackBy, ack-step}
 use Rattle.runs.proofs.Reading.{Reading, none, one, read-next}
-use Rattle.runs.proofs.Frame.{Accepted, KeepsAccepted}
+use Rattle.runs.proofs.Frame.{KeepsAccepted}
 
 -- ---- the ACKs under way are readable
 acks-readable : (u a r : ℕ) (es : List ℕ) → r < 2 ^ 32 → Rising a r es → All (ReadableBy reader.Primary u) (map message.ack es)

@@ -1,32 +1,25 @@
 -- An accepted activation keeps the invariant. Assumes nothing.
-use Prim.Native.Nat.{ℕ, _≤_, _<_, _^_}
+use Prim.Native.Nat.{ℕ, _<_, _^_}
 use mathlib.Core.Path.{_≡_, refl, sym, ap, _∙_, subst}
-use mathlib.Core.Bool.{Bool, true, false, _&&_, true≢false, false≢true}
-use mathlib.Core.List.{List, [], _∷_}
+use mathlib.Core.Bool.{true, false, true≢false, false≢true}
+use mathlib.Core.List.{List}
 use native.Mathlib.Omega.{arith}
-use lib.Dec.{eqb}
-use lib.ListN.{length, take}
-use borrow.Author.Tests.{eq-eqb, eqb-true}
-use Rattle.lists.specs.Refusal.{test}
+use lib.ListN.{length}
+use borrow.Author.Tests.{eq-eqb}
 use Rattle.lists.specs.Part.{put}
-use Rattle.lists.proofs.TestLaws.{accepted}
 use Rattle.lists.proofs.PartLaws.{put-whole}
 use Rattle.records.specs.Kind.{ACTIVATION}
-use Rattle.records.specs.Area.{areaOf, areaLength}
-use Rattle.records.specs.Number.{outOfRange, wrongMode, blocksDue}
+use Rattle.records.specs.Area.{areaOf}
 use Rattle.records.specs.Write.{activationRecord}
-use Rattle.records.specs.declared.Area.{Area}
 use Rattle.records.proofs.FrameLaws.{length-epoch}
 use Rattle.records.proofs.AreaLaws.{area-activation}
 use Rattle.settings.specs.declared.Settings.{Settings}
-use Rattle.staging.specs.SlotList.{Staged, slotList, dueList, storeAll}
-use Rattle.rules.specs.declared.Mode.{Mode}
-use Rattle.rules.specs.declared.Mode.the-variants.{Receiving, TakingOver, Active}
-use Rattle.rules.specs.declared.Choice.the-variants.{StandbyDisk}
+use Rattle.staging.specs.SlotList.{dueList, storeAll}
+use Rattle.rules.specs.declared.Mode.the-variants.{Active}
 use Rattle.rules.specs.declared.Standby.{Standby}
 use Rattle.rules.specs.Choose.{areaChoice}
-use Rattle.rules.specs.StandbyState.{standbyOk, isReceiving, isTakingOver, isActive, withMode}
-use Rattle.rules.specs.Takeover.{activationRefusal, activationReply, activationArea}
+use Rattle.rules.specs.StandbyState.{withMode}
+use Rattle.rules.specs.Takeover.{activationReply, activationArea}
 use Rattle.rules.specs.World as call
 use Rattle.rules.specs.Step.{atStandby, step}
 use Rattle.rules.proofs.TakeoverLaws.{ActivationAccepted, activation-accepted, activated-reached}

@@ -7,9 +7,6 @@ use native.Mathlib.Omega.{arith}
 use lib.Seq.{append-snoc}
 use Rattle.records.specs.declared.Record.{Record}
 use Rattle.settings.specs.declared.Settings.{Settings}
-use Rattle.rules.specs.declared.Mode.{Mode}
-use Rattle.rules.specs.declared.Mode.the-variants.{Receiving, TakingOver, Active}
-use Rattle.rules.specs.StandbyState.{isReceiving, isActive}
 use Rattle.rules.specs.Reply.{numberOf, answerOf}
 use Rattle.rules.specs.Read.{readReply}
 use Rattle.rules.specs.World.{Processor, Call, Buffers, startNumber}

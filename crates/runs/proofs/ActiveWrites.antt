@@ -1,26 +1,19 @@
 -- An accepted write of the guest at an active standby keeps the invariant. Assumes nothing.
 use Prim.Native.Nat.{ℕ, _+_, _*_, _≤_, _<_}
-use mathlib.Core.Path.{_≡_, refl, sym, ap, ap₂, _∙_, subst}
-use mathlib.Core.Bool.{Bool, true, false, _&&_, true≢false, false≢true}
-use mathlib.Core.List.{List, [], _∷_}
+use mathlib.Core.Path.{_≡_, sym, ap, _∙_, subst}
+use mathlib.Core.Bool.{true, true≢false}
+use mathlib.Core.List.{List}
 use native.Mathlib.Omega.{arith}
-use lib.Dec.{leb, ltb, eqb}
 use lib.ListN.{length}
-use borrow.Author.Tests.{eq-eqb, eqb-true, ltb-true, leb-true}
-use Rattle.lists.specs.Refusal.{test}
+use borrow.Author.Tests.{eq-eqb}
 use Rattle.lists.specs.Part.{put}
 use Rattle.lists.specs.Page.{withPage}
-use Rattle.lists.proofs.TestLaws.{both, accepted}
 use Rattle.lists.proofs.PartLaws.{length-put}
 use Rattle.lists.proofs.PageLaws.{page-end, length-with-page}
-use Rattle.records.specs.Number.{outOfRange, noSuchUnit, badSize, wrongMode}
 use Rattle.settings.specs.declared.Settings.{Settings}
-use Rattle.rules.specs.declared.Mode.{Mode}
-use Rattle.rules.specs.declared.Mode.the-variants.{Receiving, TakingOver, Active}
-use Rattle.rules.specs.declared.Standby.{Standby}
-use Rattle.rules.specs.Common.{insidePage, written}
-use Rattle.rules.specs.StandbyState.{standbyOk, isReceiving, isActive, memoryLength, diskLength}
-use Rattle.rules.specs.Takeover.{activeMemoryWriteRefusal, activeMemoryWriteReply, activeMemoryWriteMemory, activeDiskWriteRefusal, activeDiskWriteReply, activeDiskWriteDisk}
+use Rattle.rules.specs.Common.{written}
+use Rattle.rules.specs.StandbyState.{isReceiving, isActive}
+use Rattle.rules.specs.Takeover.{activeMemoryWriteReply, activeMemoryWriteMemory, activeDiskWriteReply, activeDiskWriteDisk}
 use Rattle.rules.specs.World as call
 use Rattle.rules.specs.Step.{atStandby, step}
 use Rattle.rules.proofs.TakeoverLaws.{ActiveMemoryWriteAccepted, active-memory-write-accepted, ActiveDiskWriteAccepted, active-disk-write-accepted}

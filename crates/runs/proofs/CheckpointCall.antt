@@ -1,37 +1,30 @@
 -- An accepted checkpoint keeps the invariant. Assumes nothing.
-use Prim.Native.Nat.{ℕ, _+_, _*_, _≤_, _<_, _^_}
+use Prim.Native.Nat.{ℕ, _+_, _≤_, _<_, _^_}
 use mathlib.Core.Path.{_≡_, refl, sym, ap, ap₂, _∙_, subst}
-use mathlib.Core.Bool.{Bool, true, false, not, _&&_}
+use mathlib.Core.Bool.{false}
 use mathlib.Core.List.{List, [], _∷_, _++_, append-nil, append-assoc}
 use native.Mathlib.Omega.{arith}
-use lib.Dec.{leb, ltb, eqb}
-use lib.ListN.{length, drop, length-append}
+use lib.ListN.{length, length-append}
 use lib.Seq.{drop-append-le}
 use borrow.Author.Tests.{not-true, eq-eqb}
-use Rattle.lists.specs.Refusal.{test}
 use Rattle.lists.specs.Part.{put}
 use Rattle.lists.proofs.TestLaws.{accepted}
 use Rattle.lists.proofs.PartLaws.{length-put}
-use Rattle.records.specs.Kind.{PAGE, STATE, COMMIT, processorBytes, bodyLength, recordLength}
 use Rattle.records.specs.Write.{stateRecord, commitRecord}
-use Rattle.records.specs.Number.{outOfRange, wrongMode, streamFull, lastEpoch}
 use Rattle.records.specs.Message.{Message, encode, encodeAll}
 use Rattle.records.specs.Message as message
-use Rattle.records.proofs.FrameLaws.{length-state, length-commit}
-use Rattle.records.proofs.MessageLaws.{encodeAll-append, length-message}
+use Rattle.records.proofs.MessageLaws.{encodeAll-append}
 use Rattle.settings.specs.declared.Settings.{Settings}
 use Rattle.settings.specs.declared.PrimarySettings.{PrimarySettings}
-use Rattle.settings.specs.Range.{ofPrimary, mostEpoch}
+use Rattle.settings.specs.Range.{ofPrimary}
 use Rattle.marks.specs.Mark.{countMarks, cleared}
 use Rattle.marks.proofs.MarkLaws.{length-cleared, count-le}
 use Rattle.pages.specs.Clean.{Clean}
 use Rattle.pages.specs.Dirty.{dirtyRecords}
 use Rattle.pages.specs.DirtyMessages.{dirtyMessages}
-use Rattle.pages.proofs.DirtyLaws.{length-dirty}
 use Rattle.pages.proofs.DirtyMessagesLaws.{dirty-encode, messages-fit}
 use Rattle.pages.proofs.CleanLaws.{clean-clear}
-use Rattle.rules.specs.declared.Primary.{Primary}
-use Rattle.rules.specs.PrimaryState.{primaryOk, protected, memoryLength, marksLength, withEpoch}
+use Rattle.rules.specs.PrimaryState.{withEpoch}
 use Rattle.rules.specs.Checkpoint.{dirtyCount, checkpointLength, checkpointBytes, checkpointState, checkpointReply, checkpointDirty, checkpointStream}
 use Rattle.rules.specs.Reached.{PrimaryReached}
 use Rattle.rules.specs.World.{Processor}
@@ -42,7 +35,7 @@ use Rattle.rules.proofs.CheckpointLaws.{CheckpointRoom, checkpoint-accepted, ch
 use Rattle.runs.specs.Plain.{Checkpoint, withCheckpoint, plainAccepted, plainStep}
 use Rattle.runs.specs.Run.{Both, steps, runCall}
 use Rattle.runs.proofs.Effects.{effects, effects-append, Epoch, closed, checkpointsAfter, lastAfter, checkpoints-more, last-more, All, all-append, Before, Readable}
-use Rattle.runs.proofs.Invariant.{History, Link, Images, Inv}
+use Rattle.runs.proofs.Invariant.{Link, Images, Inv}
 use Rattle.runs.proofs.Conclusions.{received-exists, acknowledged-received}
 use Rattle.runs.proofs.PacketsLaws.{packets-checkpoint}
 use Rattle.runs.proofs.LinkLaws.{sent-closed, before-more, all-readable, link-append}

@@ -5,18 +5,16 @@ use mathlib.Core.Bool.{Bool, true, false, cond}
 use mathlib.Core.List.{List, [], _∷_}
 use native.Mathlib.Nat.{add-zero}
 use native.Mathlib.Omega.{arith}
-use lib.Dec.{eqb}
 use lib.ListN.{length, drop, getD, length-drop}
 use lib.Seq.{getD-drop}
 use borrow.Author.Tests.{eq-eqb}
-use Rattle.records.specs.Area.{areaLength}
 use Rattle.settings.specs.declared.Settings.{Settings}
 use Rattle.rules.specs.declared.Choice.{Choice}
 use Rattle.rules.specs.declared.Choice.the-variants.{PrimaryDisk, StandbyDisk}
 use Rattle.rules.specs.Choose.{choiceOf, chosen}
-use Rattle.runs.specs.Plain.{Checkpoint, noCheckpoint, receivedCheckpoint}
+use Rattle.runs.specs.Plain.{Checkpoint, noCheckpoint}
 use Rattle.runs.specs.Run.{Both}
-use Rattle.runs.specs.Demand3.{StandbyRight, DisksRight, validDisk}
+use Rattle.runs.specs.Demand3.{StandbyRight, DisksRight}
 use Rattle.runs.proofs.Effects.{Epoch, checkpointsAfter, length-checkpoints}
 use Rattle.runs.proofs.Invariant.{History, Rising, InvAt, Inv}
 

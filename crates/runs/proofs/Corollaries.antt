@@ -1,6 +1,6 @@
 -- The first four claims of specs/Corollaries.antt, from demand 3. Assumes nothing.
 use Prim.Native.Nat.{ℕ, _≤_}
-use mathlib.Core.Path.{_≡_, refl, sym, ap, _∙_, subst}
+use mathlib.Core.Path.{_≡_, sym, ap, _∙_, subst}
 use mathlib.Core.Bool.{true, cond}
 use mathlib.Core.List.{List, [], _∷_, _++_}
 use native.Mathlib.Omega.{arith}
@@ -12,7 +12,7 @@ use Rattle.rules.specs.Choose.{chosen}
 use Rattle.rules.specs.World.{Processor, Call, Buffers, startNumber}
 use Rattle.rules.specs.World as call
 use Rattle.rules.specs.Step.{step}
-use Rattle.runs.specs.Plain.{Plain, Checkpoint, receivedCheckpoint, plainAccepted, plainStep}
+use Rattle.runs.specs.Plain.{Checkpoint, receivedCheckpoint, plainAccepted, plainStep}
 use Rattle.runs.specs.Run.{Both, Steps, steps, runCall, run, startBoth}
 use Rattle.runs.specs.Cut.{countedCalls}
 use Rattle.runs.specs.Demand3.{active, CallRight, TakesRight, Holds, WholeRun}

@@ -3,7 +3,7 @@ use mathlib.Core.Path.{_≡_, refl, ap, ap₂, _∙_}
 use mathlib.Core.Bool.{Bool, true, false, cond}
 use mathlib.Core.List.{List, [], _∷_, _++_}
 use Rattle.rules.specs.World.{Call}
-use Rattle.runs.specs.Cut.{uncut, Cut, isPrimarys, countedOf, cutAfter, countedCalls}
+use Rattle.runs.specs.Cut.{uncut, Cut, isPrimarys, countedCalls}
 
 abbrev pub noCut : Cut
 noCut = record { primary = uncut; standby = uncut }

@@ -1,24 +1,24 @@
 -- "the dirty pages give the next checkpoint's memory": what the PAGEs of a checkpoint do to the last one. Assumes nothing.
-use Prim.Native.Nat.{ℕ, zero, suc, _+_, _*_, _≤_, _<_, _^_}
-use mathlib.Core.Path.{_≡_, refl, sym, ap, _∙_, subst}
+use Prim.Native.Nat.{ℕ, zero, suc, _+_, _*_, _≤_, _<_}
+use mathlib.Core.Path.{_≡_, refl, sym, ap, _∙_}
 use mathlib.Core.Logic.{⊎-elim}
 use mathlib.Core.Bool.{true, false}
-use mathlib.Core.List.{List, [], _∷_, _++_}
+use mathlib.Core.List.{List, [], _∷_}
 use native.Mathlib.Nat.{le-refl}
 use native.Mathlib.Numerals.{add-one}
 use native.Mathlib.Omega.{arith}
 use lib.ListN.{length}
 use Rattle.lists.specs.Page.{page, withPage}
-use Rattle.lists.proofs.TestLaws.{by-test, lt-or-ge, eq-or-ne}
+use Rattle.lists.proofs.TestLaws.{by-test, lt-or-ge}
 use Rattle.lists.proofs.PageLaws.{page-end, length-page, pages-ext, length-with-page, page-with-same, page-with-other}
 use Rattle.records.specs.Message.{Message}
 use Rattle.records.specs.Message as message
 use Rattle.marks.specs.Mark.{marked}
 use Rattle.pages.specs.Clean.{Clean}
-use Rattle.pages.specs.DirtyMessages.{dirtyMessages, AllFit}
+use Rattle.pages.specs.DirtyMessages.{dirtyMessages}
 use Rattle.pages.proofs.DirtyMessagesLaws.{messages-none, messages-marked, messages-unmarked}
 use Rattle.runs.specs.Plain.{Checkpoint}
-use Rattle.runs.proofs.Effects.{effects, effects-append, All, all-append, Before, Readable}
+use Rattle.runs.proofs.Effects.{effects, effects-append, All, all-append, Before}
 
 abbrev withMemory : Checkpoint → List ℕ → Checkpoint
 withMemory c memory = record { memory = memory; disk = c .disk; processor = c .processor; packets = c .packets }

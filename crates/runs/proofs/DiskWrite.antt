@@ -1,30 +1,27 @@
 -- An accepted disk write at the primary keeps the invariant. Assumes nothing.
-use Prim.Native.Nat.{ℕ, _+_, _*_, _≤_, _<_, _^_}
-use mathlib.Core.Path.{_≡_, refl, sym, ap, ap₂, _∙_, subst}
+use Prim.Native.Nat.{ℕ, _+_, _*_, _≤_, _<_}
+use mathlib.Core.Path.{_≡_, refl, sym, ap, _∙_, subst}
 use mathlib.Core.Logic.{⊎-elim}
-use mathlib.Core.Bool.{Bool, true, false, cond, _&&_, _||_, true≢false, false≢true}
+use mathlib.Core.Bool.{Bool, true, false, cond, true≢false}
 use mathlib.Core.List.{List, [], _∷_, _++_, append-nil}
 use native.Mathlib.Omega.{arith}
-use lib.Dec.{leb, ltb, eqb}
 use lib.ListN.{length}
-use borrow.Author.Tests.{eq-eqb, eqb-true, ltb-true, leb-true}
-use Rattle.lists.specs.Refusal.{test}
+use borrow.Author.Tests.{eq-eqb}
 use Rattle.lists.specs.Part.{put}
 use Rattle.lists.specs.Page.{withPage}
-use Rattle.lists.proofs.TestLaws.{by-test, accepted}
+use Rattle.lists.proofs.TestLaws.{by-test}
 use Rattle.lists.proofs.PartLaws.{length-put}
 use Rattle.lists.proofs.PageLaws.{page-end, length-with-page}
 use Rattle.records.specs.Kind.{BLOCK, recordLength}
 use Rattle.records.specs.Write.{blockRecord}
-use Rattle.records.specs.Number.{outOfRange, noSuchUnit, badSize, allowanceUsed, streamFull}
 use Rattle.records.specs.Message.{Message, encode, encodeAll}
 use Rattle.records.specs.Message as message
 use Rattle.records.proofs.MessageLaws.{length-message}
 use Rattle.settings.specs.declared.Settings.{Settings}
 use Rattle.settings.specs.declared.PrimarySettings.{PrimarySettings}
 use Rattle.rules.specs.declared.Primary.{Primary}
-use Rattle.rules.specs.PrimaryState.{primaryOk, diskLength, withBlocks}
-use Rattle.rules.specs.PrimaryWrites.{diskWriteRefusal, diskWriteState, diskWriteReply, diskWriteDisk, diskWriteStream}
+use Rattle.rules.specs.PrimaryState.{withBlocks}
+use Rattle.rules.specs.PrimaryWrites.{diskWriteState, diskWriteReply, diskWriteDisk, diskWriteStream}
 use Rattle.rules.specs.World as call
 use Rattle.rules.specs.Step.{atPrimary, step}
 use Rattle.rules.proofs.WriteLaws.{DiskWriteRoom, disk-write-accepted, appended-reached}

@@ -1,31 +1,26 @@
 -- An accepted flush keeps the invariant. Assumes nothing.
-use Prim.Native.Nat.{ℕ, zero, _-_, _≤_, min}
-use mathlib.Core.Path.{_≡_, refl, sym, ap, ap₂, _∙_, subst}
-use mathlib.Core.List.{List, _++_}
+use Prim.Native.Nat.{ℕ}
+use mathlib.Core.Path.{_≡_, sym, ap, ap₂, _∙_, subst}
+use mathlib.Core.List.{List}
 use native.Mathlib.Omega.{arith}
 use lib.ListN.{length, take, drop, take-append-drop}
 use borrow.Author.Tests.{eq-eqb}
 use Rattle.settings.specs.declared.Settings.{Settings}
-use Rattle.settings.specs.Range.{mostSlots}
 use Rattle.staging.specs.declared.Slots.{Slots}
 use Rattle.staging.specs.Slot.{flushCount, flushed, flushedBytes, stored}
 use Rattle.staging.specs.SlotList.{Staged, slotList, dueList, storeAll}
 use Rattle.staging.specs.Fits.{FlushFits}
-use Rattle.staging.proofs.SlotLaws.{array-flushed, slots-flushed}
 use Rattle.staging.proofs.StoreLaws.{stored-none, length-stored, store-of-flush}
 use Rattle.staging.proofs.ListLaws.{take-due-list, length-bytes, list-flushed, due-flushed}
 use Rattle.staging.proofs.FlushLaws.{store-all-append, stored-slots}
-use Rattle.settings.proofs.RangeLaws.{standby-settings-facts}
 use Rattle.rules.specs.StandbyState.{withSlots}
-use Rattle.rules.specs.Reached.{StandbyReached}
 use Rattle.rules.specs.Flush.{flushReply, flushStagedBlocks, flushDisk}
-use Rattle.rules.specs.World.{StandbyEnd}
 use Rattle.rules.specs.World as call
 use Rattle.rules.specs.Step.{atStandby, step}
 use Rattle.rules.proofs.FlushLaws.{flushed-reached}
 use Rattle.runs.specs.Plain.{plainAccepted, plainStep}
 use Rattle.runs.specs.Run.{Both, steps, runCall}
-use Rattle.runs.proofs.Invariant.{StandbyKept, Inv}
+use Rattle.runs.proofs.Invariant.{Inv}
 use Rattle.runs.proofs.KeptLaws.{standby-u, slots-fit}
 use Rattle.runs.proofs.Frame.{Accepted, KeepsAccepted}
 

@@ -9,7 +9,7 @@ use Rattle.records.specs.Message.{Message, encodeAll}
 use Rattle.records.specs.Message as message
 use Rattle.records.specs.Area.{areaLength, areaOf}
 use Rattle.settings.specs.declared.Settings.{Settings}
-use Rattle.settings.specs.Range.{ofPrimary, ofStandby, mostEpoch, settingsOk}
+use Rattle.settings.specs.Range.{ofPrimary, ofStandby, mostEpoch}
 use Rattle.marks.specs.Mark.{wordsFor}
 use Rattle.pages.specs.Dirty.{installed}
 use Rattle.pages.specs.Clean.{Clean}

@@ -1,15 +1,14 @@
 -- What the kept settings and lengths of the two ends give, in start's settings. Assumes nothing.
-use Prim.Native.Nat.{ℕ, _*_, _≤_, _<_}
+use Prim.Native.Nat.{_*_, _≤_}
 use mathlib.Core.Path.{_≡_, sym, ap, _∙_, subst}
 use mathlib.Core.Bool.{true}
-use native.Mathlib.Omega.{arith}
 use lib.ListN.{length}
 use Rattle.records.specs.Kind.{unitOk}
 use Rattle.settings.specs.declared.Settings.{Settings}
 use Rattle.settings.specs.declared.PrimarySettings.{PrimarySettings}
 use Rattle.settings.specs.declared.StandbySettings.{StandbySettings}
 use Rattle.settings.specs.Range.{ofPrimary, ofStandby, mostSlots}
-use Rattle.settings.proofs.RangeLaws.{SharedFacts, shared-unit, PrimarySettingsFacts, StandbySettingsFacts}
+use Rattle.settings.proofs.RangeLaws.{shared-unit, PrimarySettingsFacts, StandbySettingsFacts}
 use Rattle.marks.specs.Mark.{wordsFor}
 use Rattle.staging.specs.Slot.{slotsOk}
 use Rattle.staging.specs.Fits.{FlushFits}

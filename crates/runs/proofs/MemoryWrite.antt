@@ -1,27 +1,19 @@
 -- An accepted memory write at the primary keeps the invariant. Assumes nothing.
 use Prim.Native.Nat.{ℕ, _+_, _*_, _/_, _≤_, _<_}
-use mathlib.Core.Path.{_≡_, refl, sym, ap, _∙_, subst}
-use mathlib.Core.Bool.{_&&_}
-use mathlib.Core.List.{List, [], _∷_}
+use mathlib.Core.Path.{_≡_, sym, ap, _∙_, subst}
+use mathlib.Core.List.{List}
 use native.Mathlib.Omega.{arith}
-use lib.Dec.{leb, ltb, eqb}
 use lib.ListN.{length}
-use borrow.Author.Tests.{eq-eqb, ltb-true, leb-true}
-use Rattle.lists.specs.Refusal.{test}
+use borrow.Author.Tests.{eq-eqb}
 use Rattle.lists.specs.Part.{put}
-use Rattle.lists.proofs.TestLaws.{both, accepted}
 use Rattle.lists.proofs.PartLaws.{length-put}
 use Rattle.lists.proofs.PageLaws.{page-end}
-use Rattle.records.specs.Number.{outOfRange, noSuchUnit, badSize}
 use Rattle.settings.specs.declared.Settings.{Settings}
-use Rattle.settings.specs.declared.PrimarySettings.{PrimarySettings}
 use Rattle.marks.specs.Mark.{withMark}
 use Rattle.marks.proofs.MarkLaws.{words-cover, length-withMark}
 use Rattle.pages.proofs.CleanLaws.{clean-write}
-use Rattle.rules.specs.declared.Primary.{Primary}
-use Rattle.rules.specs.Common.{insidePage, written}
-use Rattle.rules.specs.PrimaryState.{primaryOk, memoryLength, marksLength}
-use Rattle.rules.specs.PrimaryWrites.{memoryWriteRefusal, memoryWriteReply, memoryWriteMemory, memoryWriteDirty}
+use Rattle.rules.specs.Common.{written}
+use Rattle.rules.specs.PrimaryWrites.{memoryWriteReply, memoryWriteMemory, memoryWriteDirty}
 use Rattle.rules.specs.World as call
 use Rattle.rules.specs.Step.{atPrimary, step}
 use Rattle.rules.proofs.WriteLaws.{MemoryWriteRoom, memory-write-accepted}

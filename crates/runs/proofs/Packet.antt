@@ -1,15 +1,13 @@
 -- An accepted packet keeps the invariant. Assumes nothing.
 use Prim.Native.Nat.{ℕ}
-use mathlib.Core.Path.{_≡_, sym, ap, _∙_, subst}
+use mathlib.Core.Path.{_≡_, sym, _∙_, subst}
 use mathlib.Core.List.{List, [], _∷_, _++_}
 use lib.ListN.{length}
 use borrow.Author.Tests.{eq-eqb}
-use Rattle.lists.proofs.TestLaws.{within-of}
 use Rattle.settings.specs.declared.Settings.{Settings}
-use Rattle.settings.specs.Range.{mostPacketBytes}
 use Rattle.queue.specs.Held.{added, addedBytes}
 use Rattle.queue.specs.HeldList.{Held, heldList}
-use Rattle.queue.proofs.QueueLaws.{space-of, array-added, queue-added}
+use Rattle.queue.proofs.QueueLaws.{space-of}
 use Rattle.queue.proofs.HeldLaws.{length-added-bytes, held-added}
 use Rattle.rules.specs.PrimaryState.{withQueue}
 use Rattle.rules.specs.Packets.{packetReply, packetHeld}

@@ -3,27 +3,25 @@ use Prim.Native.Nat.{ℕ, _+_, _≤_, _<_}
 use mathlib.Core.Path.{_≡_, refl, sym, ap, _∙_, subst}
 use mathlib.Core.Logic.{⊎-elim}
 use mathlib.Core.Bool.{Bool, true, false, cond, not, true≢false}
-use mathlib.Core.List.{List, [], _∷_, _++_}
+use mathlib.Core.List.{List, [], _++_}
 use native.Mathlib.Omega.{arith}
-use lib.Dec.{leb, ltb, eqb}
+use lib.Dec.{leb}
 use lib.ListN.{length, take}
 use borrow.Author.Tests.{not-false, eqb-true, eq-eqb, ne-eqb, lt-ltb, le-ltb, le-leb, lt-leb, leb-true}
 use Rattle.lists.proofs.TestLaws.{by-test, lt-or-ge, eq-or-ne}
 use Rattle.settings.specs.declared.Settings.{Settings}
-use Rattle.detector.specs.declared.Detector.{Detector}
-use Rattle.detector.specs.Tick.{withCount, expired, ticked}
-use Rattle.detector.proofs.TickLaws.{ticked-counts, ticked-rests}
+use Rattle.detector.specs.Tick.{withCount}
 use Rattle.rules.specs.declared.Primary.{Primary}
 use Rattle.rules.specs.PrimaryState.{withDetector}
-use Rattle.rules.specs.PrimaryTick.{outstanding, aloneAt, primaryTickState, primaryTickReply}
+use Rattle.rules.specs.PrimaryTick.{outstanding, primaryTickState, primaryTickReply}
 use Rattle.rules.specs.Reached.{PrimaryReached}
 use Rattle.rules.specs.World as call
 use Rattle.rules.specs.Step.{atPrimary, step}
 use Rattle.rules.proofs.PrimaryFacts.{primary-facts}
 use Rattle.rules.proofs.PrimaryTickLaws.{tick-alone, tick-rests, tick-counts, tick-leaves, tick-state-reached}
-use Rattle.runs.specs.Plain.{Plain, unacknowledged, withCounts, plainAccepted, plainStep}
+use Rattle.runs.specs.Plain.{unacknowledged, withCounts, plainAccepted, plainStep}
 use Rattle.runs.specs.Run.{Both, steps, runCall}
-use Rattle.runs.proofs.Invariant.{Ghost, Inv}
+use Rattle.runs.proofs.Invariant.{Inv}
 use Rattle.runs.proofs.Conclusions.{received-exists, acknowledged-received}
 use Rattle.runs.proofs.Frame.{Accepted, KeepsAccepted}
 

@@ -1,8 +1,8 @@
 -- An accepted read keeps the invariant. Assumes nothing.
-use Prim.Native.Nat.{ℕ, _-_, _*_}
+use Prim.Native.Nat.{ℕ, _-_}
 use mathlib.Core.Path.{_≡_, refl, sym, ap, ap₂, _∙_, subst}
 use mathlib.Core.Logic.{⊎-elim}
-use mathlib.Core.Bool.{Bool, true, false, false≢true}
+use mathlib.Core.Bool.{true, false, false≢true}
 use mathlib.Core.List.{List, [], _∷_, _++_, append-nil}
 use native.Mathlib.Omega.{arith}
 use lib.ListN.{length, take, drop}
@@ -22,15 +22,14 @@ use Rattle.records.proofs.FrameLaws.{length-epoch}
 use Rattle.records.proofs.MessageLaws.{used-message, bytesOf, cursorOf, message-bytes}
 use Rattle.settings.specs.declared.Settings.{Settings}
 use Rattle.settings.specs.declared.StandbySettings.{StandbySettings}
-use Rattle.marks.specs.Mark.{wordsFor}
 use Rattle.rules.specs.declared.Standby.{Standby}
 use Rattle.rules.specs.StandbyState.{isReceiving}
 use Rattle.rules.specs.Reply.{answerOf, numberOf, unlessRefused}
 use Rattle.rules.specs.Judge.{readLentOk, recordRefusal}
 use Rattle.rules.specs.Read.{readLent}
-use Rattle.rules.specs.World.{World, StandbyEnd}
+use Rattle.rules.specs.World.{StandbyEnd}
 use Rattle.rules.specs.World as call
-use Rattle.rules.specs.Step.{Stepped, step}
+use Rattle.rules.specs.Step.{Stepped}
 use Rattle.rules.proofs.ReplyLaws.{unless-accepted, unless-refused}
 use Rattle.rules.proofs.JudgeLaws.{read-lent-of, page-accepted, block-accepted, commit-accepted, judged-mode, judged-number}
 use Rattle.runs.specs.Plain.{plainAccepted, plainStep}
@@ -40,9 +39,9 @@ use Rattle.runs.proofs.Invariant.{Inv}
 use Rattle.runs.proofs.KeptLaws.{standby-u, standby-unit, lent-memory, lent-pages, lent-marks, lent-blocks}
 use Rattle.runs.proofs.RecordSteps.{readSeen, readBy, read-step}
 use Rattle.runs.proofs.Reading.{Reading, none, one, read-next}
-use Rattle.runs.proofs.ReadStaged.{Next, stagedAfter, pageEnd, blockEnd, stateEnd, page-inv, block-inv, state-inv}
+use Rattle.runs.proofs.ReadStaged.{stagedAfter, pageEnd, blockEnd, stateEnd, page-inv, block-inv, state-inv}
 use Rattle.runs.proofs.ReadCommit.{commitAfter, commit-inv}
-use Rattle.runs.proofs.Frame.{Accepted, KeepsAccepted}
+use Rattle.runs.proofs.Frame.{KeepsAccepted}
 
 -- the ACK that a COMMIT writes is what the reply then begins with
 ack-written : (u epoch : ℕ) (reply : List ℕ) → take (recordLength u ACK) (put reply 0 (ackRecord epoch)) ≡ ackRecord epoch

@@ -1,7 +1,7 @@
 -- An accepted COMMIT keeps the invariant. Assumes nothing.
-use Prim.Native.Nat.{ℕ, _+_, _*_, _≤_, _<_}
+use Prim.Native.Nat.{ℕ, _+_}
 use mathlib.Core.Path.{_≡_, refl, sym, ap, ap₂, _∙_, subst}
-use mathlib.Core.Bool.{Bool, true, false, true≢false, false≢true}
+use mathlib.Core.Bool.{true, false, true≢false, false≢true}
 use mathlib.Core.List.{List, [], _∷_, _++_, map, append-nil, map-append}
 use native.Mathlib.Omega.{arith}
 use lib.ListN.{length, take, drop}
@@ -17,23 +17,18 @@ use Rattle.marks.specs.Mark.{cleared}
 use Rattle.marks.proofs.MarkLaws.{length-cleared}
 use Rattle.pages.specs.Dirty.{installed}
 use Rattle.pages.proofs.InstallLaws.{length-installed}
-use Rattle.staging.specs.Slot.{allDue}
-use Rattle.staging.specs.SlotList.{slotList, dueList, storeAll}
-use Rattle.staging.proofs.SlotLaws.{numbers-all-due, slots-all-due}
+use Rattle.staging.specs.SlotList.{slotList, storeAll}
 use Rattle.staging.proofs.ListLaws.{list-all-due, due-all-due}
 use Rattle.detector.specs.Tick.{reset}
 use Rattle.rules.specs.declared.Standby.{Standby}
-use Rattle.rules.specs.StandbyState.{isReceiving, isActive, withSlots, withNoRecords, withReceived, withDetector}
-use Rattle.rules.specs.Reached.{StandbyReached}
+use Rattle.rules.specs.StandbyState.{isReceiving, withDetector}
 use Rattle.rules.specs.Read.{sealedState, installedState}
 use Rattle.rules.specs.World.{StandbyEnd}
-use Rattle.rules.proofs.DetectorFacts.{detector-facts, detector-of}
-use Rattle.rules.proofs.JudgeLaws.{CommitTests}
 use Rattle.rules.proofs.ReadLaws.{commit-reached}
 use Rattle.runs.specs.Plain.{Checkpoint, withCounts}
 use Rattle.runs.specs.Run.{Both}
-use Rattle.runs.proofs.Effects.{effects, Epoch, closed, checkpointsAfter, sent, All, Before, Readable}
-use Rattle.runs.proofs.Invariant.{Ghost, Rising, InvAt, Inv}
+use Rattle.runs.proofs.Effects.{effects, Epoch, closed, sent, All, Before, Readable}
+use Rattle.runs.proofs.Invariant.{Rising, InvAt, Inv}
 use Rattle.runs.proofs.KeptLaws.{slots-fit}
 use Rattle.runs.proofs.StagedPages.{installed-none}
 use Rattle.runs.proofs.ModeLaws.{receiving-not-active}

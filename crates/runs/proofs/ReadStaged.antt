@@ -1,31 +1,27 @@
 -- An accepted PAGE, BLOCK or STATE keeps the invariant. Assumes nothing.
-use Prim.Native.Nat.{ℕ, _+_, _-_, _*_, _/_, _≤_, _<_}
-use mathlib.Core.Path.{_≡_, refl, sym, ap, ap₂, _∙_, subst}
-use mathlib.Core.Bool.{true, false, true≢false}
-use mathlib.Core.List.{List, [], _∷_, _++_, append-assoc}
+use Prim.Native.Nat.{ℕ, _+_, _*_, _/_, _≤_, _<_}
+use mathlib.Core.Path.{_≡_, sym, ap, _∙_, subst}
+use mathlib.Core.Bool.{true}
+use mathlib.Core.List.{List, [], _∷_, _++_}
 use native.Mathlib.Omega.{arith}
 use lib.ListN.{length, take, drop}
 use lib.Seq.{append-snoc}
 use Rattle.lists.specs.Page.{withPage}
 use Rattle.lists.proofs.PageLaws.{page-end, length-with-page}
-use Rattle.records.specs.Kind.{processorBytes}
 use Rattle.records.specs.Message.{Message, encode, encodeAll}
 use Rattle.records.specs.Message as message
 use Rattle.settings.specs.declared.Settings.{Settings}
 use Rattle.settings.specs.declared.StandbySettings.{StandbySettings}
-use Rattle.settings.proofs.RangeLaws.{standby-settings-facts}
 use Rattle.marks.specs.Mark.{withMark}
 use Rattle.marks.proofs.MarkLaws.{words-cover, length-withMark}
 use Rattle.staging.specs.Slot.{withBlock, withBlockBytes}
-use Rattle.staging.specs.SlotList.{Staged, slotList, dueList, storeAll}
-use Rattle.staging.proofs.SlotLaws.{slots-tests, array-with-block, slots-with-block}
+use Rattle.staging.specs.SlotList.{Staged, slotList, storeAll}
 use Rattle.staging.proofs.ListLaws.{list-with-block, due-with-block}
 use Rattle.staging.proofs.FlushLaws.{store-all-append}
 use Rattle.rules.specs.declared.Standby.{Standby}
 use Rattle.rules.specs.StandbyState.{isReceiving, withPages, withSlots, withState}
-use Rattle.rules.specs.Reached.{StandbyReached}
 use Rattle.rules.specs.World.{StandbyEnd}
-use Rattle.rules.proofs.JudgeLaws.{PageTests, BlockTests, StateTests}
+use Rattle.rules.proofs.JudgeLaws.{PageTests, BlockTests}
 use Rattle.rules.proofs.ReadLaws.{page-reached, block-reached, state-reached}
 use Rattle.runs.specs.Plain.{Checkpoint}
 use Rattle.runs.specs.Run.{Both}

@@ -8,7 +8,7 @@ use Rattle.rules.specs.Reply.{numberOf, valueOf, usedOf, answerOf}
 use Rattle.rules.specs.Stream.{ackReply, ackJudged, ackState}
 use Rattle.rules.specs.Judge.{judged}
 use Rattle.rules.specs.Read.{readLent, readReply, readState, memoryAfter, stagedPagesAfter, stagedMarksAfter, stagedBlocksAfter, replyAfter, readMemory, readStagedPages, readStagedMarks, readStagedBlocks, readReplyBytes}
-use Rattle.rules.specs.World.{World, Call}
+use Rattle.rules.specs.World.{World}
 use Rattle.rules.specs.World as call
 use Rattle.rules.specs.Step.{Stepped, outcome, ackWritten, step}
 

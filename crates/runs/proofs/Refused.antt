@@ -1,21 +1,16 @@
 -- "one refused or cut short: nothing changes", of both ends and of the plain pair. Assumes nothing.
 use Prim.Native.Nat.{ℕ}
-use mathlib.Core.Path.{_≡_, refl, ap, ap₂, _∙_}
+use mathlib.Core.Path.{_≡_, refl, ap}
 use mathlib.Core.List.{List, append-nil}
 use lib.ListN.{take}
 use borrow.Author.Tests.{ne-eqb}
 use Rattle.records.specs.declared.Record.{Record}
 use Rattle.records.specs.declared.Record.the-variants as record-of
-use Rattle.rules.specs.declared.Primary.{Primary}
-use Rattle.rules.specs.declared.Standby.{Standby}
-use Rattle.rules.specs.Reply.{numberOf, answerOf}
 use Rattle.rules.specs.PrimaryWrites.{memoryWriteReply, memoryWriteMemory, memoryWriteDirty, diskWriteReply, diskWriteDisk, diskWriteStream}
 use Rattle.rules.specs.Packets.{packetReply, packetHeld, takeReply, takeHeld, takeDestination}
 use Rattle.rules.specs.Checkpoint.{checkpointReply, checkpointDirty, checkpointStream}
-use Rattle.rules.specs.Stream.{drainReply, drainStream, drainDestination, ackReply, ackJudged}
+use Rattle.rules.specs.Stream.{drainReply, drainStream, drainDestination}
 use Rattle.rules.specs.PrimaryTick.{primaryTickReply}
-use Rattle.rules.specs.Judge.{judged}
-use Rattle.rules.specs.Read.{readLent, readReply, readMemory, readStagedPages, readStagedMarks, readStagedBlocks, readReplyBytes}
 use Rattle.rules.specs.Flush.{flushReply, flushStagedBlocks, flushDisk}
 use Rattle.rules.specs.Takeover.{standbyTickReply, standbyTickMarks, activationReply, activationArea, activeMemoryWriteReply, activeMemoryWriteMemory, activeDiskWriteReply, activeDiskWriteDisk}
 use Rattle.rules.specs.World.{World, Call}

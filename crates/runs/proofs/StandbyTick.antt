@@ -1,29 +1,21 @@
 -- An accepted tick of the standby keeps the invariant. Assumes nothing.
-use Prim.Native.Nat.{ℕ, _≤_, _<_}
+use Prim.Native.Nat.{ℕ}
 use mathlib.Core.Path.{_≡_, refl, sym, ap, _∙_, subst}
-use mathlib.Core.Logic.{⊎-elim}
-use mathlib.Core.Bool.{Bool, true, false, cond, _&&_, true≢false, false≢true}
+use mathlib.Core.Bool.{Bool, true, false, cond, true≢false, false≢true}
 use mathlib.Core.List.{List}
-use native.Mathlib.Omega.{arith}
-use lib.ListN.{length}
-use borrow.Author.Tests.{eq-eqb, leb-false, lt-leb}
-use Rattle.lists.proofs.TestLaws.{by-test}
+use borrow.Author.Tests.{eq-eqb}
 use Rattle.settings.specs.declared.Settings.{Settings}
 use Rattle.marks.specs.Mark.{cleared}
 use Rattle.marks.proofs.MarkLaws.{length-cleared}
-use Rattle.staging.specs.SlotList.{Staged, dueList, storeAll}
-use Rattle.staging.specs.Slot.{onlyDue}
+use Rattle.staging.specs.SlotList.{storeAll}
 use Rattle.staging.proofs.ListLaws.{due-only-due}
-use Rattle.staging.proofs.SlotLaws.{slots-tests, numbers-only-due, slots-only-due}
 use Rattle.detector.specs.Tick.{expired, ticked}
-use Rattle.detector.proofs.TickLaws.{ticked-patience, ticked-le}
-use Rattle.rules.specs.declared.Mode.{Mode}
-use Rattle.rules.specs.declared.Mode.the-variants.{Receiving, TakingOver, Active}
+use Rattle.detector.proofs.TickLaws.{ticked-patience}
+use Rattle.rules.specs.declared.Mode.the-variants.{TakingOver}
 use Rattle.rules.specs.declared.Standby.{Standby}
 use Rattle.rules.specs.StandbyState.{isReceiving, isActive, withDetector, withMode}
 use Rattle.rules.specs.Reached.{StandbyReached}
 use Rattle.rules.specs.Takeover.{dropped, takesOver, standbyTickState, standbyTickReply, standbyTickMarks}
-use Rattle.rules.specs.World.{StandbyEnd}
 use Rattle.rules.specs.World as call
 use Rattle.rules.specs.Step.{atStandby, step}
 use Rattle.rules.proofs.TakeoverLaws.{tick-rests, tick-counts, tick-takes-over, ticked-reached}

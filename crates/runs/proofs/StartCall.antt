@@ -1,34 +1,24 @@
 -- After an accepted start the invariant holds. Assumes nothing.
-use Prim.Native.Nat.{ℕ, zero, suc, _*_, _≤_, _<_}
+use Prim.Native.Nat.{ℕ, zero, suc, _<_}
 use mathlib.Core.Path.{_≡_, refl, sym, ap, _∙_, subst}
-use mathlib.Core.Bool.{Bool, true, false, cond, not, _&&_, false≢true, true≢false}
+use mathlib.Core.Bool.{false≢true}
 use mathlib.Core.List.{List, [], _∷_, _++_}
 use native.Mathlib.Omega.{arith}
-use lib.Dec.{eqb}
-use lib.ListN.{length, getD, replicate}
-use borrow.Author.Tests.{eq-eqb, eqb-true, lt-leb}
-use Rattle.lists.specs.Refusal.{test}
-use Rattle.lists.proofs.TestLaws.{both, accepted}
-use Rattle.records.specs.Number.{outOfRange}
+use lib.ListN.{getD, replicate}
+use borrow.Author.Tests.{eq-eqb, lt-leb}
 use Rattle.records.specs.Area.{areaLength}
 use Rattle.records.proofs.AreaLaws.{area-zero}
 use Rattle.settings.specs.declared.Settings.{Settings}
-use Rattle.settings.specs.Range.{settingsOk, ofPrimary, ofStandby}
-use Rattle.settings.proofs.RangeLaws.{SettingsFacts, settings-facts, primary-settings-facts, primary-of-settings, standby-of-settings}
-use Rattle.marks.specs.Mark.{wordsFor, cleared}
+use Rattle.settings.proofs.RangeLaws.{settings-facts}
+use Rattle.marks.specs.Mark.{cleared}
 use Rattle.marks.proofs.MarkLaws.{length-cleared}
 use Rattle.pages.proofs.CleanLaws.{clean-clear}
-use Rattle.queue.specs.Held.{emptyQueue}
-use Rattle.queue.specs.HeldList.{Held, heldList}
-use Rattle.queue.proofs.QueueLaws.{queue-empty}
+use Rattle.queue.specs.HeldList.{Held}
 use Rattle.queue.proofs.HeldLaws.{held-empty}
 use Rattle.staging.specs.SlotList.{stagedFrom, slotList, dueList, storeAll}
-use Rattle.staging.proofs.SlotLaws.{slots-empty}
-use Rattle.rules.specs.declared.StartLent.{StartLent}
 use Rattle.rules.specs.Choose.{areaChoice}
-use Rattle.rules.specs.Reached.{PrimaryReached, StandbyReached}
-use Rattle.rules.specs.Start.{startLentOk, startRefusal, openedPrimary, openedStandby, started, startCopy, startMarks, startArea}
-use Rattle.rules.specs.World.{World, Processor, Buffers, startLent, startNumber, startWorld}
+use Rattle.rules.specs.Start.{openedPrimary, openedStandby, started, startCopy, startMarks, startArea}
+use Rattle.rules.specs.World.{Processor, Buffers, startLent, startNumber, startWorld}
 use Rattle.rules.proofs.StartLaws.{StartFacts, start-accepted, opened-primary, opened-standby}
 use Rattle.runs.specs.Plain.{Checkpoint, noCheckpoint, plainStart}
 use Rattle.runs.specs.Run.{Both, startBoth}

@@ -1,6 +1,6 @@
 -- An accepted take keeps the invariant, and every take hands out what demand 3 says. Assumes nothing.
-use Prim.Native.Nat.{ℕ, _+_, _≤_, _<_}
-use mathlib.Core.Path.{_≡_, refl, sym, ap, _∙_, subst}
+use Prim.Native.Nat.{ℕ, _+_, _≤_}
+use mathlib.Core.Path.{_≡_, sym, _∙_, subst}
 use mathlib.Core.Bool.{true, false, true≢false}
 use mathlib.Core.Logic.{⊎-elim}
 use mathlib.Core.List.{List, [], _∷_}
@@ -11,7 +11,6 @@ use Rattle.lists.specs.Part.{put}
 use Rattle.settings.specs.declared.Settings.{Settings}
 use Rattle.queue.specs.Held.{oldest, withoutOldest, withoutOldestBytes, oldestBytes}
 use Rattle.queue.specs.HeldList.{Held, heldList}
-use Rattle.queue.proofs.QueueLaws.{array-removed, queue-removed}
 use Rattle.queue.proofs.HeldLaws.{handed-out, length-without-oldest-bytes, held-oldest}
 use Rattle.rules.specs.PrimaryState.{withQueue}
 use Rattle.rules.specs.Packets.{takeReply, takeHeld, takeDestination}
@@ -21,7 +20,7 @@ use Rattle.rules.proofs.PacketLaws.{TakeFacts, take-accepted, take-state-reache
 use Rattle.rules.proofs.PrimaryFacts.{primary-facts}
 use Rattle.runs.specs.Plain.{isAlone, withPackets, plainAccepted, plainStep}
 use Rattle.runs.specs.Run.{Both, steps, runCall}
-use Rattle.runs.specs.Demand3.{HandedRight, TakeRight}
+use Rattle.runs.specs.Demand3.{HandedRight}
 use Rattle.runs.proofs.Invariant.{Packets, Inv}
 use Rattle.runs.proofs.Conclusions.{received-exists, acknowledged-received}
 use Rattle.runs.proofs.PacketsLaws.{packets-less, oldest-queued, oldest-is, oldest-below, oldest-saved}

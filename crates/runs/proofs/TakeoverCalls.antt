@@ -1,31 +1,25 @@
 -- "T standby ticks, a flush of all due and activation, added to the list, activate a standby not yet active". Assumes nothing.
-use Prim.Native.Nat.{ℕ, zero, suc, _+_, _*_, _≤_, _<_}
+use Prim.Native.Nat.{ℕ, zero, suc, _+_, _≤_, _<_}
 use mathlib.Core.Path.{_≡_, refl, sym, ap, _∙_, subst}
 use mathlib.Core.Logic.{_⊎_, inl, inr, ⊎-elim}
-use mathlib.Core.Bool.{Bool, true, false, cond, _&&_, true≢false, false≢true}
+use mathlib.Core.Bool.{true, false, true≢false}
 use mathlib.Core.List.{List, [], _∷_, _++_}
 use native.Mathlib.Omega.{arith}
-use lib.Dec.{leb, eqb}
 use lib.ListN.{length, replicate}
 use borrow.Author.Tests.{eq-eqb, lt-leb}
-use Rattle.lists.specs.Refusal.{test}
-use Rattle.lists.proofs.TestLaws.{by-test, join, accepts}
-use Rattle.records.specs.Number.{outOfRange, wrongMode, blocksDue}
-use Rattle.records.specs.Area.{areaLength}
+use Rattle.lists.proofs.TestLaws.{by-test}
 use Rattle.settings.specs.declared.Settings.{Settings}
-use Rattle.settings.specs.declared.StandbySettings.{StandbySettings}
-use Rattle.marks.specs.Mark.{wordsFor, cleared}
-use Rattle.staging.specs.Slot.{flushCount, flushed, onlyDue}
+use Rattle.staging.specs.Slot.{flushed, onlyDue}
 use Rattle.detector.specs.declared.Detector.{Detector}
 use Rattle.detector.specs.Tick.{expired, ticked}
 use Rattle.detector.proofs.TickLaws.{ticked-counts}
 use Rattle.rules.specs.declared.Mode.{Mode}
 use Rattle.rules.specs.declared.Mode.the-variants.{Receiving, TakingOver, Active}
 use Rattle.rules.specs.declared.Standby.{Standby}
-use Rattle.rules.specs.StandbyState.{standbyOk, isReceiving, isTakingOver, isActive, diskLength, slotsLength, marksLength, withMode}
-use Rattle.rules.specs.Flush.{flushRefusal, flushReply}
-use Rattle.rules.specs.Takeover.{dropped, takesOver, standbyTickRefusal, standbyTickState, standbyTickReply, activationRefusal, activationReply}
-use Rattle.rules.specs.World.{World, Call}
+use Rattle.rules.specs.StandbyState.{isReceiving, isTakingOver, isActive}
+use Rattle.rules.specs.Flush.{flushReply}
+use Rattle.rules.specs.Takeover.{standbyTickState, standbyTickReply, activationReply}
+use Rattle.rules.specs.World.{Call}
 use Rattle.rules.specs.World as call
 use Rattle.rules.specs.Step.{step}
 use Rattle.rules.proofs.StandbyFacts.{standby-facts}
