@@ -28,9 +28,10 @@ use Rattle.runs.specs.Run.{Both, steps, runCall}
 use Rattle.runs.proofs.Invariant.{Inv}
 use Rattle.runs.proofs.Conclusions.{received-is, received-exists}
 use Rattle.runs.proofs.ModeLaws.{taking-not-active}
+use Rattle.runs.proofs.KeptLaws.{standby-inv}
 use Rattle.runs.proofs.Frame.{Accepted, KeepsAccepted}
 
-abbrev pub after : Both → Both
+abbrev after : Both → Both
 after b =
     let e = b .world .standby in
     record {
@@ -46,7 +47,7 @@ after b =
       plain = withStandbyImages (b .plain) true (receivedCheckpoint (b .plain) .memory) (receivedCheckpoint (b .plain) .disk);
     }
 
-pub after-is : (u : ℕ) (b : Both) → Accepted b call.activation → runCall steps u b call.activation ≡ after b
+after-is : (u : ℕ) (b : Both) → Accepted b call.activation → runCall steps u b call.activation ≡ after b
 unfolding step activationReply activationArea plainStep plainAccepted
 after-is u b e = rw (eq-eqb _ _ e)
 
@@ -71,48 +72,37 @@ module _ (g : Settings) (b : Both) (i : Inv g b) (f : ActivationAccepted (b .wor
   after-inv : Inv g (after b)
   after-inv =
       let e = b .world .standby in
-      let v = i .holds in
-      let k = v .standbyKept in
-      let t = v .taker in
+      let k = i .holds .standbyKept in
+      let t = i .holds .taker in
       let s = e .state in
       let off : b .plain .activated ≡ false = sym (t .modeIs) ∙ taking-not-active (s .mode) (f .takingOver) in
-      let c = received-is (v .history) in
-      record {
-        ghost = i .ghost;
-        holds = record {
-          history = v .history;
-          link = v .link;
-          images = v .images;
-          detector = v .detector;
-          packets = v .packets;
-          taker = record {
-            receivedIs = t .receivedIs;
-            modeIs = refl;
-            processorIs = t .processorIs;
-            memoryIs = λ z. absurd (true≢false z);
-            diskIs = λ z. absurd (true≢false z);
-            stagedMemory = λ z. absurd (false≢true z);
-            stagedDisk = λ z. absurd (false≢true z);
-            stagedProcessor = λ z. absurd (false≢true z);
-            activeMemory = λ z. t .memoryIs off ∙ ap (λ (x : Checkpoint). x .memory) (sym c);
-            activeDisk = λ z. sym (none-due (g .u) s (e .stagedBlocks) (e .disk) (f .noneDue)) ∙ t .diskIs off ∙ ap (λ (x : Checkpoint). x .disk) (sym c);
-            settled = λ z. f .noneDue;
-            areaIs = ap (λ (l : List ℕ). areaChoice (areaOf l)) area-whole ∙ ap areaChoice (area-activation (s .received) low);
-          };
-          primaryKept = v .primaryKept;
-          standbyKept = record {
-            settings = k .settings;
-            patience = k .patience;
-            reached = activated-reached s (k .reached);
-            memory = k .memory;
-            disk = k .disk;
-            stagedPages = k .stagedPages;
-            stagedMarks = k .stagedMarks;
-            stagedBlocks = k .stagedBlocks;
-            area = ap length area-whole ∙ length-epoch ACTIVATION (s .received);
-          };
-        };
-      }
+      let c = received-is (i .holds .history) in
+      standby-inv g b i (after b .world .standby) true (receivedCheckpoint (b .plain) .memory) (receivedCheckpoint (b .plain) .disk)
+      (record {
+        receivedIs = t .receivedIs;
+        modeIs = refl;
+        processorIs = t .processorIs;
+        memoryIs = λ z. absurd (true≢false z);
+        diskIs = λ z. absurd (true≢false z);
+        stagedMemory = λ z. absurd (false≢true z);
+        stagedDisk = λ z. absurd (false≢true z);
+        stagedProcessor = λ z. absurd (false≢true z);
+        activeMemory = λ z. t .memoryIs off ∙ ap (λ (x : Checkpoint). x .memory) (sym c);
+        activeDisk = λ z. sym (none-due (g .u) s (e .stagedBlocks) (e .disk) (f .noneDue)) ∙ t .diskIs off ∙ ap (λ (x : Checkpoint). x .disk) (sym c);
+        settled = λ z. f .noneDue;
+        areaIs = ap (λ (l : List ℕ). areaChoice (areaOf l)) area-whole ∙ ap areaChoice (area-activation (s .received) low);
+      })
+      (record {
+        settings = k .settings;
+        patience = k .patience;
+        reached = activated-reached s (k .reached);
+        memory = k .memory;
+        disk = k .disk;
+        stagedPages = k .stagedPages;
+        stagedMarks = k .stagedMarks;
+        stagedBlocks = k .stagedBlocks;
+        area = ap length area-whole ∙ length-epoch ACTIVATION (s .received);
+      })
 
 pub activation-keeps : (g : Settings) → KeepsAccepted g call.activation
 activation-keeps g b i e = subst (Inv g) (sym (after-is (g .u) b e)) (after-inv g b i (facts b e))

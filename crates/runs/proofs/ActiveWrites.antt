@@ -20,7 +20,7 @@ use Rattle.rules.proofs.TakeoverLaws.{ActiveMemoryWriteAccepted, active-memory-
 use Rattle.runs.specs.Plain.{withStandbyImages, plainAccepted, plainStep}
 use Rattle.runs.specs.Run.{Both, steps, runCall}
 use Rattle.runs.proofs.Invariant.{Inv}
-use Rattle.runs.proofs.KeptLaws.{standby-u, standby-m, standby-d}
+use Rattle.runs.proofs.KeptLaws.{standby-u, standby-m, standby-d, standby-inv}
 use Rattle.runs.proofs.ModeLaws.{receiving-not-active}
 use Rattle.runs.proofs.Frame.{Accepted, KeepsAccepted}
 
@@ -36,47 +36,36 @@ after memory disk memory′ disk′ b =
 images-inv : (g : Settings) (b : Both) (memory disk memory′ disk′ : List ℕ) → isActive (b .world .standby .state .mode) ≡ true → memory ≡ memory′ → disk ≡ disk′
     → length memory ≡ g .m * g .u → length disk ≡ g .d * g .u → Inv g b → Inv g (after memory disk memory′ disk′ b)
 images-inv g b memory disk memory′ disk′ on em ed lm ld i =
-    let v = i .holds in
-    let k = v .standbyKept in
-    let t = v .taker in
+    let k = i .holds .standbyKept in
+    let t = i .holds .taker in
     let is : b .plain .activated ≡ true = sym (t .modeIs) ∙ on in
     let not : isReceiving (b .world .standby .state .mode) ≡ true → ⊥ = λ z. true≢false (sym on ∙ receiving-not-active (b .world .standby .state .mode) z) in
-    record {
-      ghost = i .ghost;
-      holds = record {
-        history = v .history;
-        link = v .link;
-        images = v .images;
-        detector = v .detector;
-        packets = v .packets;
-        taker = record {
-          receivedIs = t .receivedIs;
-          modeIs = t .modeIs;
-          processorIs = t .processorIs;
-          memoryIs = λ z. absurd (true≢false (sym is ∙ z));
-          diskIs = λ z. absurd (true≢false (sym is ∙ z));
-          stagedMemory = λ z. absurd (not z);
-          stagedDisk = λ z. absurd (not z);
-          stagedProcessor = λ z. absurd (not z);
-          activeMemory = λ z. em;
-          activeDisk = λ z. ed;
-          settled = t .settled;
-          areaIs = t .areaIs;
-        };
-        primaryKept = v .primaryKept;
-        standbyKept = record {
-          settings = k .settings;
-          patience = k .patience;
-          reached = k .reached;
-          memory = lm;
-          disk = ld;
-          stagedPages = k .stagedPages;
-          stagedMarks = k .stagedMarks;
-          stagedBlocks = k .stagedBlocks;
-          area = k .area;
-        };
-      };
-    }
+    standby-inv g b i (after memory disk memory′ disk′ b .world .standby) (b .plain .activated) memory′ disk′
+    (record {
+      receivedIs = t .receivedIs;
+      modeIs = t .modeIs;
+      processorIs = t .processorIs;
+      memoryIs = λ z. absurd (true≢false (sym is ∙ z));
+      diskIs = λ z. absurd (true≢false (sym is ∙ z));
+      stagedMemory = λ z. absurd (not z);
+      stagedDisk = λ z. absurd (not z);
+      stagedProcessor = λ z. absurd (not z);
+      activeMemory = λ z. em;
+      activeDisk = λ z. ed;
+      settled = t .settled;
+      areaIs = t .areaIs;
+    })
+    (record {
+      settings = k .settings;
+      patience = k .patience;
+      reached = k .reached;
+      memory = lm;
+      disk = ld;
+      stagedPages = k .stagedPages;
+      stagedMarks = k .stagedMarks;
+      stagedBlocks = k .stagedBlocks;
+      area = k .area;
+    })
 
 -- ---- memory write
 module _ (page offset : ℕ) (bytes : List ℕ) where

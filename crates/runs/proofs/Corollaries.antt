@@ -18,7 +18,8 @@ use Rattle.runs.specs.Cut.{countedCalls}
 use Rattle.runs.specs.Demand3.{active, CallRight, TakesRight, Holds, WholeRun}
 use Rattle.runs.specs.Corollaries.{IsCheckpoint, pairAfter, PacketSaved, AcknowledgedReceived, AcknowledgedKept, OneCheckpoint, PrimaryDiskUntilActivation, AfterStart}
 use Rattle.runs.proofs.CutLaws.{noCut, counted-uncut}
-use Rattle.runs.proofs.PlainLaws.{run-append, Later, nested-one, run-later, run-nested, received-nested, FirstOf, first-below, first-same, activation-plain}
+use Rattle.runs.proofs.FirstLaws.{FirstOf, first-below, first-same}
+use Rattle.runs.proofs.PlainLaws.{run-append, Later, nested-one, run-later, run-nested, received-nested, activation-plain}
 use Rattle.runs.proofs.Frame.{Accepted}
 use Rattle.runs.proofs.Proved.{demand-3}
 

@@ -27,7 +27,7 @@ use Rattle.rules.specs.Step.{atPrimary, step}
 use Rattle.rules.proofs.WriteLaws.{DiskWriteRoom, disk-write-accepted, appended-reached}
 use Rattle.runs.specs.Plain.{Checkpoint, withImages, plainAccepted, plainStep}
 use Rattle.runs.specs.Run.{Both, steps, runCall}
-use Rattle.runs.proofs.Effects.{effects, effects-append, lastAfter, all-append, Before}
+use Rattle.runs.proofs.Effects.{effects-append, lastAfter, all-append, Before}
 use Rattle.runs.proofs.Invariant.{Link, Images, Inv}
 use Rattle.runs.proofs.LinkLaws.{sent-more, readable-before, link-append}
 use Rattle.runs.proofs.KeptLaws.{primary-u, primary-d, primary-settings}
@@ -130,7 +130,6 @@ module _ (block : ℕ) (bytes : List ℕ) where
         let room = f .room al in
         let opened′ = h .opened ++ (added ∷ []) in
         let last = lastAfter (g .u) (h .base) (h .ahead) in
-        let now = effects (g .u) last (h .opened) in
         let bytes-are : encodeAll (added ∷ []) ≡ blockRecord (p .state .epoch) block bytes = append-nil (encode added) in
         let wait : p .state .waiting ≤ length (p .stream) = omega (arith, k .stream) in
         let more : Link (g .u) (h .ahead) opened′ (h .consumed) (h .pending ++ (added ∷ [])) (b .world .link) (put (p .stream) (p .state .waiting) (encodeAll (added ∷ []))) (h .lost) (p .state .waiting + length (encodeAll (added ∷ []))) (p .state .alone)

@@ -21,7 +21,7 @@ use Rattle.rules.proofs.FlushLaws.{flushed-reached}
 use Rattle.runs.specs.Plain.{plainAccepted, plainStep}
 use Rattle.runs.specs.Run.{Both, steps, runCall}
 use Rattle.runs.proofs.Invariant.{Inv}
-use Rattle.runs.proofs.KeptLaws.{standby-u, slots-fit}
+use Rattle.runs.proofs.KeptLaws.{standby-u, slots-fit, standby-inv}
 use Rattle.runs.proofs.Frame.{Accepted, KeepsAccepted}
 
 -- some stored, and the rest stored after them
@@ -95,46 +95,35 @@ module _ (n : ℕ) where
     after-inv =
         let e = b .world .standby in
         let c = flushCount slots n in
-        let v = i .holds in
-        let k = v .standbyKept in
-        let t = v .taker in
+        let k = i .holds .standbyKept in
+        let t = i .holds .taker in
         let s = e .state in
-        record {
-          ghost = i .ghost;
-          holds = record {
-            history = v .history;
-            link = v .link;
-            images = v .images;
-            detector = v .detector;
-            packets = v .packets;
-            taker = record {
-              receivedIs = t .receivedIs;
-              modeIs = t .modeIs;
-              processorIs = t .processorIs;
-              memoryIs = t .memoryIs;
-              diskIs = λ z. due-disk ∙ t .diskIs z;
-              stagedMemory = t .stagedMemory;
-              stagedDisk = λ z. staged-disk ∙ t .stagedDisk z;
-              stagedProcessor = t .stagedProcessor;
-              activeMemory = t .activeMemory;
-              activeDisk = λ z. none-stored (t .settled z) ∙ t .activeDisk z;
-              settled = λ z. let d = t .settled z in omega arith;
-              areaIs = t .areaIs;
-            };
-            primaryKept = v .primaryKept;
-            standbyKept = record {
-              settings = k .settings;
-              patience = k .patience;
-              reached = flushed-reached s c (omega arith) (k .reached);
-              memory = k .memory;
-              disk = length-stored (g .u) (slots .numbers) (e .stagedBlocks) (e .disk) c (store-of-flush (g .u) slots n (length (e .stagedBlocks)) (length (e .disk)) fits) ∙ k .disk;
-              stagedPages = k .stagedPages;
-              stagedMarks = k .stagedMarks;
-              stagedBlocks = length-bytes (g .u) slots (e .stagedBlocks) (k .reached .numbers) c (omega (arith, fits .due-high)) (fits .few) (fits .in-slots) ∙ k .stagedBlocks;
-              area = k .area;
-            };
-          };
-        }
+        standby-inv g b i (after (g .u) b .world .standby) (b .plain .activated) (b .plain .standbyMemory) (b .plain .standbyDisk)
+        (record {
+          receivedIs = t .receivedIs;
+          modeIs = t .modeIs;
+          processorIs = t .processorIs;
+          memoryIs = t .memoryIs;
+          diskIs = λ z. due-disk ∙ t .diskIs z;
+          stagedMemory = t .stagedMemory;
+          stagedDisk = λ z. staged-disk ∙ t .stagedDisk z;
+          stagedProcessor = t .stagedProcessor;
+          activeMemory = t .activeMemory;
+          activeDisk = λ z. none-stored (t .settled z) ∙ t .activeDisk z;
+          settled = λ z. let d = t .settled z in omega arith;
+          areaIs = t .areaIs;
+        })
+        (record {
+          settings = k .settings;
+          patience = k .patience;
+          reached = flushed-reached s c (omega arith) (k .reached);
+          memory = k .memory;
+          disk = length-stored (g .u) (slots .numbers) (e .stagedBlocks) (e .disk) c (store-of-flush (g .u) slots n (length (e .stagedBlocks)) (length (e .disk)) fits) ∙ k .disk;
+          stagedPages = k .stagedPages;
+          stagedMarks = k .stagedMarks;
+          stagedBlocks = length-bytes (g .u) slots (e .stagedBlocks) (k .reached .numbers) c (omega (arith, fits .due-high)) (fits .few) (fits .in-slots) ∙ k .stagedBlocks;
+          area = k .area;
+        })
 
 pub flush-keeps : (g : Settings) (n : ℕ) → KeepsAccepted g (call.flush n)
 flush-keeps g n b i e =

@@ -22,6 +22,7 @@ use Rattle.rules.specs.Reached.{PrimaryReached, StandbyReached}
 use Rattle.rules.specs.World.{PrimaryEnd, StandbyEnd}
 use Rattle.runs.specs.Plain.{Checkpoint, noCheckpoint}
 use Rattle.runs.specs.Run.{Both}
+use Rattle.runs.proofs.FirstLaws.{FirstOf}
 use Rattle.runs.proofs.Effects.{effects, Epoch, checkpointsAfter, lastAfter, sent, All, Before, AllBefore, Readable}
 
 -- what the run has sent and not yet settled
@@ -92,7 +93,7 @@ pub record Packets (held : List Held) (accepted : List (List ℕ)) (taken : ℕ)
   pub queued : map bytesOf held ≡ drop taken accepted
   pub sum : taken + length held ≡ length accepted
   pub released : Released taken checkpoints held
-  pub first : (j : ℕ) → j < length checkpoints → (rest : List (List ℕ)) × (getD checkpoints j noCheckpoint .packets ++ rest ≡ accepted)
+  pub first : (j : ℕ) → j < length checkpoints → FirstOf (getD checkpoints j noCheckpoint .packets) accepted
 
 -- ---- the standby: until it is active it has base, and while receiving what it staged is what the records consumed do to base;
 -- once active it has the plain standby's images

@@ -1,7 +1,8 @@
--- What the kept settings and lengths of the two ends give, in start's settings. Assumes nothing.
-use Prim.Native.Nat.{_*_, _≤_}
+-- What the kept settings and lengths of the two ends give, in start's settings, and calls that change only the standby. Assumes nothing.
+use Prim.Native.Nat.{ℕ, _*_, _≤_}
 use mathlib.Core.Path.{_≡_, sym, ap, _∙_, subst}
-use mathlib.Core.Bool.{true}
+use mathlib.Core.Bool.{Bool, true}
+use mathlib.Core.List.{List}
 use lib.ListN.{length}
 use Rattle.records.specs.Kind.{unitOk}
 use Rattle.settings.specs.declared.Settings.{Settings}
@@ -10,14 +11,16 @@ use Rattle.settings.specs.declared.StandbySettings.{StandbySettings}
 use Rattle.settings.specs.Range.{ofPrimary, ofStandby, mostSlots}
 use Rattle.settings.proofs.RangeLaws.{shared-unit, PrimarySettingsFacts, StandbySettingsFacts}
 use Rattle.marks.specs.Mark.{wordsFor}
-use Rattle.staging.specs.Slot.{slotsOk}
 use Rattle.staging.specs.Fits.{FlushFits}
-use Rattle.staging.proofs.StoreLaws.{flush-fits}
 use Rattle.rules.specs.StandbyState.{memoryLength, diskLength, slotsLength, marksLength}
 use Rattle.rules.specs.World.{PrimaryEnd, StandbyEnd}
+use Rattle.rules.specs.Step.{atStandby}
 use Rattle.rules.proofs.PrimaryFacts.{primary-facts}
-use Rattle.rules.proofs.StandbyFacts.{standby-tests, standby-facts}
-use Rattle.runs.proofs.Invariant.{PrimaryKept, StandbyKept}
+use Rattle.rules.proofs.StandbyFacts.{standby-facts}
+use Rattle.rules.proofs.FlushLaws.{flush-room}
+use Rattle.runs.specs.Plain.{withStandbyImages}
+use Rattle.runs.specs.Run.{Both}
+use Rattle.runs.proofs.Invariant.{Taker, PrimaryKept, StandbyKept, Inv}
 
 module _ (g : Settings) (p : PrimaryEnd) (k : PrimaryKept g p) where
   pub primary-u : p .state .settings .u ≡ g .u
@@ -64,12 +67,22 @@ module _ (g : Settings) (s : StandbyEnd) (k : StandbyKept g s) where
   pub standby-unit : unitOk (g .u) ≡ true
   standby-unit = shared-unit (standby-settings .shared)
 
-  pub slots-in-range : slotsOk (s .state .slots) (g .s) (g .d) ≡ true
-  slots-in-range = subst (λ (x : StandbySettings). slotsOk (s .state .slots) (x .s) (x .d) ≡ true) (k .settings) (standby-tests (s .state) (k .reached .inRange) .slots-ok)
-
   pub slots-few : g .s ≤ mostSlots
   slots-few = standby-settings .slots .s-high
 
   -- the staged blocks stand in their buffer, and those due on the disk
   pub slots-fit : FlushFits (g .u) (s .state .slots) (length (s .stagedBlocks)) (length (s .disk))
-  slots-fit = flush-fits (g .u) (g .s) (g .d) (s .state .slots) (length (s .stagedBlocks)) (length (s .disk)) (k .reached .numbers) slots-few slots-in-range (k .stagedBlocks) (k .disk)
+  slots-fit =
+      subst (λ (u : ℕ). FlushFits u (s .state .slots) (length (s .stagedBlocks)) (length (s .disk))) standby-u
+      (flush-room (s .state) (length (s .stagedBlocks)) (length (s .disk)) (k .reached .numbers) (record { inRange = k .reached .inRange; slotsLent = lent-blocks; diskLent = lent-disk }))
+
+-- ---- a call that changes only the standby, and the plain standby with it: of the invariant the two groups about it are to be shown
+pub standby-inv : (g : Settings) (b : Both) (i : Inv g b) (s : StandbyEnd) (activated : Bool) (memory disk : List ℕ)
+    → Taker (g .u) (g .m) s activated memory disk (i .ghost .base) (i .ghost .consumed) (b .plain .r) → StandbyKept g s
+    → Inv g (record { world = atStandby (b .world) s; plain = withStandbyImages (b .plain) activated memory disk })
+standby-inv g b i s activated memory disk t k =
+    let v = i .holds in
+    record {
+      ghost = i .ghost;
+      holds = record { history = v .history; link = v .link; images = v .images; detector = v .detector; packets = v .packets; taker = t; primaryKept = v .primaryKept; standbyKept = k };
+    }

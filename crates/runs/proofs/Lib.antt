@@ -9,6 +9,7 @@ pub mod Slips
 pub mod RuledOut
 pub mod RecordSteps
 pub mod Refused
+pub mod FirstLaws
 pub mod Effects
 pub mod Invariant
 pub mod Conclusions

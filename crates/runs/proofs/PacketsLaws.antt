@@ -2,7 +2,7 @@
 use Prim.Native.Nat.{ℕ, _+_, _≤_, _<_}
 use mathlib.Core.Path.{_≡_, sym, ap, _∙_}
 use mathlib.Core.Logic.{⊎-elim}
-use mathlib.Core.List.{List, [], _∷_, _++_, append-assoc, append-nil, map-append}
+use mathlib.Core.List.{List, [], _∷_, _++_, map-append}
 use native.Mathlib.Nat.{add-zero}
 use native.Mathlib.Omega.{arith}
 use lib.ListN.{length, drop, getD, length-append, List·getD-append}
@@ -10,6 +10,7 @@ use lib.Seq.{drop-append-le, drop-drop, getD-drop, getD-append-seam}
 use Rattle.lists.proofs.TestLaws.{lt-or-ge}
 use Rattle.queue.specs.HeldList.{Held}
 use Rattle.runs.specs.Plain.{Checkpoint, noCheckpoint}
+use Rattle.runs.proofs.FirstLaws.{FirstOf, first-all, first-more, first-same}
 use Rattle.runs.proofs.Invariant.{Released, bytesOf, Packets}
 
 -- ---- one packet more, with the open epoch
@@ -27,9 +28,7 @@ module _ (held : List Held) (accepted : List (List ℕ)) (taken : ℕ) (checkpoi
         queued = map-append bytesOf held (h ∷ []) ∙ ap (λ (l : List (List ℕ)). l ++ (x ∷ [])) (k .queued) ∙ sym (drop-append-le taken accepted (x ∷ []) (omega (arith, k .sum)));
         sum = simp length-append (omega (arith, k .sum));
         released = released-more taken checkpoints held h e (k .released);
-        first = λ j l.
-            let f = k .first j l in
-            (f .0 ++ (x ∷ []), sym (append-assoc (getD checkpoints j noCheckpoint .packets) (f .0) (x ∷ [])) ∙ ap (λ (l : List (List ℕ)). l ++ (x ∷ [])) (f .1));
+        first = λ j l. first-more (getD checkpoints j noCheckpoint .packets) accepted (x ∷ []) (k .first j l);
       }
 
   -- ---- the oldest is gone
@@ -56,10 +55,7 @@ module _ (held : List Held) (accepted : List (List ℕ)) (taken : ℕ) (checkpoi
       oldest-below = k .released .0 j from l
 
       pub oldest-saved : h .bytes ≡ getD (getD checkpoints j noCheckpoint .packets) taken []
-      oldest-saved =
-          let f = k .first j l in
-          let ps = getD checkpoints j noCheckpoint .packets in
-          oldest-is ∙ ap (λ (a : List (List ℕ)). getD a taken []) (sym (f .1)) ∙ List·getD-append ps (f .0) [] taken oldest-below
+      oldest-saved = oldest-is ∙ sym (first-same taken (getD checkpoints j noCheckpoint .packets) accepted (k .first j l) oldest-below)
 
 -- ---- one checkpoint more, with all packets accepted so far
 module _ (checkpoints : List Checkpoint) (c : Checkpoint) where
@@ -83,5 +79,5 @@ module _ (checkpoints : List Checkpoint) (c : Checkpoint) where
         queued = k .queued;
         sum = k .sum;
         released = released-checkpoint taken held (omega (arith, k .sum, ap length e)) (k .released);
-        first = λ j l. checkpoint-cases (λ (z : Checkpoint). (rest : List (List ℕ)) × (z .packets ++ rest ≡ accepted)) j l (k .first j) ([], append-nil (c .packets) ∙ e);
+        first = λ j l. checkpoint-cases (λ (z : Checkpoint). FirstOf (z .packets) accepted) j l (k .first j) (first-all (c .packets) accepted e);
       }

@@ -6,7 +6,7 @@ use mathlib.Core.List.{List, [], _∷_, _++_, append-assoc, append-nil}
 use native.Mathlib.Omega.{arith}
 use lib.Dec.{eqb}
 use borrow.Author.Tests.{eq-eqb}
-use lib.ListN.{length, getD, length-append, List·getD-append}
+use lib.ListN.{length, getD, List·getD-append}
 use Rattle.records.specs.Kind.{COMMIT}
 use Rattle.rules.specs.World.{Call}
 use Rattle.rules.specs.World as call
@@ -14,6 +14,7 @@ use Rattle.rules.specs.Step.{Outcome}
 use Rattle.rules.proofs.ReplyLaws.{pick-cases}
 use Rattle.runs.specs.Plain.{Checkpoint, Plain, noCheckpoint, receivedCheckpoint, plainAccepted, plainStep}
 use Rattle.runs.specs.Run.{Both, Steps, steps, runCall, run}
+use Rattle.runs.proofs.FirstLaws.{FirstOf, first-all, first-more}
 use Rattle.runs.proofs.PacketsLaws.{checkpoint-cases}
 use Rattle.runs.proofs.Frame.{Accepted}
 
@@ -43,9 +44,6 @@ later-trans p q s x y =
     }
 
 -- ---- the packets of a checkpoint are the first of each later one's, and of those accepted
-abbrev pub FirstOf : List (List ℕ) → List (List ℕ) → Type 0
-FirstOf xs ys = (rest : List (List ℕ)) × (xs ++ rest ≡ ys)
-
 pub record Nested (checkpoints : List Checkpoint) (accepted : List (List ℕ)) : Type 0 where
   pub first : (i : ℕ) → i < length checkpoints → FirstOf (getD checkpoints i noCheckpoint .packets) accepted
   pub later : (i j : ℕ) → i ≤ j → j < length checkpoints → FirstOf (getD checkpoints i noCheckpoint .packets) (getD checkpoints j noCheckpoint .packets)
@@ -54,16 +52,15 @@ pub record Nested (checkpoints : List Checkpoint) (accepted : List (List ℕ)) :
 pub nested-one : (c : Checkpoint) → Nested (c ∷ []) (c .packets)
 nested-one c =
     record {
-      first = λ i l. let z : i ≡ 0 = omega arith in rw z ([], append-nil (c .packets));
-      later = λ i j a l. let z : i ≡ 0 = omega arith in let y : j ≡ 0 = omega arith in rw (z, y) ([], append-nil (c .packets));
+      first = λ i l. let z : i ≡ 0 = omega arith in rw z (first-all (c .packets) (c .packets) refl);
+      later = λ i j a l. let z : i ≡ 0 = omega arith in let y : j ≡ 0 = omega arith in rw (z, y) (first-all (c .packets) (c .packets) refl);
     }
 
 nested-checkpoint : (checkpoints : List Checkpoint) (accepted : List (List ℕ)) (c : Checkpoint) → c .packets ≡ accepted → Nested checkpoints accepted
     → Nested (checkpoints ++ (c ∷ [])) accepted
 nested-checkpoint checkpoints accepted c e k =
-    let self : FirstOf (c .packets) accepted = ([], append-nil (c .packets) ∙ e) in
     let first : (i : ℕ) → i < length (checkpoints ++ (c ∷ [])) → FirstOf (getD (checkpoints ++ (c ∷ [])) i noCheckpoint .packets) accepted
-    = λ i l. checkpoint-cases checkpoints c (λ (z : Checkpoint). FirstOf (z .packets) accepted) i l (k .first i) self in
+    = λ i l. checkpoint-cases checkpoints c (λ (z : Checkpoint). FirstOf (z .packets) accepted) i l (k .first i) (first-all (c .packets) accepted e) in
     record {
       first = first;
       later = λ i j b l.
@@ -74,12 +71,7 @@ nested-checkpoint checkpoints accepted c e k =
 
 nested-packet : (checkpoints : List Checkpoint) (accepted : List (List ℕ)) (x : List ℕ) → Nested checkpoints accepted → Nested checkpoints (accepted ++ (x ∷ []))
 nested-packet checkpoints accepted x k =
-    record {
-      first = λ i l.
-          let f = k .first i l in
-          (f .0 ++ (x ∷ []), sym (append-assoc (getD checkpoints i noCheckpoint .packets) (f .0) (x ∷ [])) ∙ ap (λ (l : List (List ℕ)). l ++ (x ∷ [])) (f .1));
-      later = k .later;
-    }
+    record { first = λ i l. first-more (getD checkpoints i noCheckpoint .packets) accepted (x ∷ []) (k .first i l); later = k .later }
 
 -- ---- one call: of an accepted one, and of a refused one, which changes nothing
 record Kept (p q : Plain) : Type 0 where
@@ -136,13 +128,6 @@ pub received-nested : (p q : Plain) → Later p q → Nested (q .checkpoints) (q
 received-nested p q l k below last =
     rw (sym (sym (ap (λ (x : List Checkpoint). getD x (p .r) noCheckpoint) (l .added)) ∙ List·getD-append (p .checkpoints) (l .more) noCheckpoint (p .r) below))
     (k .later (p .r) (q .r) (l .received) last)
-
--- ---- a packet of the first part is one of the whole
-pub first-below : (n : ℕ) (xs ys : List (List ℕ)) → FirstOf xs ys → n < length xs → n < length ys
-first-below n xs ys f l = omega (arith, length-append xs (f .0), ap length (f .1))
-
-pub first-same : (n : ℕ) (xs ys : List (List ℕ)) → FirstOf xs ys → n < length xs → getD xs n [] ≡ getD ys n []
-first-same n xs ys f l = sym (List·getD-append xs (f .0) [] n l) ∙ ap (λ (z : List (List ℕ)). getD z n []) (f .1)
 
 -- ---- an accepted activation: the plain standby has checkpoint r
 pub record Activated (p q : Plain) : Type 0 where

@@ -68,7 +68,6 @@ module _ (g : Settings) (b : Both) (i : Inv g b) where
       (reached : PrimaryReached (withDetector (b .world .primary .state) (withCount (b .world .primary .state .detector) c) alone waiting)) where
     tick-inv : Inv g (after (withDetector (b .world .primary .state) (withCount (b .world .primary .state .detector) c) alone waiting) n b)
     tick-inv =
-        let p = b .world .primary in
         let v = i .holds in
         let h = i .ghost in
         let k = v .primaryKept in

@@ -1,5 +1,5 @@
 -- An accepted read keeps the invariant. Assumes nothing.
-use Prim.Native.Nat.{ℕ, _-_}
+use Prim.Native.Nat.{ℕ}
 use mathlib.Core.Path.{_≡_, refl, sym, ap, ap₂, _∙_, subst}
 use mathlib.Core.Logic.{⊎-elim}
 use mathlib.Core.Bool.{true, false, false≢true}
@@ -7,14 +7,14 @@ use mathlib.Core.List.{List, [], _∷_, _++_, append-nil}
 use native.Mathlib.Omega.{arith}
 use lib.ListN.{length, take, drop}
 use lib.Seq.{take-at}
-use Rattle.lists.specs.Part.{part, put}
+use Rattle.lists.specs.Part.{put}
 use Rattle.lists.proofs.TestLaws.{by-test, eq-or-ne}
 use Rattle.lists.proofs.PartLaws.{put-front}
 use Rattle.records.specs.declared.Record.{Record}
 use Rattle.records.specs.declared.Record.the-variants as record-of
 use Rattle.records.specs.declared.Reader.the-variants as reader
 use Rattle.records.specs.Kind.{unitOk, ACK, bodyLength, recordLength}
-use Rattle.records.specs.Read.{readRecord}
+use Rattle.records.specs.Read.{readRecord, usedOf}
 use Rattle.records.specs.Write.{ackRecord}
 use Rattle.records.specs.Message.{Message, encode, encodeAll, readAs}
 use Rattle.records.specs.Message as message
@@ -26,7 +26,7 @@ use Rattle.rules.specs.declared.Standby.{Standby}
 use Rattle.rules.specs.StandbyState.{isReceiving}
 use Rattle.rules.specs.Reply.{answerOf, numberOf, unlessRefused}
 use Rattle.rules.specs.Judge.{readLentOk, recordRefusal}
-use Rattle.rules.specs.Read.{readLent}
+use Rattle.rules.specs.Read.{bytesAt, readLent}
 use Rattle.rules.specs.World.{StandbyEnd}
 use Rattle.rules.specs.World as call
 use Rattle.rules.specs.Step.{Stepped}
@@ -52,8 +52,9 @@ module _ (g : Settings) (b : Both) (i : Inv g b) (n : ℕ) (reply : List ℕ) wh
   abbrev u : ℕ
   u = b .world .standby .state .settings .u
 
-  abbrev bytes : List ℕ
-  bytes = take n (b .world .link)
+  -- the bytes that it is given begin with this record
+  abbrev Begins : Message → Type 0
+  Begins x = take n (b .world .link) ≡ encode x ++ drop (length (encode x)) (take n (b .world .link))
 
   abbrev bothBy : Record → Both
   bothBy r =
@@ -63,39 +64,36 @@ module _ (g : Settings) (b : Both) (i : Inv g b) (n : ℕ) (reply : List ℕ) wh
   run-is = ap (λ (s : Stepped). record { world = s .next; plain = plainStep (g .u) (call.read n reply) (s .outcome) (b .plain) }) (read-step (b .world) n reply)
 
   -- ---- the pair, by the record that was judged: its field is the message's bytes, and its length is used
-  module _ (x : Message) (fits : message.Fits (b .world .standby .state .settings .u) x) (whole : take n (b .world .link) ≡ encode x ++ drop (length (encode x)) (take n (b .world .link))) where
-    field : part (cursorOf (readAs u x) .start) (cursorOf (readAs u x) .end - cursorOf (readAs u x) .start) (take n (b .world .link)) ≡ bytesOf x
+  module _ (x : Message) (fits : message.Fits (b .world .standby .state .settings .u) x) (whole : Begins x) where
+    field : bytesAt (cursorOf (readAs u x)) (take n (b .world .link)) ≡ bytesOf x
     field =
-        ap (part (cursorOf (readAs u x) .start) (cursorOf (readAs u x) .end - cursorOf (readAs u x) .start)) whole ∙ message-bytes u x fits (drop (length (encode x)) (take n (b .world .link)))
+        ap (bytesAt (cursorOf (readAs u x))) whole ∙ message-bytes u x fits (drop (length (encode x)) (take n (b .world .link)))
 
   -- with no ACK written
   abbrev unacked : StandbyEnd → ℕ → List ℕ → Both
   unacked e used acks =
       record { world = record { primary = b .world .primary; standby = e; link = drop used (b .world .link); acks = acks }; plain = b .plain }
 
-  page-is : (e p : ℕ) (bs : List ℕ) → message.Fits u (message.page e p bs) → take n (b .world .link) ≡ encode (message.page e p bs) ++ drop (length (encode (message.page e p bs))) (take n (b .world .link))
+  staged-is : (end : List ℕ → StandbyEnd) (x : Message) → message.Fits u x → Begins x
+      → unacked (end (bytesAt (cursorOf (readAs u x)) (take n (b .world .link)))) (usedOf (readAs u x)) (b .world .acks ++ []) ≡ stagedAfter b (end (bytesOf x)) (length (encode x))
+  staged-is end x fits whole =
+      ap₂ (λ (l : List ℕ) (used : ℕ). unacked (end l) used (b .world .acks ++ [])) (field x fits whole) (used-message u x fits)
+      ∙ ap (unacked (end (bytesOf x)) (length (encode x))) (append-nil (b .world .acks))
+
+  page-is : (e p : ℕ) (bs : List ℕ) → message.Fits u (message.page e p bs) → Begins (message.page e p bs)
       → bothBy (readAs u (message.page e p bs)) ≡ stagedAfter b (pageEnd g b i u p bs) (length (encode (message.page e p bs)))
   unfolding plainStep plainAccepted
-  page-is e p bs fits whole =
-      let x = message.page e p bs in
-      ap₂ (λ (l : List ℕ) (used : ℕ). unacked (pageEnd g b i u p l) used (b .world .acks ++ [])) (field x fits whole) (used-message u x fits)
-      ∙ ap (unacked (pageEnd g b i u p bs) (length (encode x))) (append-nil (b .world .acks))
+  page-is e p bs fits whole = staged-is (pageEnd g b i u p) (message.page e p bs) fits whole
 
-  block-is : (e m : ℕ) (bs : List ℕ) → message.Fits u (message.block e m bs) → take n (b .world .link) ≡ encode (message.block e m bs) ++ drop (length (encode (message.block e m bs))) (take n (b .world .link))
+  block-is : (e m : ℕ) (bs : List ℕ) → message.Fits u (message.block e m bs) → Begins (message.block e m bs)
       → bothBy (readAs u (message.block e m bs)) ≡ stagedAfter b (blockEnd g b i u m bs) (length (encode (message.block e m bs)))
   unfolding plainStep plainAccepted
-  block-is e m bs fits whole =
-      let x = message.block e m bs in
-      ap₂ (λ (l : List ℕ) (used : ℕ). unacked (blockEnd g b i u m l) used (b .world .acks ++ [])) (field x fits whole) (used-message u x fits)
-      ∙ ap (unacked (blockEnd g b i u m bs) (length (encode x))) (append-nil (b .world .acks))
+  block-is e m bs fits whole = staged-is (blockEnd g b i u m) (message.block e m bs) fits whole
 
-  state-is : (e : ℕ) (bs : List ℕ) → message.Fits u (message.state e bs) → take n (b .world .link) ≡ encode (message.state e bs) ++ drop (length (encode (message.state e bs))) (take n (b .world .link))
+  state-is : (e : ℕ) (bs : List ℕ) → message.Fits u (message.state e bs) → Begins (message.state e bs)
       → bothBy (readAs u (message.state e bs)) ≡ stagedAfter b (stateEnd g b i bs) (length (encode (message.state e bs)))
   unfolding plainStep plainAccepted
-  state-is e bs fits whole =
-      let x = message.state e bs in
-      ap₂ (λ (l : List ℕ) (used : ℕ). unacked (stateEnd g b i l) used (b .world .acks ++ [])) (field x fits whole) (used-message u x fits)
-      ∙ ap (unacked (stateEnd g b i bs) (length (encode x))) (append-nil (b .world .acks))
+  state-is e bs fits whole = staged-is (stateEnd g b i) (message.state e bs) fits whole
 
   commit-is : (e p m : ℕ) → message.Fits u (message.commit e p m)
       → bothBy (readAs u (message.commit e p m)) ≡ commitAfter b e (b .world .standby .state .settings) (length (encode (message.commit e p m))) (ackRecord e)
@@ -120,7 +118,7 @@ module _ (g : Settings) (b : Both) (i : Inv g b) (n : ℕ) (reply : List ℕ) wh
     abbrev state : Standby
     state = b .world .standby .state
 
-    by-message : (x : Message) (xs : List Message) → i .ghost .pending ≡ x ∷ xs → Readable (g .u) x → take n (b .world .link) ≡ encode x ++ drop (length (encode x)) (take n (b .world .link))
+    by-message : (x : Message) (xs : List Message) → i .ghost .pending ≡ x ∷ xs → Readable (g .u) x → Begins x
         → drop (length (encode x)) (b .world .link) ++ (take (b .world .primary .state .waiting) (b .world .primary .stream) ++ i .ghost .lost) ≡ encodeAll xs
         → recordRefusal (b .world .standby .state) (length reply) (readAs u x) ≡ 0 → Inv g (bothBy (readAs u x))
     by-message (message.page e p bs) xs first f whole rest z =

@@ -89,9 +89,6 @@ commitAfter b epoch x used ack =
 
 module _ (g : Settings) (b : Both) (epoch p n : ℕ) (xs : List Message) (on : isReceiving (b .world .standby .state .mode) ≡ true)
     (seen : b .world .standby .state .seen ≡ true) (next : epoch ≡ b .world .standby .state .received + 1) where
-  abbrev x : Message
-  x = message.commit epoch p n
-
   commit-inv-at : (base : Checkpoint) (ahead : List Epoch) (opened consumed pending : List Message) (lost : List ℕ) (acks : List ℕ)
       → InvAt g (record { base = base; ahead = ahead; opened = opened; consumed = consumed; pending = pending; lost = lost; acks = acks }) b
       → pending ≡ message.commit epoch p n ∷ xs

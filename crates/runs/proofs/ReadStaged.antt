@@ -106,7 +106,6 @@ module _ (g : Settings) (b : Both) (i : Inv g b) where
       let s = e .state in
       let t = i .holds .taker in
       let k = i .holds .standbyKept in
-      let c = effects (g .u) (i .ghost .base) (i .ghost .consumed) in
       let below : p < g .m = omega (arith, f .page-low, standby-m g e k) in
       let whole : length bs ≡ g .u = n .fits .2 in
       let inside : p * g .u + g .u ≤ length (e .stagedPages) = omega (arith, page-end p (g .m) (g .u) below, k .stagedPages) in

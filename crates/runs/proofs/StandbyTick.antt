@@ -23,7 +23,7 @@ use Rattle.runs.specs.Plain.{plainAccepted, plainStep}
 use Rattle.runs.specs.Run.{Both, steps, runCall}
 use Rattle.runs.proofs.Invariant.{Inv}
 use Rattle.runs.proofs.ModeLaws.{receiving-not-active}
-use Rattle.runs.proofs.KeptLaws.{slots-fit}
+use Rattle.runs.proofs.KeptLaws.{slots-fit, standby-inv}
 use Rattle.runs.proofs.Frame.{Accepted, KeepsAccepted}
 
 -- the pair with this state and these marks at the standby
@@ -52,96 +52,74 @@ module _ (g : Settings) (b : Both) (i : Inv g b) where
       → Inv g (after (counted (b .world .standby .state)) (b .world .standby .stagedMarks) b)
   counted-inv on f =
       let e = b .world .standby in
-      let v = i .holds in
-      let k = v .standbyKept in
-      let t = v .taker in
+      let k = i .holds .standbyKept in
+      let t = i .holds .taker in
       let s = e .state in
       let p = ticked-patience (s .detector) true in
-      record {
-        ghost = i .ghost;
-        holds = record {
-          history = v .history;
-          link = v .link;
-          images = v .images;
-          detector = v .detector;
-          packets = v .packets;
-          taker = record {
-            receivedIs = t .receivedIs;
-            modeIs = t .modeIs;
-            processorIs = t .processorIs;
-            memoryIs = t .memoryIs;
-            diskIs = t .diskIs;
-            stagedMemory = t .stagedMemory;
-            stagedDisk = t .stagedDisk;
-            stagedProcessor = t .stagedProcessor;
-            activeMemory = t .activeMemory;
-            activeDisk = t .activeDisk;
-            settled = t .settled;
-            areaIs = t .areaIs;
-          };
-          primaryKept = v .primaryKept;
-          standbyKept = record {
-            settings = k .settings;
-            patience = p ∙ k .patience;
-            reached = subst StandbyReached (tick-counts s on f .0) (ticked-reached s (k .reached));
-            memory = k .memory;
-            disk = k .disk;
-            stagedPages = k .stagedPages;
-            stagedMarks = k .stagedMarks;
-            stagedBlocks = k .stagedBlocks;
-            area = k .area;
-          };
-        };
-      }
+      standby-inv g b i (after (counted s) (e .stagedMarks) b .world .standby) (b .plain .activated) (b .plain .standbyMemory) (b .plain .standbyDisk)
+      (record {
+        receivedIs = t .receivedIs;
+        modeIs = t .modeIs;
+        processorIs = t .processorIs;
+        memoryIs = t .memoryIs;
+        diskIs = t .diskIs;
+        stagedMemory = t .stagedMemory;
+        stagedDisk = t .stagedDisk;
+        stagedProcessor = t .stagedProcessor;
+        activeMemory = t .activeMemory;
+        activeDisk = t .activeDisk;
+        settled = t .settled;
+        areaIs = t .areaIs;
+      })
+      (record {
+        settings = k .settings;
+        patience = p ∙ k .patience;
+        reached = subst StandbyReached (tick-counts s on f .0) (ticked-reached s (k .reached));
+        memory = k .memory;
+        disk = k .disk;
+        stagedPages = k .stagedPages;
+        stagedMarks = k .stagedMarks;
+        stagedBlocks = k .stagedBlocks;
+        area = k .area;
+      })
 
   -- the tick at which the standby takes over
   dropped-inv : isReceiving (b .world .standby .state .mode) ≡ true → expired (ticked (b .world .standby .state .detector) true) ≡ true
       → Inv g (after (withMode (dropped (counted (b .world .standby .state))) TakingOver) (cleared (b .world .standby .stagedMarks) (b .world .standby .state .settings .m)) b)
   dropped-inv on f =
       let e = b .world .standby in
-      let v = i .holds in
-      let k = v .standbyKept in
-      let t = v .taker in
+      let k = i .holds .standbyKept in
+      let t = i .holds .taker in
       let s = e .state in
       let p = ticked-patience (s .detector) true in
       let none : isActive (s .mode) ≡ false = receiving-not-active (s .mode) on in
       let due = slots-fit g e k .due-high in
-      record {
-        ghost = i .ghost;
-        holds = record {
-          history = v .history;
-          link = v .link;
-          images = v .images;
-          detector = v .detector;
-          packets = v .packets;
-          taker = record {
-            receivedIs = t .receivedIs;
-            modeIs = sym none ∙ t .modeIs;
-            processorIs = t .processorIs;
-            memoryIs = t .memoryIs;
-            diskIs = λ z. ap (storeAll (g .u) (e .disk)) (due-only-due (g .u) (s .slots) (e .stagedBlocks) due) ∙ t .diskIs z;
-            stagedMemory = λ z. absurd (false≢true z);
-            stagedDisk = λ z. absurd (false≢true z);
-            stagedProcessor = λ z. absurd (false≢true z);
-            activeMemory = t .activeMemory;
-            activeDisk = t .activeDisk;
-            settled = λ z. absurd (true≢false (sym z ∙ sym (t .modeIs) ∙ none));
-            areaIs = t .areaIs;
-          };
-          primaryKept = v .primaryKept;
-          standbyKept = record {
-            settings = k .settings;
-            patience = p ∙ k .patience;
-            reached = subst StandbyReached (tick-takes-over s on f .0) (ticked-reached s (k .reached));
-            memory = k .memory;
-            disk = k .disk;
-            stagedPages = k .stagedPages;
-            stagedMarks = length-cleared (e .stagedMarks) (s .settings .m) ∙ k .stagedMarks;
-            stagedBlocks = k .stagedBlocks;
-            area = k .area;
-          };
-        };
-      }
+      standby-inv g b i (after (withMode (dropped (counted s)) TakingOver) (cleared (e .stagedMarks) (s .settings .m)) b .world .standby) (b .plain .activated) (b .plain .standbyMemory) (b .plain .standbyDisk)
+      (record {
+        receivedIs = t .receivedIs;
+        modeIs = sym none ∙ t .modeIs;
+        processorIs = t .processorIs;
+        memoryIs = t .memoryIs;
+        diskIs = λ z. ap (storeAll (g .u) (e .disk)) (due-only-due (g .u) (s .slots) (e .stagedBlocks) due) ∙ t .diskIs z;
+        stagedMemory = λ z. absurd (false≢true z);
+        stagedDisk = λ z. absurd (false≢true z);
+        stagedProcessor = λ z. absurd (false≢true z);
+        activeMemory = t .activeMemory;
+        activeDisk = t .activeDisk;
+        settled = λ z. absurd (true≢false (sym z ∙ sym (t .modeIs) ∙ none));
+        areaIs = t .areaIs;
+      })
+      (record {
+        settings = k .settings;
+        patience = p ∙ k .patience;
+        reached = subst StandbyReached (tick-takes-over s on f .0) (ticked-reached s (k .reached));
+        memory = k .memory;
+        disk = k .disk;
+        stagedPages = k .stagedPages;
+        stagedMarks = length-cleared (e .stagedMarks) (s .settings .m) ∙ k .stagedMarks;
+        stagedBlocks = k .stagedBlocks;
+        area = k .area;
+      })
 
   -- ---- the state and the marks, by what the tick finds
   abbrev marksAfter : Bool → List ℕ

@@ -2,7 +2,7 @@
 use Prim.Native.Nat.{ℕ, zero, suc, _<_}
 use mathlib.Core.Path.{_≡_, refl, sym, ap, _∙_, subst}
 use mathlib.Core.Bool.{false≢true}
-use mathlib.Core.List.{List, [], _∷_, _++_}
+use mathlib.Core.List.{List, [], _∷_}
 use native.Mathlib.Omega.{arith}
 use lib.ListN.{getD, replicate}
 use borrow.Author.Tests.{eq-eqb, lt-leb}
@@ -22,6 +22,7 @@ use Rattle.rules.specs.World.{Processor, Buffers, startLent, startNumber, start
 use Rattle.rules.proofs.StartLaws.{StartFacts, start-accepted, opened-primary, opened-standby}
 use Rattle.runs.specs.Plain.{Checkpoint, noCheckpoint, plainStart}
 use Rattle.runs.specs.Run.{Both, startBoth}
+use Rattle.runs.proofs.FirstLaws.{FirstOf}
 use Rattle.runs.proofs.Invariant.{Packets, Inv}
 use Rattle.runs.proofs.StagedPages.{installed-none}
 use Rattle.runs.proofs.Frame.{StartLaw}
@@ -55,7 +56,7 @@ module _ (g : Settings) (processor : Processor) (b : Buffers) (f : StartFacts g 
   abbrev zeroth : Checkpoint
   zeroth = record { memory = b .memory; disk = b .disk; processor = processor .bytes; packets = [] }
 
-  first : (j : ℕ) → j < 1 → (rest : List (List ℕ)) × (getD (zeroth ∷ []) j noCheckpoint .packets ++ rest ≡ [])
+  first : (j : ℕ) → j < 1 → FirstOf (getD (zeroth ∷ []) j noCheckpoint .packets) []
   first zero h = ([], refl)
   first (suc j) h = absurd (omega arith)
 
