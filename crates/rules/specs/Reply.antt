@@ -43,12 +43,15 @@ usedOf (Refused number) = 0
 abbrev pub unlessRefused : ℕ → Record → Record
 unlessRefused number r = cond (eqb number 0) r (record-of.Refused number)
 
--- what a call answers, by the record that it judged
+-- what a call answers, by the record that it judged: an accepted one with its value and the bytes that it uses
+abbrev acceptedAs : Record → Answer
+acceptedAs r = Accepted (value r) (used r)
+
 abbrev pub answerOf : Record → Answer
-answerOf (record-of.Page e p c) = Accepted (value (record-of.Page e p c)) (used (record-of.Page e p c))
-answerOf (record-of.Block e n c) = Accepted (value (record-of.Block e n c)) (used (record-of.Block e n c))
-answerOf (record-of.State e c) = Accepted (value (record-of.State e c)) (used (record-of.State e c))
-answerOf (record-of.Commit e p b c) = Accepted (value (record-of.Commit e p b c)) (used (record-of.Commit e p b c))
-answerOf (record-of.Ack e c) = Accepted (value (record-of.Ack e c)) (used (record-of.Ack e c))
+answerOf (record-of.Page e p c) = acceptedAs (record-of.Page e p c)
+answerOf (record-of.Block e n c) = acceptedAs (record-of.Block e n c)
+answerOf (record-of.State e c) = acceptedAs (record-of.State e c)
+answerOf (record-of.Commit e p b c) = acceptedAs (record-of.Commit e p b c)
+answerOf (record-of.Ack e c) = acceptedAs (record-of.Ack e c)
 answerOf record-of.Short = Short
 answerOf (record-of.Refused n) = Refused n
