@@ -2,5 +2,6 @@
 pub mod TestLaws
 pub mod PartLaws
 pub mod ArrayLaws
+pub mod ChunkLaws
 pub mod PageLaws
 pub mod LittleEndianLaws

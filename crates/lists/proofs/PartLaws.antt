@@ -6,7 +6,7 @@ use native.Mathlib.Nat.{zero-add, add-zero, add-assoc, le-refl, sub-zero, zero-s
 use native.Mathlib.Numerals.{add-one}
 use native.Mathlib.Omega.{arith}
 use lib.ListN.{length, getD, set, take, drop, length-append, length-drop, take-append-drop, drop-of-length-le}
-use lib.Seq.{paste, paste-suc, length-paste, length-paste-head, take-nil, take-length, take-all, length-take-le, drop-at, take-at, drop-drop, take-add, getD-drop, getD-append-add}
+use lib.Seq.{paste, paste-suc, length-paste, take-nil, take-length, take-all, length-take-le, drop-at, take-at, drop-drop, take-add}
 use borrow.Rule.Slice.PartMut.{putMid, midOf}
 use Rattle.lists.specs.Part.{part, put, removed, PutDone}
 
@@ -156,27 +156,6 @@ module _ {A : Type 0} where
   pub removed-none : (at total : ℕ) (l : List A) → at ≤ total → total ≤ length l → removed at 0 total l ≡ l
   unfolding removed
   removed-none at total l h k = rw (add-zero at) (put-same l at (total - at) (omega arith))
-
-  -- a turn of the loop that moves within one list: it reads at or ahead of what it has written
-  paste-above : (d s : List A) (at i j : ℕ) (z : A) → at + i ≤ length d → i ≤ length s → at + i ≤ j → getD (paste d at s i) j z ≡ getD d j z
-  paste-above d s at i j z h k g =
-      let e : length (take at d ++ take i s) ≡ at + i = length-paste-head d at s i (omega arith) k in
-      let f : length (take at d ++ take i s) + (j - (at + i)) ≡ j = omega arith in
-      let o : at + i + (j - (at + i)) ≡ j = omega arith in
-      ap (λ (n : ℕ). getD (paste d at s i) n z) (sym f)
-      ∙ getD-append-add (take at d ++ take i s) (drop (at + i) d) (j - (at + i)) z
-      ∙ getD-drop (at + i) d (j - (at + i)) z
-      ∙ ap (λ (n : ℕ). getD d n z) o
-
-  pub move-turn : (d : List A) (at from i : ℕ) (z : A) → at ≤ from → from + i < length d
-      → set (paste d at (drop from d) i) (at + i) (getD (paste d at (drop from d) i) (from + i) z) ≡ paste d at (drop from d) (i + 1)
-  move-turn d at from i z h k =
-      let w : i < length (drop from d) = simp length-drop (omega arith) in
-      let e : getD (paste d at (drop from d) i) (from + i) z ≡ getD (drop from d) i z =
-      paste-above d (drop from d) at i (from + i) z (omega arith) (omega arith) (omega arith) ∙ sym (getD-drop from d i z) in
-      ap (λ (x : A). set (paste d at (drop from d) i) (at + i) x) e
-      ∙ paste-suc d at (drop from d) i z (omega arith) w
-      ∙ ap (paste d at (drop from d)) (sym (add-one i))
 
   -- a turn of the loop that copies to the head
   pub copy-turn : (d s : List A) (i : ℕ) (z : A) → i < length d → i < length s → set (paste d 0 s i) i (getD s i z) ≡ paste d 0 s (i + 1)

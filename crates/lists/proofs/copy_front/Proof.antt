@@ -1,51 +1,73 @@
 -- `lists::copy_front` meets its contract. The loop's invariant: the first i bytes are src's, the others as at entry.
-use Prim.Native.Nat.{ℕ, _≤_, _<_, _-_}
-use mathlib.Core.Path.{_≡_, refl, ap, _∙_}
-use mathlib.Core.List.{List}
-use lib.ListN.{length, getD, set, length-set}
-use lib.Seq.{paste, paste-zero}
 use native.Mathlib.Omega.{arith}
-use Rattle.lists.proofs.PartLaws.{copy-turn, put-paste}
+use borrow.Author.Needs.{needs}
+use Prim.Native.Nat.{ℕ, _+_, _-_, _≤_}
+use mathlib.Core.Path.{_≡_, refl, sym, ap, _∙_}
+use mathlib.Core.List.{List}
+use lib.ListN.{length, take}
+use Rattle.lists.specs.Part.{part, put}
+use Rattle.lists.proofs.PartLaws.{put-none}
+use Rattle.lists.proofs.ChunkLaws.{front-turn, front-all}
 use Rattle.lists.proofs.copy_front.Statement.{statement}
 use Rattle.lists.proofs.copy_front.Tie as tie
 
 abbrev Inv-loop : tie.InvT-loop
-Inv-loop dst₀ src i₀ dst i = (i ≤ length src) × (length dst ≡ length dst₀) × (dst ≡ paste dst₀ 0 src i)
+Inv-loop dst₀ src n i₀ dst i = (i ≤ n) × (length dst ≡ length dst₀) × (dst ≡ put dst₀ 0 (take i src))
 
 abbrev μ-loop : tie.MeasureT-loop
-μ-loop dst₀ src i₀ dst i = length src - i
+μ-loop dst₀ src n i₀ dst i = n - i
+
+copy-bytes-requires : tie.Need-copy-bytes-requires Inv-loop μ-loop
+copy-bytes-requires c κs = search needs
+
+same-length : tie.Need-same-length Inv-loop μ-loop
+same-length c = search needs
+
+returns : tie.Need-returns Inv-loop μ-loop
+returns c = c .before .before .copy-bytes .ensures
 
 loop-holds : tie.Need-loop-holds Inv-loop μ-loop
-loop-holds c = (omega arith, refl, paste-zero (c .args .dst .now) 0 (c .args .src .now))
+loop-holds c = (omega arith, refl, sym (put-none _ 0))
 
-shared-slice-read-dst : tie.Need-shared-slice-read-dst Inv-loop μ-loop
-shared-slice-read-dst c = omega arith
+sub-loop : tie.Need-sub-loop Inv-loop μ-loop
+sub-loop c = search needs
 
-slice-write-dst : tie.Need-slice-write-dst Inv-loop μ-loop
-slice-write-dst c = omega arith
+copy-chunk-requires : tie.Need-copy-chunk-requires Inv-loop μ-loop
+copy-chunk-requires c κs = search needs
 
 add-i : tie.Need-add-i Inv-loop μ-loop
-add-i c = omega arith
+add-i c = search needs
 
 loop-less : tie.Need-loop-less Inv-loop μ-loop
-loop-less c = omega arith
+loop-less c = search needs
 
 loop-again : tie.Need-loop-again Inv-loop μ-loop
 loop-again c =
-    let d : List ℕ = c .before .before .before .args .dst .now in
-    let s : List ℕ = c .before .before .before .args .src .now in
-    let i : ℕ = c .before .before .loop .i in
-    let hd : i < length d = omega arith in
-    let hs : i < length s = omega arith in
-    (omega arith, simp length-set (c .before .before .loop .inv .1), ap (λ (l : List ℕ). set l i (getD s i 0)) (c .before .before .loop .inv .2) ∙ copy-turn d s i 0 hd hs)
+    let a = c .before .before .before .before .before .before .before .before .before .args in
+    let w = c .before .before .before .before .before .loop in
+    let e : c .before .before .copy-chunk .last .0 ≡ put (a .dst .now) 0 (take (w .i + 4096) (a .src .now)) =
+    c .before .before .copy-chunk .ensures ∙ ap (λ (l : List ℕ). put l (w .i) (part (w .i) 4096 (a .src .now))) (w .inv .2) ∙ front-turn (a .dst .now) (a .src .now) (w .i) 4096 (omega arith) (omega arith) in
+    (omega arith, search needs, e)
 
-same-length : tie.Need-same-length Inv-loop μ-loop
-same-length c = c .before .loop .inv .1
+sub-copy-chunk : tie.Need-sub-copy-chunk Inv-loop μ-loop
+sub-copy-chunk c = search needs
 
-returns : tie.Need-returns Inv-loop μ-loop
-returns c =
-    let e : c .before .loop .i ≡ length (c .before .before .args .src .now) = omega arith in
-    rw e at (c .before .loop .inv .2) ∙ put-paste _ 0 _
+copy-chunk-requires-2 : tie.Need-copy-chunk-requires-2 Inv-loop μ-loop
+copy-chunk-requires-2 c κs = search needs
+
+same-length-2 : tie.Need-same-length-2 Inv-loop μ-loop
+same-length-2 c = search needs
+
+returns-2 : tie.Need-returns-2 Inv-loop μ-loop
+returns-2 c =
+    let a = c .before .before .before .before .before .before .before .before .before .args in
+    let w = c .before .before .before .before .before .loop in
+    let n : w .i + (length (a .src .now) - w .i) ≡ length (a .src .now) = omega arith in
+    c .before .before .copy-chunk2 .ensures
+    ∙ ap (λ (l : List ℕ). put l (w .i) (part (w .i) (length (a .src .now) - w .i) (a .src .now))) (w .inv .2)
+    ∙ front-turn (a .dst .now) (a .src .now) (w .i) (length (a .src .now) - w .i) (omega arith) (omega arith)
+    ∙ ap (λ (k : ℕ). put (a .dst .now) 0 (take k (a .src .now))) n
+    ∙ front-all _ _
 
 pub copy-front-spec : {M : Type 1} → statement M
 copy-front-spec =
@@ -53,11 +75,16 @@ copy-front-spec =
     (tie.spec
     Inv-loop
     μ-loop
+    copy-bytes-requires
+    same-length
+    returns
     loop-holds
-    shared-slice-read-dst
-    slice-write-dst
+    sub-loop
+    copy-chunk-requires
     add-i
     loop-less
     loop-again
-    same-length
-    returns)
+    sub-copy-chunk
+    copy-chunk-requires-2
+    same-length-2
+    returns-2)
