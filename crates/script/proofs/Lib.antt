@@ -2,3 +2,7 @@ pub mod CommandLaws
 pub mod FeedLaws
 pub mod FeedPartLaws
 pub mod PrintLaws
+pub mod AnswerLaws
+pub mod SiteLaws
+pub mod AckLaws
+pub mod LinkLaws

@@ -2,8 +2,13 @@
 use rules::Primary;
 use rules::Standby;
 
+pub mod answer;
 pub mod commands;
+pub mod link;
+pub mod primary_commands;
 pub mod printing;
+pub mod sites;
+pub mod standby_commands;
 
 // The primary's box: its state and every buffer that its calls are lent.
 pub struct PrimaryBox {

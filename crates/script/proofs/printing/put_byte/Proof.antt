@@ -1,6 +1,6 @@
 use native.Mathlib.Omega.{arith}
 use borrow.Author.Needs.{needs}
-use Rattle.queue.proofs.ArrayLaws.{set-put}
+use Rattle.lists.proofs.ArrayLaws.{set-put}
 use Rattle.script.proofs.printing.put_byte.Statement.{statement}
 use Rattle.script.proofs.printing.put_byte.Tie as tie
 use Rattle.script.proofs.printing.put_byte.Reads as reads

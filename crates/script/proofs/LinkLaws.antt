@@ -1,0 +1,298 @@
+-- Laws of the link: a record drained into the whole of its array, and what a read leaves of it and of the unread ACKs. Assumes nothing.
+use Prim.Native.Nat.{ℕ, _+_, _-_, _≤_, _<_, min}
+use mathlib.Core.Path.{_≡_, sym, ap, ap₂, _∙_}
+use mathlib.Core.Logic.{⊎-elim}
+use mathlib.Core.Bool.{true, false, cond, _&&_}
+use mathlib.Core.List.{List, _++_, append-nil}
+use native.Mathlib.Omega.{arith}
+use lib.Dec.{eqb}
+use lib.ListN.{length, take, drop, replicate, length-take, length-replicate}
+use lib.Seq.{length-take-le, take-at, take-all, take-length}
+use borrow.Author.Tests.{eq-eqb, ne-eqb}
+use Rattle.lists.specs.Part.{part, put, removed}
+use Rattle.lists.proofs.PartLaws.{length-part, part-zero, put-front, take-removed}
+use Rattle.lists.proofs.TestLaws.{and-false, eq-or-ne, lt-or-ge, cond-true, pick-refused}
+use Rattle.records.specs.declared.Record.{Record}
+use Rattle.records.specs.declared.Record.the-variants.{Page, Block, State, Commit, Ack, Short, Refused}
+use Rattle.records.specs.Kind.{ACK, COMMIT, bodyLength, recordLength}
+use Rattle.records.specs.Write.{ackRecord}
+use Rattle.records.proofs.FrameLaws.{length-epoch}
+use Rattle.rules.specs.declared.Primary.{Primary}
+use Rattle.rules.specs.declared.PrimaryReply.{PrimaryReply}
+use Rattle.rules.specs.declared.Standby.{Standby}
+use Rattle.rules.specs.declared.PrimaryAnswer.{PrimaryAnswer}
+use Rattle.rules.specs.declared.StandbyAnswer.{StandbyAnswer}
+use Rattle.rules.specs.declared.ReadLent.{ReadLent}
+use Rattle.rules.specs.Reply.{answerOf, numberOf, valueOf, usedOf}
+use Rattle.rules.specs.Stream.{drainRefusal, drainCount, drainReply, drainStream, drainDestination, ackReply}
+use Rattle.rules.specs.Judge.{judged}
+use Rattle.rules.specs.Read.{readState, replyAfter, readLent, readReply, readMemory, readStagedPages, readStagedMarks, readStagedBlocks, readReplyBytes}
+use Rattle.rules.specs.World as call
+use Rattle.rules.specs.Step.{step, outcome, ackWritten}
+use Rattle.rules.proofs.StreamLaws.{drain-accepted}
+use Rattle.rules.proofs.PrimaryFacts.{primary-facts}
+use Rattle.rules.proofs.ReplyLaws.{primary-reply-refused}
+use Rattle.rules.proofs.JudgeLaws.{JudgedFacts, judged-facts}
+use Rattle.script.specs.declared.Site.{Site}
+use Rattle.script.specs.Pair.{isEmpty, firstRecordLength, drained, done, ackBytes}
+use Rattle.script.specs.Site.{primaryOf, standbyOf, acksBetween, worldOf, doneOf}
+use Rattle.script.proofs.AckLaws.{take-between, acks-next, ack-used, acks-used}
+
+-- ---- a drain into a destination at least as long as the stream is a drain into one of n bytes
+module _ (p : Primary) (stream : List ℕ) (n : ℕ) where
+  -- no more leaves than waits
+  waits : drainRefusal p (length stream) ≡ 0 → p .waiting ≤ length stream
+  waits z = let f = drain-accepted p (length stream) z in omega (arith, primary-facts p (f .ok) .waiting, f .stream-is)
+
+  count-same : (room : ℕ) → length stream ≤ room → drainRefusal p (length stream) ≡ 0 → drainCount p n room ≡ drainCount p n n
+  count-same room h z = omega (arith, waits z)
+
+  -- what reaches the link
+  given : (destination : List ℕ) (c : ℕ) → c ≤ length stream → take c (put destination 0 (take c stream)) ≡ take c stream
+  given destination c h =
+      ap (take c) (put-front destination (take c stream))
+      ∙ take-at (take c stream) (drop (length (take c stream)) destination) c (length-take-le c stream h)
+
+  module _ (room : ℕ) (h : length stream ≤ room) where
+    pub drain-reply-same : drainReply p (length stream) n room ≡ drainReply p (length stream) n n
+    unfolding drainReply
+    drain-reply-same =
+        ⊎-elim
+        (λ (z : drainRefusal p (length stream) ≡ 0). rw (count-same room h z))
+        (λ (z : drainRefusal p (length stream) ≡ 0 → ⊥). primary-reply-refused _ _ _ _ z ∙ sym (primary-reply-refused _ _ _ _ z))
+        (eq-or-ne (drainRefusal p (length stream)) 0)
+
+    pub drain-stream-same : drainStream p stream n room ≡ drainStream p stream n n
+    unfolding drainStream
+    drain-stream-same =
+        ⊎-elim
+        (λ (z : drainRefusal p (length stream) ≡ 0). rw (count-same room h z))
+        (λ (z : drainRefusal p (length stream) ≡ 0 → ⊥). pick-refused _ _ _ z ∙ sym (pick-refused _ _ _ z))
+        (eq-or-ne (drainRefusal p (length stream)) 0)
+
+  pub drained-same : (d e : List ℕ) → length stream ≤ length d → length e ≡ n
+      → take (drainReply p (length stream) n (length d) .value) (drainDestination p stream n d) ≡ take (drainReply p (length stream) n (length e) .value) (drainDestination p stream n e)
+  unfolding drainReply drainDestination
+  drained-same d e h k =
+      ⊎-elim
+      (λ (z : drainRefusal p (length stream) ≡ 0).
+      let w = waits z in
+      let c : drainCount p n (length d) ≡ drainCount p n (length e) = omega arith in
+      rw (z, c, given d (drainCount p n (length e)) (omega arith), given e (drainCount p n (length e)) (omega arith)))
+      (λ (z : drainRefusal p (length stream) ≡ 0 → ⊥). rw (pick-refused (drainRefusal p (length stream)) (drainCount p n (length d)) 0 z, pick-refused (drainRefusal p (length stream)) (drainCount p n (length e)) 0 z))
+      (eq-or-ne (drainRefusal p (length stream)) 0)
+
+-- ---- the bytes in the link
+module _ (s : Site) (long : length (s .link) ≡ 1024) where
+  length-link : length (take (s .linked) (s .link)) ≡ min (s .linked) 1024
+  length-link = length-take (s .linked) (s .link) ∙ ap (min (s .linked)) long
+
+  pub empty-link : s .linked ≡ 0 → isEmpty (worldOf s .link) ≡ true
+  unfolding worldOf
+  empty-link z = eq-eqb (length (take (s .linked) (s .link))) 0 (omega (arith, length-link))
+
+  pub full-link : (s .linked ≡ 0 → ⊥) → isEmpty (worldOf s .link) ≡ false
+  unfolding worldOf
+  full-link z = ne-eqb (length (take (s .linked) (s .link))) 0 (λ e. z (omega (arith, length-link)))
+
+  -- a record drained into all of it
+  pub drain-record : (r : PrimaryReply) (stream link : List ℕ) → s .linked ≡ 0 → length (s .primary .stream) ≡ 1024
+      → r ≡ drainReply (s .primary .state) (length (s .primary .stream)) (firstRecordLength (worldOf s)) (length (s .link))
+      → stream ≡ drainStream (s .primary .state) (s .primary .stream) (firstRecordLength (worldOf s)) (length (s .link))
+      → link ≡ drainDestination (s .primary .state) (s .primary .stream) (firstRecordLength (worldOf s)) (s .link)
+      → worldOf (record {
+        primary = record { state = r .state; memory = s .primary .memory; disk = s .primary .disk; dirty = s .primary .dirty; held = s .primary .held; stream = stream };
+        standby = s .standby;
+        link = link;
+        linked = r .value;
+        unread = s .unread;
+      }) ≡ drained (worldOf s)
+  unfolding worldOf step
+  drain-record r stream link z l er es el =
+      let p = s .primary in
+      let n = firstRecordLength (worldOf s) in
+      let d : List ℕ = replicate n 0 in
+      let k : length d ≡ n = length-replicate n 0 in
+      let h : length (p .stream) ≤ length (s .link) = omega arith in
+      let a : r ≡ drainReply (p .state) (length (p .stream)) n (length d)
+      = er ∙ drain-reply-same (p .state) (p .stream) n (length (s .link)) h ∙ ap (drainReply (p .state) (length (p .stream)) n) (sym k) in
+      let b : stream ≡ drainStream (p .state) (p .stream) n (length d)
+      = es ∙ drain-stream-same (p .state) (p .stream) n (length (s .link)) h ∙ ap (drainStream (p .state) (p .stream) n) (sym k) in
+      let g : take (r .value) link ≡ take (s .linked) (s .link) ++ take (drainReply (p .state) (length (p .stream)) n (length d) .value) (drainDestination (p .state) (p .stream) n d)
+      = ap₂ (λ (x : PrimaryReply) (y : List ℕ). take (x .value) y) er el
+      ∙ drained-same (p .state) (p .stream) n (s .link) d h k
+      ∙ ap (λ (m : ℕ). take m (s .link) ++ take (drainReply (p .state) (length (p .stream)) n (length d) .value) (drainDestination (p .state) (p .stream) n d)) (sym z) in
+      let e : worldOf (record {
+        primary = record { state = r .state; memory = p .memory; disk = p .disk; dirty = p .dirty; held = p .held; stream = stream };
+        standby = s .standby;
+        link = link;
+        linked = r .value;
+        unread = s .unread;
+      }) ≡ step (worldOf s) (call.drain n d) .next
+      = λ i. record {
+        primary = record { state = a i .state; memory = p .memory; disk = p .disk; dirty = p .dirty; held = p .held; stream = b i };
+        standby = standbyOf (s .standby);
+        link = g i;
+        acks = acksBetween (s .unread) (s .standby .state .received);
+      } in
+      e ∙ sym (cond-true _ _ _ (empty-link z))
+
+-- ---- a read
+
+-- the epoch of the first unread ACK after it
+abbrev unreadAfter : ℕ → StandbyAnswer → ℕ
+unreadAfter unread r = cond (eqb (numberOf (r .answer)) 0 && eqb (valueOf (r .answer)) COMMIT) (min unread (r .state .received)) unread
+
+module _ (s : Standby) (l : ReadLent) (bytes : List ℕ) where
+  -- it uses bytes that are there
+  pub used-inside : usedOf (readReply s l bytes .answer) ≤ length bytes
+  unfolding readReply
+  used-inside = go (judged s l bytes) (judged-facts s l bytes)
+    where
+      go : (r : Record) → JudgedFacts s l bytes r → usedOf (answerOf r) ≤ length bytes
+      go (Page e p c) f = f .field .inside
+      go (Block e n c) f = f .field .inside
+      go (State e c) f = f .field .inside
+      go (Commit e p b c) f = f .field .inside
+      go (Ack e c) f = absurd f
+      go Short f = omega arith
+      go (Refused n) f = omega arith
+
+  abbrev readBy : Record → StandbyAnswer
+  readBy r = record { state = readState s bytes r; answer = answerOf r }
+
+  abbrev AcksAfter : ℕ → List ℕ → Record → Type 0
+  AcksAfter unread reply r = acksBetween (unreadAfter unread (readBy r)) (readState s bytes r .received) ≡ acksBetween unread (s .received) ++ ackWritten (readBy r) (replyAfter reply r)
+
+  written : (u epoch : ℕ) (reply : List ℕ) → take (recordLength u ACK) (put reply 0 (ackRecord epoch)) ≡ ackRecord epoch
+  unfolding recordLength bodyLength
+  written u epoch reply = ap (take 8) (put-front reply (ackRecord epoch)) ∙ take-at (ackRecord epoch) (drop (length (ackRecord epoch)) reply) 8 (length-epoch ACK epoch)
+
+  -- an accepted COMMIT adds the ACK of the next epoch; nothing else adds one
+  pub acks-after : (unread : ℕ) (reply : List ℕ)
+      → acksBetween (unreadAfter unread (readReply s l bytes)) (readReply s l bytes .state .received)
+      ≡ acksBetween unread (s .received) ++ ackWritten (readReply s l bytes) (readReplyBytes s l bytes reply)
+  unfolding readReply readReplyBytes
+  acks-after unread reply = go (judged s l bytes) (judged-facts s l bytes)
+    where
+      go : (r : Record) → JudgedFacts s l bytes r → AcksAfter unread reply r
+      go (Page e p c) f = sym (append-nil _)
+      go (Block e n c) f = sym (append-nil _)
+      go (State e c) f = sym (append-nil _)
+      go (Commit e p b c) f = rw (written (s .settings .u) e reply, f .tests .epoch-next) (acks-next unread (s .received))
+      go (Ack e c) f = absurd f
+      go Short f = sym (append-nil _)
+      go (Refused n) f = rw (and-false (eqb n 0)) (sym (append-nil _))
+
+-- ---- a read of all that is in the link
+module _ (s : Site) (long : length (s .link) ≡ 1024) (k : ℕ) (count : k ≡ min (s .linked) 1024) where
+  abbrev lent : ReadLent
+  lent = readLent (s .standby .memory) (s .standby .pages) (s .standby .marks) (s .standby .blocks) (replicate 8 0)
+
+  inside : k ≤ length (s .link)
+  inside = omega arith
+
+  take-link : take k (s .link) ≡ take (s .linked) (s .link)
+  take-link =
+      ⊎-elim
+      (λ (h : s .linked < 1024). let e : k ≡ s .linked = omega arith in ap (λ (n : ℕ). take n (s .link)) e)
+      (λ (h : 1024 ≤ s .linked). take-all k (s .link) (omega arith) ∙ sym (take-all (s .linked) (s .link) (omega arith)))
+      (lt-or-ge (s .linked) 1024)
+
+  module _ (bytes : List ℕ) (given-is : bytes ≡ part 0 k (s .link)) (r : StandbyAnswer) (reply-is : r ≡ readReply (s .standby .state) lent bytes)
+      (used : ℕ) (used-is : used ≡ usedOf (r .answer)) where
+    pub used-low : used ≤ k
+    used-low =
+        let n : length bytes ≡ k = ap length given-is ∙ length-part 0 k (s .link) (omega (arith, inside)) in
+        let h : usedOf (readReply (s .standby .state) lent bytes .answer) ≤ length bytes = used-inside (s .standby .state) lent bytes in
+        let e : usedOf (r .answer) ≡ usedOf (readReply (s .standby .state) lent bytes .answer) = ap (λ (x : StandbyAnswer). usedOf (x .answer)) reply-is in
+        omega arith
+
+    abbrev seen : List ℕ
+    seen = take (length (take (s .linked) (s .link))) (take (s .linked) (s .link))
+
+    seen-is : bytes ≡ seen
+    seen-is = given-is ∙ part-zero k (s .link) ∙ take-link ∙ sym (take-length (take (s .linked) (s .link)))
+
+    pub read-done : (memory pages marks blocks link : List ℕ) (unread : ℕ)
+        → memory ≡ readMemory (s .standby .state) lent bytes (s .standby .memory) (s .standby .pages) (s .standby .marks)
+        → pages ≡ readStagedPages (s .standby .state) lent bytes (s .standby .pages)
+        → marks ≡ readStagedMarks (s .standby .state) lent bytes (s .standby .marks)
+        → blocks ≡ readStagedBlocks (s .standby .state) lent bytes (s .standby .blocks)
+        → link ≡ removed 0 used k (s .link)
+        → unread ≡ unreadAfter (s .unread) r
+        → doneOf (record {
+          site = record {
+            primary = s .primary;
+            standby = record { state = r .state; memory = memory; disk = s .standby .disk; pages = pages; marks = marks; blocks = blocks; area = s .standby .area };
+            link = link;
+            linked = k - used;
+            unread = unread;
+          };
+          number = numberOf (r .answer);
+          value = valueOf (r .answer);
+          last = false;
+        }) ≡ done (step (worldOf s) (call.read (length (worldOf s .link)) (replicate ackBytes 0)))
+    unfolding worldOf step recordLength bodyLength
+    read-done memory pages marks blocks link unread em ep ek eb el eu =
+        let b = s .standby in
+        let R = readReply (b .state) lent seen in
+        let a : r ≡ R = reply-is ∙ ap (readReply (b .state) lent) seen-is in
+        let m : memory ≡ readMemory (b .state) lent seen (b .memory) (b .pages) (b .marks) = em ∙ ap (λ (x : List ℕ). readMemory (b .state) lent x (b .memory) (b .pages) (b .marks)) seen-is in
+        let p : pages ≡ readStagedPages (b .state) lent seen (b .pages) = ep ∙ ap (λ (x : List ℕ). readStagedPages (b .state) lent x (b .pages)) seen-is in
+        let q : marks ≡ readStagedMarks (b .state) lent seen (b .marks) = ek ∙ ap (λ (x : List ℕ). readStagedMarks (b .state) lent x (b .marks)) seen-is in
+        let t : blocks ≡ readStagedBlocks (b .state) lent seen (b .blocks) = eb ∙ ap (λ (x : List ℕ). readStagedBlocks (b .state) lent x (b .blocks)) seen-is in
+        let l : take (k - used) link ≡ drop (usedOf (R .answer)) (take (s .linked) (s .link))
+        = ap (take (k - used)) el
+        ∙ take-removed used k (s .link) used-low inside
+        ∙ ap₂ (λ (n : ℕ) (x : List ℕ). drop n x) (used-is ∙ ap (λ (x : StandbyAnswer). usedOf (x .answer)) a) take-link in
+        let g : acksBetween unread (r .state .received) ≡ acksBetween (s .unread) (b .state .received) ++ ackWritten R (readReplyBytes (b .state) lent seen (replicate 8 0))
+        = ap (λ (n : ℕ). acksBetween n (r .state .received)) eu
+        ∙ ap (λ (x : StandbyAnswer). acksBetween (unreadAfter (s .unread) x) (x .state .received)) a
+        ∙ acks-after (b .state) lent seen (s .unread) (replicate 8 0) in
+        λ i. record {
+          next = record {
+            primary = primaryOf (s .primary);
+            standby = record { state = a i .state; memory = m i; disk = b .disk; stagedPages = p i; stagedMarks = q i; stagedBlocks = t i; area = b .area };
+            link = l i;
+            acks = g i;
+          };
+          outcome = outcome (numberOf (a i .answer)) (valueOf (a i .answer));
+          last = false;
+        }
+
+-- ---- an ACK: the first unread one
+pub ack-done : (s : Site) (r : PrimaryAnswer) (unread : ℕ) → s .unread ≤ s .standby .state .received
+    → r ≡ ackReply (s .primary .state) (ackRecord (s .unread))
+    → unread ≡ cond (eqb (usedOf (r .answer)) 0) (s .unread) (s .unread + 1)
+    → doneOf (record {
+      site = record {
+        primary = record { state = r .state; memory = s .primary .memory; disk = s .primary .disk; dirty = s .primary .dirty; held = s .primary .held; stream = s .primary .stream };
+        standby = s .standby;
+        link = s .link;
+        linked = s .linked;
+        unread = unread;
+      };
+      number = numberOf (r .answer);
+      value = valueOf (r .answer);
+      last = false;
+    }) ≡ done (step (worldOf s) (call.ack ackBytes))
+unfolding worldOf step recordLength bodyLength
+ack-done s r unread h er eu =
+    let p = s .primary in
+    let acks = acksBetween (s .unread) (s .standby .state .received) in
+    let R = ackReply (p .state) (take 8 acks) in
+    let a : r ≡ R = er ∙ ap (ackReply (p .state)) (sym (take-between (s .unread) (s .standby .state .received) h)) in
+    let g : acksBetween unread (s .standby .state .received) ≡ drop (usedOf (R .answer)) acks
+    = ap (λ (n : ℕ). acksBetween n (s .standby .state .received)) (eu ∙ ap (λ (x : PrimaryAnswer). cond (eqb (usedOf (x .answer)) 0) (s .unread) (s .unread + 1)) a)
+    ∙ acks-used (s .unread) (s .standby .state .received) (usedOf (R .answer)) h (ack-used (p .state) (take 8 acks)) in
+    λ i. record {
+      next = record {
+        primary = record { state = a i .state; memory = p .memory; disk = p .disk; dirty = p .dirty; held = p .held; stream = p .stream };
+        standby = standbyOf (s .standby);
+        link = take (s .linked) (s .link);
+        acks = g i;
+      };
+      outcome = outcome (numberOf (a i .answer)) (valueOf (a i .answer));
+      last = false;
+    }

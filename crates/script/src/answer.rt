@@ -1,0 +1,64 @@
+// A line's command, performed and printed.
+ghost use mathlib.Core.Path.{_≡_};
+ghost use mathlib.Core.Bool.{false};
+ghost use Prim.Native.Nat.{_≤_};
+ghost use lib.ListN.{length, take};
+ghost use Rattle.script.specs.Feed.{reading, lineDone, linePrinted};
+ghost use Rattle.script.specs.Site.{worldOf, doneOf};
+ghost use Rattle.script.specs.Pair.{perform as performed};
+use crate::Answered;
+use crate::Command;
+use crate::Performed;
+use crate::Site;
+use crate::commands::command_of;
+use crate::link;
+use crate::primary_commands;
+use crate::printing;
+use crate::standby_commands;
+use text::Line;
+
+// What a command does.
+pub fn perform(s: Site, c: Command) -> Performed
+    ensures { λ r. ⌜ doneOf r ≡ performed (worldOf s) c ⌝ }
+{
+    match c {
+        Command::Write { page, byte } => primary_commands::write(s, page, byte),
+        Command::Disk { block, byte } => primary_commands::disk(s, block, byte),
+        Command::Send { length } => primary_commands::send(s, length),
+        Command::Close { byte } => primary_commands::close(s, byte),
+        Command::Move => link::move_record(s),
+        Command::Acknowledge => link::acknowledge(s),
+        Command::Take => primary_commands::take(s),
+        Command::Flush => standby_commands::flush(s),
+        Command::Takeover => standby_commands::takeover(s),
+        Command::Other => Performed {
+            site: s,
+            number: 1,
+            value: 0,
+            last: false,
+        },
+    }
+}
+
+// The answer to a line: the site after it, and what is printed.
+pub fn answer(s: Site, l: Line) -> Answered
+    ensures { λ r. ⌜ worldOf (r .site) ≡ lineDone (reading (worldOf s) l false) .next ⌝ }
+    ensures { λ r. ⌜ r .last ≡ lineDone (reading (worldOf s) l false) .last ⌝ }
+    ensures { λ r. ⌜ (take (r .length) (r .bytes) ≡ linePrinted (reading (worldOf s) l false)) × (r .length ≤ 44) × (length (r .bytes) ≡ 44) ⌝ }
+{
+    let c = command_of(l);
+    let letter = printing::letter_of(c);
+    let done = perform(s, c);
+    let site = done.site;
+    let number = done.number;
+    let value = done.value;
+    let last = done.last;
+    let mut bytes = [0u8; 44];
+    let n = printing::print(&mut bytes, 0, letter, number, value);
+    Answered {
+        site,
+        bytes,
+        length: n,
+        last,
+    }
+}

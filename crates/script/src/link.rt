@@ -1,0 +1,255 @@
+// The commands that move what travels between the boxes: m and a.
+ghost use mathlib.Core.Path.{_≡_};
+ghost use mathlib.Core.Bool.{false, cond, _&&_};
+ghost use Prim.Native.Nat.{_+_, _<_, _≤_, _^_, min};
+ghost use lib.Dec.{eqb};
+ghost use lib.ListN.{getD, length, replicate};
+ghost use Rattle.lists.specs.LittleEndian.{leAt};
+ghost use Rattle.records.specs.Kind.{COMMIT, headerLength};
+ghost use Rattle.records.specs.Write.{ackRecord};
+ghost use Rattle.records.specs.Number.{nothingFree};
+ghost use Rattle.rules.specs.Reply.{numberOf, valueOf, usedOf};
+ghost use Rattle.rules.specs.Step.{outcome, step};
+ghost use Rattle.rules.specs.World as call;
+ghost use Rattle.script.specs.declared.Command.the-variants.{Move, Acknowledge};
+ghost use Rattle.script.specs.Pair.{ackBytes, done, drained, perform, refused};
+ghost use Rattle.script.specs.Site.{worldOf, doneOf};
+use crate::Performed;
+use crate::Site;
+use rules::Answer;
+
+// The number, the value and the bytes used of an answer.
+fn number_of(a: Answer) -> u64
+    ensures { λ r. ⌜ r ≡ numberOf a ⌝ }
+{
+    match a {
+        Answer::Accepted { value: _, used: _ } => 0,
+        Answer::Short => 256,
+        Answer::Refused { number } => number,
+    }
+}
+
+fn value_of(a: Answer) -> u64
+    ensures { λ r. ⌜ r ≡ valueOf a ⌝ }
+{
+    match a {
+        Answer::Accepted { value, used: _ } => value,
+        Answer::Short => 0,
+        Answer::Refused { number: _ } => 0,
+    }
+}
+
+fn used_of(a: Answer) -> usize
+    ensures { λ r. ⌜ r ≡ usedOf a ⌝ }
+{
+    match a {
+        Answer::Accepted { value: _, used } => used,
+        Answer::Short => 0,
+        Answer::Refused { number: _ } => 0,
+    }
+}
+
+// The site with nothing changed: m or a with nothing there.
+fn nothing_there(s: Site) -> Performed
+    ensures { λ r. ⌜ doneOf r ≡ refused (worldOf s) nothingFree ⌝ }
+{
+    Performed {
+        site: s,
+        number: 18,
+        value: 0,
+        last: false,
+    }
+}
+
+// The site after a record was read, and what is printed of the answer.
+fn answered(s: Site, a: Answer) -> Performed
+    ensures { λ r. ⌜ doneOf r ≡ record { next = worldOf s; outcome = outcome (numberOf a) (valueOf a); last = false } ⌝ }
+{
+    let number = number_of(a);
+    let value = value_of(a);
+    Performed {
+        site: s,
+        number,
+        value,
+        last: false,
+    }
+}
+
+// The byte at a place.
+fn byte(s: &[u8], at: usize) -> usize
+    requires { ⌜ at < length (now s) ⌝ }
+    ensures { λ r. ⌜ (r ≡ getD (now (s .entry)) at 0) × (r < 256) ⌝ }
+{
+    s[at] as usize
+}
+
+// The length of the record at the head of the stream.
+fn first_length(stream: &[u8]) -> usize
+    requires { ⌜ 2 ≤ length (now stream) ⌝ }
+    ensures { λ r. ⌜ r ≡ headerLength + leAt 2 (now (stream .entry)) 0 ⌝ }
+{
+    4 + (byte(stream, 0) + 256 * byte(stream, 1))
+}
+
+// The link, with a record drained into it where it is empty.
+fn drain_record(s: Site) -> Site
+    ensures { λ r. ⌜ worldOf r ≡ drained (worldOf s) ⌝ }
+{
+    let linked = s.linked;
+    let p = s.primary;
+    let mut stream = p.stream;
+    let mut link = s.link;
+    if linked != 0 {
+        return s;
+    }
+    let n = first_length(&stream);
+    let r = primary::stream::drain(p.state, &mut stream, n, &mut link);
+    let state = r.state;
+    let drained = r.value as usize;
+    let mut end = p;
+    end.state = state;
+    end.stream = stream;
+    let mut next = s;
+    next.primary = end;
+    next.link = link;
+    next.linked = drained;
+    next
+}
+
+// The bytes in the link.
+fn in_link(linked: usize) -> usize
+    ensures { λ r. ⌜ r ≡ min linked 1024 ⌝ }
+{
+    if 1024 < linked {
+        return 1024;
+    }
+    linked
+}
+
+// The epoch of the first unread ACK after a read, by the last received epoch: a COMMIT's ACK is the last.
+fn first_unread(unread: u64, a: Answer, received: u32) -> u64
+    ensures { λ r. ⌜ r ≡ cond (eqb (numberOf a) 0 && eqb (valueOf a) COMMIT) (min unread received) unread ⌝ }
+{
+    let number = number_of(a);
+    let value = value_of(a);
+    let last = received as u64;
+    if number != 0 {
+        return unread;
+    }
+    if value != 4 {
+        return unread;
+    }
+    if last < unread {
+        return last;
+    }
+    unread
+}
+
+// Reads the record in the link: what it used leaves the link.
+fn read_link(s: Site) -> Performed
+    ensures { λ r. ⌜ doneOf r ≡ done (step (worldOf s) (call.read (length (worldOf s .link)) (replicate ackBytes 0))) ⌝ }
+{
+    let mut standby = s.standby;
+    let mut memory = standby.memory;
+    let mut pages = standby.pages;
+    let mut marks = standby.marks;
+    let mut blocks = standby.blocks;
+    let mut reply = [0u8; 8];
+    let mut link = s.link;
+    let count = in_link(s.linked);
+    let r = standby::read::read(
+        standby.state,
+        lists::part_of(&link, 0, count),
+        &mut memory,
+        &mut pages,
+        &mut marks,
+        &mut blocks,
+        &mut reply,
+    );
+    let state = r.state;
+    let answer = r.answer;
+    let used = used_of(answer);
+    lists::remove(&mut link, 0, used, count);
+    let unread = first_unread(s.unread, answer, state.received);
+    standby.state = state;
+    standby.memory = memory;
+    standby.pages = pages;
+    standby.marks = marks;
+    standby.blocks = blocks;
+    let mut next = s;
+    next.standby = standby;
+    next.link = link;
+    next.linked = count - used;
+    next.unread = unread;
+    answered(next, answer)
+}
+
+// `m`: drains one whole record into an empty link and reads it; a refused one is read again by the next `m`.
+pub fn move_record(s: Site) -> Performed
+    ensures { λ r. ⌜ doneOf r ≡ perform (worldOf s) Move ⌝ }
+{
+    let linked = s.linked;
+    let p = s.primary;
+    let state = p.state;
+    let waiting = state.waiting;
+    if linked == 0 {
+        if waiting == 0 {
+            return nothing_there(s);
+        }
+    }
+    read_link(drain_record(s))
+}
+
+// The bytes of an ACK.
+fn ack_bytes(epoch: u32) -> [u8; 8]
+    ensures { λ r. ⌜ r ≡ ackRecord epoch ⌝ }
+{
+    let mut bytes = [0u8; 8];
+    records::writing::write_ack(&mut bytes, epoch);
+    bytes
+}
+
+// The epoch of the first unread ACK after an ACK: the next one where it was used.
+fn after_ack(unread: u64, used: usize) -> u64
+    requires { ⌜ unread < 2 ^ 32 ⌝ }
+    ensures { λ r. ⌜ r ≡ cond (eqb used 0) unread (unread + 1) ⌝ }
+{
+    if used == 0 {
+        return unread;
+    }
+    unread + 1
+}
+
+// The first unread ACK at the primary.
+fn read_ack(s: Site, epoch: u32) -> Performed
+    requires { ⌜ (s .unread ≡ epoch) × (epoch ≤ s .standby .state .received) ⌝ }
+    ensures { λ r. ⌜ doneOf r ≡ done (step (worldOf s) (call.ack ackBytes)) ⌝ }
+{
+    let unread = s.unread;
+    let p = s.primary;
+    let bytes = ack_bytes(epoch);
+    let r = primary::stream::acknowledge(p.state, &bytes);
+    let state = r.state;
+    let answer = r.answer;
+    let after = after_ack(unread, used_of(answer));
+    let mut end = p;
+    end.state = state;
+    let mut next = s;
+    next.primary = end;
+    next.unread = after;
+    answered(next, answer)
+}
+
+// `a`: the next ACK.
+pub fn acknowledge(s: Site) -> Performed
+    ensures { λ r. ⌜ doneOf r ≡ perform (worldOf s) Acknowledge ⌝ }
+{
+    let unread = s.unread;
+    let b = s.standby;
+    let state = b.state;
+    let received = state.received;
+    if (received as u64) < unread {
+        return nothing_there(s);
+    }
+    read_ack(s, unread as u32)
+}
