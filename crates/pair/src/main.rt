@@ -1,0 +1,182 @@
+// The program `pair`: reads commands on standard input, to its end or to `k`, and prints what each line gives.
+ghost use mathlib.Core.Path.{_≡_};
+ghost use mathlib.Core.Bool.{false};
+ghost use mathlib.Core.List.{[], _∷_};
+ghost use Prim.Native.Nat.{_+_, _-_, _*_, _≤_, _<_};
+ghost use lib.ListN.{length};
+ghost use Rattle.lists.specs.Part.{part, PutDone};
+ghost use Rattle.text.specs.Line.{newline};
+ghost use Rattle.script.specs.Feed.{fedAll, fedAllPrinted, endPrinted};
+ghost use Rattle.pair.specs.Run.{readingOf};
+use libc::STDIN_FILENO;
+use libc::STDOUT_FILENO;
+use script::Site;
+use text::Line;
+
+// What is kept between two parts of the input.
+struct Run {
+    site: Site,
+    line: Line,
+    over: bool,
+}
+
+// After a part of the input: what is kept, how far the part is read, and how many bytes are to be printed.
+struct Step {
+    run: Run,
+    read: usize,
+    written: usize,
+}
+
+// Whether more is to be read after a turn.
+struct Next {
+    run: Run,
+    more: bool,
+}
+
+// The newline of a line: its answer goes into out from written on.
+fn answered(run: Run, out: &mut [u8], written: usize) -> Step
+    requires { ⌜ (run .over ≡ false) × (written + 44 ≤ length (now out)) ⌝ }
+    ensures { λ r. ⌜ readingOf (r .run) ≡ fedAll (readingOf run) (newline ∷ []) ⌝ }
+    ensures { λ r. ⌜ PutDone (fedAllPrinted (readingOf run) (newline ∷ [])) (now (out .entry)) written (now (out .exit)) (r .written) ⌝ }
+    ensures { λ r. ⌜ r .written ≤ written + 44 ⌝ }
+{
+    let site = run.site;
+    let line = run.line;
+    let a = script::answer::answer(site, line);
+    let n = a.length;
+    let bytes = a.bytes;
+    lists::copy_into(out, written, &bytes[..n]);
+    let after = a.site;
+    let over = a.last;
+    let none = text::kept::no_line();
+    let next = Run {
+        site: after,
+        line: none,
+        over,
+    };
+    Step {
+        run: next,
+        read: 0,
+        written: written + n,
+    }
+}
+
+// From one place of a part of the input to behind the next newline, or to its end.
+fn fed_line(run: Run, input: &[u8], from: usize, out: &mut [u8], written: usize) -> Step
+    requires { ⌜ (run .over ≡ false) × (from < length (now input)) × (written + 44 ≤ length (now out)) × (length (now input) ≤ 1024) ⌝ }
+    ensures { λ r. ⌜ (from < r .read) × (r .read ≤ length (now (input .entry))) × (r .written ≤ written + 44) ⌝ }
+    ensures { λ r. ⌜ readingOf (r .run) ≡ fedAll (readingOf run) (part from (r .read - from) (now (input .entry))) ⌝ }
+    ensures { λ r. ⌜ PutDone (fedAllPrinted (readingOf run) (part from (r .read - from) (now (input .entry)))) (now (out .entry)) written (now (out .exit)) (r .written) ⌝ }
+{
+    let site = run.site;
+    let end = text::lines::line_end(input, from);
+    let begun = run.line;
+    let line = text::kept::line_with_all(begun, &input[from..end]);
+    let next = Run {
+        site,
+        line,
+        over: false,
+    };
+    if end >= input.len() {
+        return Step {
+            run: next,
+            read: end,
+            written,
+        };
+    }
+    let last = answered(next, out, written);
+    let after = last.run;
+    let total = last.written;
+    Step {
+        run: after,
+        read: end + 1,
+        written: total,
+    }
+}
+
+// A part of the input, of at most 1,024 bytes: what is printed of it, at most 44 bytes for each newline, goes to the head of out.
+fn fed(run: Run, input: &[u8], out: &mut [u8]) -> Step
+    requires { ⌜ (length (now input) ≤ 1024) × (45056 ≤ length (now out)) ⌝ }
+    ensures { λ r. ⌜ readingOf (r .run) ≡ fedAll (readingOf run) (now (input .entry)) ⌝ }
+    ensures { λ r. ⌜ PutDone (fedAllPrinted (readingOf run) (now (input .entry))) (now (out .entry)) 0 (now (out .exit)) (r .written) ⌝ }
+    ensures { λ r. ⌜ r .written ≤ length (now (out .exit)) ⌝ }
+{
+    let mut run = run;
+    let mut over = run.over;
+    let mut read = 0;
+    let mut written = 0;
+    while read < input.len() && !over {
+        let next = fed_line(run, input, read, out, written);
+        run = next.run;
+        read = next.read;
+        written = next.written;
+        over = run.over;
+    }
+    Step { run, read, written }
+}
+
+// The end of the input: a last line without its newline is answered too.
+fn ended(run: Run, out: &mut [u8]) -> usize
+    requires { ⌜ 44 ≤ length (now out) ⌝ }
+    ensures { λ r. ⌜ PutDone (endPrinted (readingOf run)) (now (out .entry)) 0 (now (out .exit)) r ⌝ }
+    ensures { λ r. ⌜ r ≤ length (now (out .exit)) ⌝ }
+{
+    let line = run.line;
+    let over = run.over;
+    if over {
+        return 0;
+    }
+    if text::kept::is_empty_line(line) {
+        return 0;
+    }
+    let last = answered(run, out, 0);
+    last.written
+}
+
+// Reads a part of the input and prints what it gives.
+fn turn(run: Run) -> Next {
+    let mut input = [0u8; 1024];
+    let got = libc::read(STDIN_FILENO, &mut input);
+    if got <= 0 {
+        return Next { run, more: false };
+    }
+    let n = io::count(got, &input);
+    let mut out = [0u8; 45056];
+    let after = fed(run, &input[..n], &mut out);
+    let written = after.written;
+    io::write_all(STDOUT_FILENO, &out[..written]);
+    let next = after.run;
+    let over = next.over;
+    Next {
+        run: next,
+        more: !over,
+    }
+}
+
+// Part after part; the bound on the turns is the largest number, since a loop has to end.
+fn all(run: Run) -> Run {
+    let mut run = run;
+    let mut more = true;
+    let mut turns = u64::MAX;
+    while turns > 0 && more {
+        let t = turn(run);
+        run = t.run;
+        more = t.more;
+        turns -= 1;
+    }
+    run
+}
+
+fn main() {
+    let site = script::sites::started();
+    let line = text::kept::no_line();
+    let first = Run {
+        site,
+        line,
+        over: false,
+    };
+    let last = all(first);
+    let mut out = [0u8; 44];
+    let written = ended(last, &mut out);
+    io::write_all(STDOUT_FILENO, &out[..written]);
+}
