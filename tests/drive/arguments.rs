@@ -1,0 +1,284 @@
+//! Settings, worlds with buffers, and the arguments of calls: mostly sensible, sometimes odd.
+use crate::model::*;
+use crate::random::Random;
+use crate::world::{code, Args, World};
+
+fn with_stream(r: &Random, mut s: Settings) -> Settings {
+    let (record, least) = (s.u + 10, least_stream(s.u, s.m, s.b));
+    let more = [0, 0, 1, r.below(100), record, record * r.range(1, 4), 2 * record + 84, 3 * least];
+    s.l = (least + r.pick(&more)).min(65_536);
+    s
+}
+
+pub fn small_settings(r: &Random) -> Settings {
+    let b = r.range(0, 3);
+    let u = if r.percent(7) { 128 } else { 64 };
+    let settings = Settings {
+        u,
+        m: r.range(1, 4),
+        d: r.range(0, 4),
+        b,
+        s: b + r.range(0, 3),
+        q: r.pick(&[40, 100, 150, 256, 256]),
+        l: 0,
+        t: r.range(1, 6),
+    };
+    with_stream(r, settings)
+}
+
+/// Small ones with one or more settings at an end of their range, or M about a word of marks.
+pub fn limit_settings(r: &Random) -> Settings {
+    let mut s = small_settings(r);
+    for _ in 0..r.range(1, 2) {
+        match r.below(9) {
+            0 => s.d = 0,
+            1 => (s.b, s.s) = (0, 0),
+            2 => s.q = 0,
+            3 => s.t = 1,
+            4 => s.m = 1,
+            5 => (s.u, s.m) = (64, r.pick(&[63, 64, 65, 127, 128, 129])),
+            6 => (s.b, s.s) = (64, 64),
+            7 => (s.b, s.s) = (r.range(0, 2), 64),
+            _ => s.t = r.pick(&[1, 59_999, 60_000]),
+        }
+    }
+    s = with_stream(r, s);
+    if r.percent(40) {
+        s.l = least_stream(s.u, s.m, s.b);
+    }
+    s
+}
+
+/// Large pages, many pages, or much held; every buffer at most 65,536 bytes.
+pub fn large_settings(r: &Random) -> Settings {
+    let mut s = small_settings(r);
+    match r.below(5) {
+        0 => (s.u, s.b, s.s) = (4_096, r.range(0, 3), r.range(3, 6)),
+        1 => (s.m, s.b, s.s) = (r.pick(&[255, 256, 257, 884]), 0, 2),
+        2 => s.q = r.pick(&[1_514, 1_515, 3_000, 32_768]),
+        3 => (s.u, s.d) = (r.pick(&[1_024, 4_032, 4_096]), r.pick(&[1, 15, 16])),
+        _ => (s.u, s.d) = (64, r.pick(&[255, 256, 257, 1_024])),
+    }
+    with_stream(r, s)
+}
+
+/// Buffers of the lengths that the settings ask, with bytes of every sort; the states are still zero.
+pub fn fresh_world(r: &Random, s: &Settings) -> World {
+    World {
+        primary: Primary::zero(),
+        standby: Standby::zero(),
+        memory: r.bytes(s.m * s.u),
+        disk: r.bytes(s.d * s.u),
+        marks: r.words(mark_words(s.m)),
+        held: r.bytes(s.q),
+        stream: r.bytes(s.l),
+        standby_memory: r.bytes(s.m * s.u),
+        standby_disk: r.bytes(s.d * s.u),
+        pages: r.bytes(s.m * s.u),
+        standby_marks: r.words(mark_words(s.m)),
+        blocks: r.bytes(s.s * s.u),
+        area: r.bytes(8),
+        link: Vec::new(),
+        acks: Vec::new(),
+    }
+}
+
+pub fn start_args(r: &Random, settings: Settings) -> Args {
+    Args { settings, cpu: r.cpu(), ..Args::none() }
+}
+
+/// The arguments of a call on this world. Each is odd in `odd` of a hundred calls. Read and ACK get bytes made
+/// up to fit the state; a run replaces them by bytes of the link.
+pub fn arguments(r: &Random, which: usize, w: &World, odd: u64) -> Args {
+    let mut a = Args::none();
+    let (p, s) = (&w.primary, &w.standby);
+    match which {
+        code::MEMORY_WRITE => memory_arguments(r, &mut a, p.u, p.m, odd),
+        code::STANDBY_MEMORY_WRITE => memory_arguments(r, &mut a, s.u, s.m, odd),
+        code::DISK_WRITE => disk_arguments(r, &mut a, p.u, p.d, odd),
+        code::STANDBY_DISK_WRITE => disk_arguments(r, &mut a, s.u, s.d, odd),
+        code::PACKET => a.data = packet_bytes(r, p, odd),
+        code::CHECKPOINT => a.cpu = r.cpu(),
+        code::DRAIN => drain_arguments(r, &mut a, p),
+        code::ACK => a.data = made_up_ack(r, p, odd),
+        code::TAKE => a.out = take_destination(r, p, odd),
+        code::READ => {
+            a.data = made_up_record(r, s, odd);
+            a.out = reply_buffer(r, odd);
+        }
+        code::FLUSH => a.n = r.pick(&[0, 1, 1, 2, s.due, s.due.wrapping_add(1), s.due / 2, 1 << 32, u64::MAX]),
+        _ => {}
+    }
+    if r.percent(12) {
+        same_bytes(which, w, &mut a);
+    }
+    a
+}
+
+/// A write of the bytes that are there already, where it is inside its buffer.
+fn same_bytes(which: usize, w: &World, a: &mut Args) {
+    let (image, u) = match which {
+        code::MEMORY_WRITE => (&w.memory, w.primary.u),
+        code::STANDBY_MEMORY_WRITE => (&w.standby_memory, w.standby.u),
+        code::DISK_WRITE => (&w.disk, w.primary.u),
+        code::STANDBY_DISK_WRITE => (&w.standby_disk, w.standby.u),
+        _ => return,
+    };
+    let Some(at) = a.place.checked_mul(u).and_then(|at| at.checked_add(a.offset)) else { return };
+    let there = (at as usize).checked_add(a.data.len()).and_then(|end| image.get(at as usize..end));
+    a.data = there.map_or(std::mem::take(&mut a.data), |bytes| bytes.to_vec());
+}
+
+/// A number below the limit, or an odd one: at the limit, past it, or one that is small when cut to 16 or 32 bits.
+fn number_below(r: &Random, limit: u64, odd: u64) -> u64 {
+    if limit > 0 && !r.percent(odd) {
+        return r.below(limit);
+    }
+    let wide = (1 << 32) + (limit / 2) % 65_536;
+    r.pick(&[limit, limit, limit.wrapping_add(1), 65_535, 65_536, 1 << 32, wide, 1 << 63, u64::MAX])
+}
+
+fn sane(u: u64) -> u64 {
+    u.clamp(1, 4_160)
+}
+
+fn memory_arguments(r: &Random, a: &mut Args, u: u64, m: u64, odd: u64) {
+    let u = sane(u);
+    a.place = number_below(r, m, odd);
+    let most = u.min(16);
+    let mut length = if r.percent(10) { u } else { r.range(1, most) };
+    a.offset = r.pick(&[0, u - length, r.below(u - length + 1), r.below(u - length + 1)]);
+    if r.percent(odd) {
+        (a.offset, length) = r.pick(&[
+            (0, 0), (u, 0), (u, 1), (u - length + 1, length), (0, u + 1), (1, u), (u - 1, 2), (u + 1, 1),
+            (u64::MAX, 1), (u64::MAX - 1, 2), (1 << 32, 1), (1 << 63, 0), (u64::MAX, 0), (65_536, 4),
+        ]);
+    }
+    a.data = r.bytes(length);
+}
+
+fn disk_arguments(r: &Random, a: &mut Args, u: u64, d: u64, odd: u64) {
+    let u = sane(u);
+    a.place = number_below(r, d, odd);
+    let length = if r.percent(odd) { r.pick(&[0, 1, u - 1, u + 1, 2 * u]) } else { u };
+    a.data = r.bytes(length);
+}
+
+fn packet_bytes(r: &Random, p: &Primary, odd: u64) -> Vec<u8> {
+    let room = p.q.saturating_sub(p.held).min(1_514);
+    let length = if r.percent(odd) {
+        r.pick(&[0, 0, 1_515, 1_516, 2_000, 65_536])
+    } else if p.q > 1_000 {
+        r.pick(&[1, 1_513, 1_514, 1_514, room, room + 1, r.range(1, 1_514), r.range(1, 60)]).min(1_514)
+    } else {
+        r.pick(&[1, 1, 2, r.range(1, 40), r.range(1, 12), r.range(1, 12), room, room + 1]).min(1_514)
+    };
+    let whole = if length == 65_536 && !r.percent(1) { 1_517 } else { length };
+    r.bytes(whole)
+}
+
+fn drain_arguments(r: &Random, a: &mut Args, p: &Primary) {
+    let (waiting, record) = (p.waiting.min(65_536), sane(p.u) + 10);
+    let some = r.below(waiting + 1);
+    a.n = r.pick(&[waiting, waiting, waiting, some, some, record, 72, 12, 1, 0, waiting + 1, 1 << 32, u64::MAX]);
+    let fits = a.n.min(waiting);
+    let room = r.pick(&[fits, fits, fits, fits, fits + 3, waiting, some, record, 0, 1]);
+    a.out = r.bytes(room.min(65_536));
+}
+
+fn take_destination(r: &Random, p: &Primary, odd: u64) -> Vec<u8> {
+    let length = p.queue[0].length.min(1_600);
+    let room = if r.percent(odd) {
+        r.pick(&[0, 1, length.saturating_sub(1), length / 2])
+    } else {
+        length + r.pick(&[0, 0, 1, 5, 64])
+    };
+    r.bytes(room)
+}
+
+pub fn reply_buffer(r: &Random, odd: u64) -> Vec<u8> {
+    let length = if r.percent(odd) { r.pick(&[0, 4, 7, 7]) } else { r.pick(&[8, 8, 9, 16]) };
+    r.bytes(length)
+}
+
+pub fn record(length: u64, kind: u64, epoch: u32, body: &[u8]) -> Vec<u8> {
+    let mut bytes = (length as u16).to_le_bytes().to_vec();
+    bytes.extend_from_slice(&(kind as u16).to_le_bytes());
+    bytes.extend_from_slice(&epoch.to_le_bytes());
+    bytes.extend_from_slice(body);
+    bytes
+}
+
+fn numbers(first: u64, second: u64) -> Vec<u8> {
+    [(first as u16).to_le_bytes(), (second as u16).to_le_bytes()].concat()
+}
+
+/// A record for this standby, with field after field made wrong in `odd` of a hundred.
+pub fn made_up_record(r: &Random, s: &Standby, odd: u64) -> Vec<u8> {
+    if r.percent(odd / 4) {
+        let length = r.pick(&[0, 1, 3, 4, 8, 12, 80]);
+        return r.bytes(length);
+    }
+    let mut kind = if s.state_seen { r.pick(&[4, 4, 4, 4, 3, 1, 2]) } else { r.pick(&[1, 1, 2, 2, 3, 3, 4]) };
+    let body = match kind {
+        1 => [numbers(page_number(r, s, odd), 0)[..2].to_vec(), r.bytes(sane(s.u))].concat(),
+        2 => [numbers(number_below(r, s.d.min(65_535), odd), 0)[..2].to_vec(), r.bytes(sane(s.u))].concat(),
+        3 => r.bytes(64),
+        _ => counts(r, s, odd),
+    };
+    let mut epoch = s.received.wrapping_add(1);
+    if r.percent(odd) {
+        epoch = r.pick(&[s.received, s.received.wrapping_add(2), 0, 1, u32::MAX, epoch ^ (1 << 16), epoch ^ (1 << 24)]);
+    }
+    let mut length = body.len() as u64 + 4;
+    if r.percent(odd) {
+        length = r.pick(&[0, 4, length - 1, length + 1, length ^ 256, 68, 8, 65_535]);
+    }
+    if r.percent(odd) {
+        kind = r.pick(&[0, 5, 5, 6, 7, kind + 256, 65_535, 1, 2, 3, 4]);
+    }
+    cut_or_extended(r, record(length, kind, epoch, &body), odd)
+}
+
+fn page_number(r: &Random, s: &Standby, odd: u64) -> u64 {
+    if r.percent(odd) {
+        return r.pick(&[s.m, s.m.wrapping_add(1), 65_535, s.next_page.saturating_sub(1), s.m.saturating_sub(1), 256]);
+    }
+    if s.next_page < s.m { r.range(s.next_page, s.m - 1) } else { r.below(s.m) }
+}
+
+fn counts(r: &Random, s: &Standby, odd: u64) -> Vec<u8> {
+    let (mut pages, mut blocks) = (s.pages, s.blocks);
+    if r.percent(odd) {
+        pages = r.pick(&[pages.wrapping_add(1), pages.wrapping_sub(1), 0, pages ^ 256, s.blocks]);
+    }
+    if r.percent(odd) {
+        blocks = r.pick(&[blocks.wrapping_add(1), blocks.wrapping_sub(1), 0, blocks ^ 256, s.pages]);
+    }
+    numbers(pages, blocks)
+}
+
+/// An ACK for this primary, with field after field made wrong in `odd` of a hundred.
+pub fn made_up_ack(r: &Random, p: &Primary, odd: u64) -> Vec<u8> {
+    let outstanding = (p.open as u64).saturating_sub(p.acknowledged as u64 + 1);
+    let mut epoch = p.acknowledged.wrapping_add(1 + r.below(outstanding) as u32);
+    if r.percent(odd) {
+        let before = p.open.wrapping_sub(1);
+        epoch = r.pick(&[p.acknowledged, p.open, before, p.open.wrapping_add(1), 0, u32::MAX, r.next() as u32]);
+    }
+    let length = if r.percent(odd) { r.pick(&[0, 3, 5, 8, 260, 65_535]) } else { 4 };
+    let kind = if r.percent(odd) { r.pick(&[0, 1, 3, 4, 6, 261, 65_535]) } else { 5 };
+    cut_or_extended(r, record(length, kind, epoch, &[]), odd)
+}
+
+fn cut_or_extended(r: &Random, mut bytes: Vec<u8>, odd: u64) -> Vec<u8> {
+    if r.percent(odd) {
+        let length = bytes.len() as u64;
+        let keep = r.pick(&[0, 1, 3, 4, 5, 7, 8, 9, 10, length - 1, r.below(length)]);
+        bytes.truncate(keep as usize);
+    } else if r.percent(25) {
+        let more = r.range(1, 20);
+        bytes.extend(r.bytes(more));
+    }
+    bytes
+}

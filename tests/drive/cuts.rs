@@ -1,0 +1,212 @@
+//! The cut, by running: lists of calls with the plain pair beside them, cut at every place.
+//!
+//! Everything goes through the program, and its answers are compared line by line with the model's; so what is
+//! checked here on the model's world is checked of the program's answers.
+use crate::arguments::{fresh_world, start_args};
+use crate::generate::{ending_mood, next_step, perform, lively_mood, Step};
+use crate::model::*;
+use crate::plain::Plain;
+use crate::random::Random;
+use crate::sink::Sink;
+use crate::world::{code, Args, World};
+
+#[derive(Default)]
+pub struct Tally {
+    pub runs: u64,
+    pub cuts: u64,
+    pub takeovers: u64,
+    pub choices: u64,
+    pub takes: u64,
+    pub protected_takes: u64,
+    /// Takeovers at a checkpoint above 0, at one above 1, and the highest.
+    pub after_checkpoint: [u64; 2],
+    pub highest: u64,
+}
+
+/// Both ends and the plain pair at one place of a list.
+#[derive(Clone)]
+struct Both {
+    world: World,
+    plain: Plain,
+}
+
+/// What is wrong, in words.
+type Check = Result<(), String>;
+
+fn demand(holds: bool, what: &str) -> Check {
+    if holds { Ok(()) } else { Err(what.to_string()) }
+}
+
+fn is_primary_call(which: usize) -> bool {
+    (code::MEMORY_WRITE..=code::PRIMARY_TICK).contains(&which)
+}
+
+fn is_standby_call(which: usize) -> bool {
+    (code::READ..=code::STANDBY_DISK_WRITE).contains(&which)
+}
+
+/// One list of calls, and every cut of it.
+pub fn run(r: &Random, sink: &mut Sink, tally: &mut Tally) -> Check {
+    tally.runs += 1;
+    let mut both = begin(r, sink);
+    let (length, haste) = (r.range(16, 40), r.pick(&[40, 85, 85]));
+    let ending_from = if r.percent(40) { r.range(length / 2, length) } else { length };
+    let mut places = vec![both.clone()];
+    let mut steps: Vec<Step> = Vec::new();
+    for at in 0..length {
+        let mood = if at < ending_from { lively_mood(3, haste) } else { ending_mood(r, 3) };
+        let mut step = next_step(r, &both.world, &mood);
+        advance(sink, tally, &mut both, &mut step)?;
+        steps.push(step);
+        places.push(both.clone());
+    }
+    for at in 0..places.len() {
+        cut_at(r, sink, tally, &places, &steps, at).map_err(|what| format!("{what}, cut at place {at}"))?;
+    }
+    Ok(())
+}
+
+fn begin(r: &Random, sink: &mut Sink) -> Both {
+    let b = r.range(0, 2);
+    let mut settings = Settings {
+        u: 64,
+        m: r.range(1, 4),
+        d: r.range(0, 3),
+        b,
+        s: b + r.range(0, 2),
+        q: r.pick(&[0, 30, 60, 100, 100]),
+        l: 0,
+        t: r.range(1, 3),
+    };
+    settings.l = least_stream(64, settings.m, b) + r.pick(&[0, 74, 160]);
+    let mut world = fresh_world(r, &settings);
+    let mut args = start_args(r, settings);
+    let plain = Plain::start(&args, &world.memory, &world.disk);
+    sink.call(code::START, &mut world, &mut args);
+    Both { world, plain }
+}
+
+/// Makes one call on the world and on the plain pair, and checks what must hold after it.
+fn advance(sink: &mut Sink, tally: &mut Tally, both: &mut Both, step: &mut Step) -> Check {
+    let reply = perform(sink, &mut both.world, step);
+    if step.which == code::TAKE && reply.number == 0 {
+        check_take(tally, &both.plain, &step.args, &reply)?;
+    }
+    if step.which == code::ACTIVATION && reply.number == 0 {
+        demand(reply.value == both.plain.r as u64, "activation's value is not r")?;
+    }
+    both.plain.step(step.which, &step.args, &reply);
+    check_always(both)
+}
+
+/// An accepted take gave the oldest packet; under protection it is one of checkpoint r's.
+fn check_take(tally: &mut Tally, plain: &Plain, args: &Args, reply: &Reply) -> Check {
+    tally.takes += 1;
+    demand(plain.left < plain.packets.len(), "a take with no packet queued")?;
+    let given = &args.out[..reply.value as usize];
+    demand(plain.packets[plain.left][..] == *given, "a take that is not the oldest packet")?;
+    if !plain.alone() {
+        tally.protected_takes += 1;
+        demand(plain.left < plain.received().packets, "a take under protection that checkpoint r has not")?;
+    }
+    Ok(())
+}
+
+/// What holds after every call.
+fn check_always(both: &Both) -> Check {
+    let (w, plain) = (&both.world, &both.plain);
+    demand(w.primary.in_range() && w.standby.in_range(), "a state out of range")?;
+    demand(plain.r < plain.checkpoints.len() && plain.a <= plain.r, "r or a is too high")?;
+    demand(w.standby.received as usize == plain.r, "the last received epoch is not r")?;
+    demand(w.primary.alone == plain.alone(), "alone and the plain count differ")?;
+    demand((w.standby.mode == Mode::Active) == plain.activated, "active and activated differ")?;
+    demand(w.memory == plain.memory && w.disk == plain.disk, "the primary's images")?;
+    if plain.activated {
+        demand(w.standby_memory == plain.standby_memory, "the active standby's memory")?;
+        demand(w.standby_disk == plain.standby_disk, "the active standby's disk")?;
+        demand(w.standby.kept_cpu == plain.received().cpu, "the active standby's processor state")?;
+    }
+    Ok(())
+}
+
+/// Every cut at one place: the next call not made (made is the next place), or a flush of a smaller budget.
+fn cut_at(r: &Random, sink: &mut Sink, tally: &mut Tally, places: &[Both], steps: &[Step], at: usize) -> Check {
+    let rest = &steps[at..];
+    let standby_stood_still = at > 0 && !is_standby_call(steps[at - 1].which);
+    cut_from(r, sink, tally, &places[at], rest, standby_stood_still)?;
+    let Some(next) = rest.first().filter(|step| step.which == code::FLUSH) else { return Ok(()) };
+    for budget in 0..next.args.n.min(places[at].world.standby.due) {
+        let mut both = places[at].clone();
+        let mut smaller = next.clone();
+        smaller.args.n = budget;
+        advance(sink, tally, &mut both, &mut smaller)?;
+        cut_from(r, sink, tally, &both, &rest[1..], false)?;
+    }
+    Ok(())
+}
+
+/// The cuts of both ends at once, of the primary alone, and of the standby alone, from one place.
+fn cut_from(r: &Random, sink: &mut Sink, tally: &mut Tally, from: &Both, rest: &[Step], quiet: bool) -> Check {
+    tally.cuts += 1;
+    choose(sink, tally, &mut from.clone())?;
+    // Where the standby is as at the place before, its takeover is the same lines again: most are left out.
+    if !quiet || r.percent(20) {
+        take_over(sink, tally, &mut from.clone())?;
+    }
+    if r.percent(25) {
+        let mut primary_cut = from.clone();
+        go_on(r, sink, tally, &mut primary_cut, rest, is_standby_call)?;
+        choose(sink, tally, &mut primary_cut)?;
+        take_over(sink, tally, &mut primary_cut)?;
+    }
+    if r.percent(15) {
+        let mut standby_cut = from.clone();
+        go_on(r, sink, tally, &mut standby_cut, rest, is_primary_call)?;
+        choose(sink, tally, &mut standby_cut)?;
+    }
+    Ok(())
+}
+
+/// The other end goes on with its own calls, up to a place of its own.
+fn go_on(
+    r: &Random, sink: &mut Sink, tally: &mut Tally, both: &mut Both, rest: &[Step], its: fn(usize) -> bool,
+) -> Check {
+    tally.cuts += 1;
+    let until = r.range(0, rest.len() as u64) as usize;
+    for step in rest[..until].iter().filter(|step| its(step.which)) {
+        advance(sink, tally, both, &mut step.clone())?;
+    }
+    Ok(())
+}
+
+/// T ticks, a flush of all due and the activation; then the standby is active and the disk is its own.
+fn take_over(sink: &mut Sink, tally: &mut Tally, both: &mut Both) -> Check {
+    tally.takeovers += 1;
+    tally.after_checkpoint[0] += (both.plain.r > 0) as u64;
+    tally.after_checkpoint[1] += (both.plain.r > 1) as u64;
+    tally.highest = tally.highest.max(both.plain.r as u64);
+    let (patience, was_active) = (both.world.standby.t, both.plain.activated);
+    let plain_call = |which: usize, n: u64| Step { which, args: Args { n, ..Args::none() }, part: None };
+    if !was_active {
+        for _ in 0..patience {
+            advance(sink, tally, both, &mut plain_call(code::STANDBY_TICK, 0))?;
+        }
+        let due = both.world.standby.due;
+        advance(sink, tally, both, &mut plain_call(code::FLUSH, due))?;
+        advance(sink, tally, both, &mut plain_call(code::ACTIVATION, 0))?;
+        let received = both.plain.received();
+        demand(both.world.standby_memory == received.memory, "memory is not checkpoint r's")?;
+        demand(both.world.standby_disk == received.disk, "the disk is not checkpoint r's")?;
+    }
+    demand(both.plain.activated && both.world.standby.mode == Mode::Active, "not active after the takeover")?;
+    choose(sink, tally, both)
+}
+
+/// The disk choice on what both boxes stored.
+fn choose(sink: &mut Sink, tally: &mut Tally, both: &mut Both) -> Check {
+    tally.choices += 1;
+    let mut args = Args::none();
+    let reply = sink.call(code::CHOICE, &mut both.world, &mut args);
+    demand(reply.number == 0, "the disk choice is refused")?;
+    demand(args.out == both.plain.valid_disk(), "the disk choice is not the valid disk")
+}

@@ -1,0 +1,175 @@
+//! The calls of the primary.
+use super::records::*;
+use super::*;
+
+/// Whether a memory write of this length at this offset is inside one page and not empty.
+pub(super) fn write_fits(offset: u64, length: usize, u: u64) -> bool {
+    length >= 1 && offset < u && length as u64 <= u - offset
+}
+
+pub(super) fn store_in_page(memory: &mut [u8], u: u64, page: u64, offset: u64, data: &[u8]) {
+    let at = (page * u + offset) as usize;
+    memory[at..at + data.len()].copy_from_slice(data);
+}
+
+pub fn memory_write(
+    p: &mut Primary, memory: &mut [u8], marks: &mut [u64], page: u64, offset: u64, data: &[u8],
+) -> Reply {
+    if !p.in_range() || !exact(memory.len(), p.m * p.u) || !exact(marks.len(), mark_words(p.m)) {
+        return refused(1);
+    }
+    if page >= p.m {
+        return refused(2);
+    }
+    if !write_fits(offset, data.len(), p.u) {
+        return refused(3);
+    }
+    store_in_page(memory, p.u, page, offset, data);
+    marks[(page / 64) as usize] |= 1 << (page % 64);
+    accepted(p.open as u64)
+}
+
+pub fn disk_write(p: &mut Primary, disk: &mut [u8], stream: &mut [u8], block: u64, data: &[u8]) -> Reply {
+    if !p.in_range() || !exact(disk.len(), p.d * p.u) || !exact(stream.len(), p.l) {
+        return refused(1);
+    }
+    if block >= p.d {
+        return refused(2);
+    }
+    if !exact(data.len(), p.u) {
+        return refused(3);
+    }
+    if !p.alone {
+        if p.blocks >= p.b {
+            return refused(14);
+        }
+        if p.u + 10 > p.l - p.waiting {
+            return refused(15);
+        }
+        p.waiting += put_data(&mut stream[p.waiting as usize..], BLOCK, p.open, block, data) as u64;
+        p.blocks += 1;
+    }
+    disk[part(block, p.u)].copy_from_slice(data);
+    accepted(p.open as u64)
+}
+
+pub fn packet(p: &mut Primary, held: &mut [u8], data: &[u8]) -> Reply {
+    if !p.in_range() || !exact(held.len(), p.q) {
+        return refused(1);
+    }
+    let length = data.len() as u64;
+    if !(1..=1_514).contains(&length) {
+        return refused(4);
+    }
+    if p.packets == 64 || length > p.q - p.held {
+        return refused(16);
+    }
+    let at = p.held as usize;
+    held[at..at + data.len()].copy_from_slice(data);
+    p.queue[p.packets as usize] = Packet { epoch: p.open, length };
+    p.packets += 1;
+    p.held += length;
+    accepted(p.packets)
+}
+
+pub fn checkpoint(p: &mut Primary, memory: &[u8], marks: &mut [u64], stream: &mut [u8], cpu: &[u8; 64]) -> Reply {
+    if !p.in_range()
+        || !exact(memory.len(), p.m * p.u)
+        || !exact(marks.len(), mark_words(p.m))
+        || !exact(stream.len(), p.l)
+    {
+        return refused(1);
+    }
+    if p.alone {
+        return refused(13);
+    }
+    let dirty = count_marked(marks, p.m);
+    if dirty * (p.u + 10) + STATE_AND_COMMIT > p.l - p.waiting {
+        return refused(15);
+    }
+    if p.open == LAST_EPOCH {
+        return refused(19);
+    }
+    let mut at = p.waiting as usize;
+    for_marked(marks, p.m, |page| {
+        at += put_data(&mut stream[at..], PAGE, p.open, page as u64, &memory[part(page as u64, p.u)]);
+    });
+    at += put_state(&mut stream[at..], p.open, cpu);
+    at += put_commit(&mut stream[at..], p.open, dirty, p.blocks);
+    clear_marks(marks, p.m);
+    p.waiting = at as u64;
+    p.blocks = 0;
+    p.open += 1;
+    accepted(p.open as u64 - 1)
+}
+
+pub fn drain(p: &mut Primary, stream: &mut [u8], n: u64, destination: &mut [u8]) -> Reply {
+    if !p.in_range() || !exact(stream.len(), p.l) {
+        return refused(1);
+    }
+    let moved = n.min(p.waiting).min(destination.len() as u64);
+    let (count, waiting) = (moved as usize, p.waiting as usize);
+    destination[..count].copy_from_slice(&stream[..count]);
+    stream.copy_within(count..waiting, 0);
+    p.waiting -= moved;
+    accepted(moved)
+}
+
+pub fn ack(p: &mut Primary, data: &[u8]) -> Reply {
+    if !p.in_range() {
+        return refused(1);
+    }
+    if p.alone {
+        return refused(13);
+    }
+    match read_record(data, p.u, ACK, ACK) {
+        Record::Ack { epoch } if epoch <= p.acknowledged || epoch >= p.open => refused(11),
+        Record::Ack { epoch } => {
+            p.acknowledged = epoch;
+            p.count = 0;
+            Reply { number: 0, value: epoch as u64, used: 8 }
+        }
+        Record::Refused(number) => refused(number),
+        _ => refused(CUT_SHORT),
+    }
+}
+
+pub fn take(p: &mut Primary, held: &mut [u8], destination: &mut [u8]) -> Reply {
+    if !p.in_range() || !exact(held.len(), p.q) {
+        return refused(1);
+    }
+    if p.packets == 0 || !(p.alone || p.queue[0].epoch <= p.acknowledged) {
+        return refused(18);
+    }
+    let length = p.queue[0].length;
+    let (count, packets) = (length as usize, p.packets as usize);
+    if destination.len() < count {
+        return refused(5);
+    }
+    destination[..count].copy_from_slice(&held[..count]);
+    held.copy_within(count..p.held as usize, 0);
+    p.queue.copy_within(1..packets, 0);
+    p.queue[packets - 1] = Packet::default();
+    p.packets -= 1;
+    p.held -= length;
+    accepted(length)
+}
+
+pub fn primary_tick(p: &mut Primary) -> Reply {
+    if !p.in_range() {
+        return refused(1);
+    }
+    if p.alone {
+        return accepted(0);
+    }
+    if !p.outstanding() {
+        p.count = 0;
+        return accepted(0);
+    }
+    p.count += 1;
+    if p.count == p.t {
+        p.alone = true;
+        p.waiting = 0;
+    }
+    accepted(0)
+}
