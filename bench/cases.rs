@@ -1,0 +1,75 @@
+//! The cases, and what they share.
+
+#[path = "primary_cases.rs"]
+mod primary;
+#[path = "standby_cases.rs"]
+mod standby;
+
+use crate::model;
+use crate::Case;
+use primary::{Checkpoint, Drain, Packets, ROUNDS};
+use standby::{Commit, Flush, PageReads};
+
+/// Bytes that are not all alike.
+fn filled(n: usize, from: usize) -> Vec<u8> {
+    (from..from + n).map(|i| (i * 31 + i / 251 + 7) as u8).collect()
+}
+
+/// Every step-th of m pages is marked.
+fn marks(m: usize, step: usize) -> Vec<u64> {
+    let mut words = vec![0u64; m.div_ceil(64)];
+    for p in (0..m).step_by(step) {
+        words[p / 64] |= 1 << (p % 64);
+    }
+    words
+}
+
+fn how_many(m: usize, step: usize) -> &'static str {
+    if step == m {
+        "one"
+    } else if step == 1 {
+        "all"
+    } else {
+        "1 in 8"
+    }
+}
+
+fn told(r: model::Reply) -> u64 {
+    if r.number == 0 {
+        r.value
+    } else {
+        u64::MAX
+    }
+}
+
+/// Every case in turn.
+pub fn all(mut each: impl FnMut(&mut dyn Case)) {
+    let sizes = [64, 512, 4096].map(|u| [64, 4096].map(|m| [m, 8, 1].map(|step| (u, m, step))));
+    for (u, m, step) in sizes.into_iter().flatten().flatten() {
+        each(&mut Checkpoint::new(u, m, step));
+    }
+    for (u, m, step) in sizes.into_iter().flatten().flatten() {
+        each(&mut Commit::new(u, m, step));
+    }
+    for u in [64, 512, 4096] {
+        each(&mut PageReads::new(u));
+    }
+    // The first copies nothing: what remains is the state and its range test.
+    each(&mut Drain::new(0, 0, ROUNDS));
+    for n in [4096, 1 << 20, 16 << 20] {
+        each(&mut Drain::new(n, n, 1));
+    }
+    for (n, waiting) in [(64, 4096), (64, 1 << 16), (64, 1 << 20), (4096, 1 << 20)] {
+        each(&mut Drain::new(n, waiting, ROUNDS));
+    }
+    for n in [64, 1514] {
+        for kept in [0, 32, 63] {
+            each(&mut Packets::new(n, kept));
+        }
+    }
+    for u in [64, 512, 4096] {
+        for (staged, n) in [(0, 0), (1, 1), (64, 1), (64, 64)] {
+            each(&mut Flush::new(u, staged, n));
+        }
+    }
+}

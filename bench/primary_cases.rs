@@ -1,0 +1,210 @@
+//! The primary's cases: checkpoint, drain, packet and take.
+
+use super::{filled, how_many, marks, told};
+use crate::library;
+use crate::model;
+use crate::Case;
+use std::hint::black_box;
+
+/// The state that libbench.a makes of the same numbers.
+fn primary(u: usize, m: usize, q: usize, l: usize, waiting: usize) -> model::Primary {
+    let none = model::Packet { epoch: 0, length: 0 };
+    model::Primary {
+        u: u as u64,
+        m: m as u64,
+        d: 0,
+        b: 0,
+        q: q as u64,
+        l: l as u64,
+        t: 1000,
+        count: 0,
+        open: 2,
+        acknowledged: 0,
+        alone: false,
+        blocks: 0,
+        waiting: waiting as u64,
+        packets: 0,
+        held: 0,
+        queue: [none; 64],
+    }
+}
+
+/// A checkpoint with every step-th page dirty.
+pub struct Checkpoint {
+    u: usize,
+    m: usize,
+    step: usize,
+    set: Vec<u64>,
+    dirty: Vec<u64>,
+    memory: Vec<u8>,
+    stream: Vec<u8>,
+}
+
+impl Checkpoint {
+    pub fn new(u: usize, m: usize, step: usize) -> Checkpoint {
+        let set = marks(m, step);
+        Checkpoint {
+            u,
+            m,
+            step,
+            dirty: set.clone(),
+            set,
+            memory: filled(m * u, 1),
+            stream: filled(m * (u + 10) + 84, 2),
+        }
+    }
+}
+
+impl Case for Checkpoint {
+    fn name(&self) -> String {
+        format!("checkpoint, U {}, M {}, dirty {}", self.u, self.m, how_many(self.m, self.step))
+    }
+    fn bytes(&self) -> usize {
+        self.m.div_ceil(self.step) * self.u
+    }
+    fn wanted(&self) -> u64 {
+        2
+    }
+    fn reset(&mut self) {
+        self.dirty.copy_from_slice(black_box(&self.set));
+    }
+    fn ours(&mut self) -> u64 {
+        library::checkpoint(self.u, self.m, 0, &self.memory, &mut self.dirty, &mut self.stream)
+    }
+    fn copy(&mut self) {
+        if self.step == 1 {
+            library::base_copy(&mut self.stream, &self.memory);
+        } else {
+            library::base_gather(&mut self.stream, &self.memory, self.u, self.step, 10);
+        }
+    }
+    #[inline(never)]
+    fn model(&mut self) -> u64 {
+        let mut p = primary(self.u, self.m, 64, self.stream.len(), 0);
+        let r = model::checkpoint(&mut p, &self.memory, &mut self.dirty, &mut self.stream, &[7; 64]);
+        black_box(&p);
+        told(r)
+    }
+}
+
+/// Drains of n bytes, the first of which finds `waiting` bytes.
+pub struct Drain {
+    n: usize,
+    waiting: usize,
+    rounds: usize,
+    stream: Vec<u8>,
+    destination: Vec<u8>,
+}
+
+impl Drain {
+    pub fn new(n: usize, waiting: usize, rounds: usize) -> Drain {
+        Drain { n, waiting, rounds, stream: filled(waiting.max(4096), 8), destination: filled(n, 9) }
+    }
+}
+
+impl Case for Drain {
+    fn name(&self) -> String {
+        format!("drain of {}, {} waiting", self.n, self.waiting)
+    }
+    fn bytes(&self) -> usize {
+        self.waiting - self.n * (self.rounds - 1) / 2
+    }
+    fn operations(&self) -> usize {
+        self.rounds
+    }
+    fn wanted(&self) -> u64 {
+        self.n as u64
+    }
+    fn ours(&mut self) -> u64 {
+        library::drain(self.waiting, self.n, self.rounds, &mut self.stream, &mut self.destination)
+    }
+    fn copy(&mut self) {
+        for i in 0..self.rounds {
+            let total = self.waiting - self.n * i;
+            library::base_move_out(&mut self.destination, &mut self.stream, self.n, total);
+        }
+    }
+    #[inline(never)]
+    fn model(&mut self) -> u64 {
+        let mut p = primary(64, 1, 64, self.stream.len(), self.waiting);
+        let mut last = 0;
+        for _ in 0..self.rounds {
+            last = told(model::drain(&mut p, &mut self.stream, self.n as u64, &mut self.destination));
+        }
+        black_box(&p);
+        last
+    }
+}
+
+/// The others are of this many bytes at first, so that 63 of them leave room for packets of 1,514.
+const OTHER: usize = 64;
+/// How often a call that is made in turns is made.
+pub const ROUNDS: usize = 16;
+
+/// A packet in and a packet out, on a primary that is alone and holds others.
+pub struct Packets {
+    kept: usize,
+    one: Vec<u8>,
+    held: Vec<u8>,
+    destination: Vec<u8>,
+}
+
+impl Packets {
+    pub fn new(n: usize, kept: usize) -> Packets {
+        Packets { kept, one: filled(n, 11), held: filled(32_768, 10), destination: filled(1514, 12) }
+    }
+    /// The length of each packet handed out.
+    fn first(&self) -> usize {
+        if self.kept == 0 {
+            self.one.len()
+        } else {
+            OTHER
+        }
+    }
+    /// The bytes held before a round.
+    fn others(&self, round: usize) -> usize {
+        self.kept * OTHER + round * (self.one.len() - self.first())
+    }
+}
+
+impl Case for Packets {
+    fn name(&self) -> String {
+        format!("packet of {} and take, {} others held", self.one.len(), self.kept)
+    }
+    fn bytes(&self) -> usize {
+        let moved: usize = (0..ROUNDS).map(|i| self.others(i)).sum();
+        2 * self.one.len() + moved / ROUNDS
+    }
+    fn operations(&self) -> usize {
+        ROUNDS
+    }
+    fn wanted(&self) -> u64 {
+        self.first() as u64
+    }
+    fn ours(&mut self) -> u64 {
+        library::packets(self.kept, OTHER, ROUNDS, &mut self.held, &self.one, &mut self.destination)
+    }
+    fn copy(&mut self) {
+        let first = self.first();
+        for i in 0..ROUNDS {
+            let others = self.others(i);
+            library::base_in_and_out(&mut self.destination, &mut self.held, &self.one, others, first);
+        }
+    }
+    #[inline(never)]
+    fn model(&mut self) -> u64 {
+        let mut p = primary(64, 1, self.held.len(), 158, 0);
+        p.alone = true;
+        p.packets = self.kept as u64;
+        p.held = (self.kept * OTHER) as u64;
+        p.queue[..self.kept].fill(model::Packet { epoch: 1, length: OTHER as u64 });
+        let mut last = 0;
+        for _ in 0..ROUNDS {
+            let r = model::packet(&mut p, &mut self.held, &self.one);
+            last =
+                if r.number == 0 { told(model::take(&mut p, &mut self.held, &mut self.destination)) } else { u64::MAX };
+        }
+        black_box(&p);
+        last
+    }
+}

@@ -1,0 +1,189 @@
+//! The standby's cases: read of PAGE and of COMMIT, flush.
+
+use super::{filled, how_many, marks, told};
+use crate::library::{self, Lent};
+use crate::model;
+use crate::Case;
+use std::hint::black_box;
+
+/// The state that libbench.a makes of the same numbers.
+fn standby(u: usize, m: usize, staged: usize, had: usize, seen: bool) -> model::Standby {
+    model::Standby {
+        u: u as u64,
+        m: m as u64,
+        d: 64,
+        b: 0,
+        s: 64,
+        t: 1000,
+        count: 0,
+        mode: model::Mode::Receiving,
+        received: 1,
+        staged: staged as u64,
+        due: staged as u64,
+        slots: std::array::from_fn(|i| i as u64),
+        blocks: 0,
+        pages: had as u64,
+        next_page: had as u64,
+        state_seen: seen,
+        staged_cpu: [5; 64],
+        kept_cpu: [3; 64],
+    }
+}
+
+#[inline(never)]
+fn model_read(u: usize, m: usize, had: usize, seen: bool, rounds: usize, bytes: &[u8], lent: &mut Lent) -> u64 {
+    let mut s = standby(u, m, 0, had, seen);
+    let mut staging = model::Staging {
+        memory: &mut lent.memory,
+        pages: &mut lent.pages,
+        marks: &mut lent.marks,
+        blocks: &mut lent.blocks,
+    };
+    let mut at = 0;
+    for _ in 0..rounds {
+        at += model::read(&mut s, &mut staging, &bytes[at..], &mut lent.reply).used as usize;
+    }
+    black_box(&s);
+    at as u64
+}
+
+fn lent(u: usize, m: usize) -> Lent {
+    Lent {
+        memory: filled(m * u, 3),
+        pages: filled(m * u, 4),
+        marks: vec![0; m.div_ceil(64)],
+        blocks: filled(64 * u, 5),
+        reply: [0; 8],
+    }
+}
+
+/// A COMMIT with every step-th page staged.
+pub struct Commit {
+    u: usize,
+    m: usize,
+    step: usize,
+    set: Vec<u64>,
+    record: [u8; 12],
+    lent: Lent,
+}
+
+impl Commit {
+    pub fn new(u: usize, m: usize, step: usize) -> Commit {
+        let [low, high] = (m.div_ceil(step) as u16).to_le_bytes();
+        Commit { u, m, step, set: marks(m, step), record: [8, 0, 4, 0, 2, 0, 0, 0, low, high, 0, 0], lent: lent(u, m) }
+    }
+    fn count(&self) -> usize {
+        self.m.div_ceil(self.step)
+    }
+}
+
+impl Case for Commit {
+    fn name(&self) -> String {
+        format!("COMMIT, U {}, M {}, staged {}", self.u, self.m, how_many(self.m, self.step))
+    }
+    fn bytes(&self) -> usize {
+        self.count() * self.u
+    }
+    fn wanted(&self) -> u64 {
+        12
+    }
+    fn reset(&mut self) {
+        self.lent.marks.copy_from_slice(black_box(&self.set));
+    }
+    fn ours(&mut self) -> u64 {
+        library::read(self.u, self.m, self.count(), true, 1, &self.record, &mut self.lent)
+    }
+    fn copy(&mut self) {
+        if self.step == 1 {
+            library::base_copy(&mut self.lent.memory, &self.lent.pages);
+        } else {
+            library::base_place(&mut self.lent.memory, &self.lent.pages, self.u, self.step);
+        }
+    }
+    fn model(&mut self) -> u64 {
+        model_read(self.u, self.m, self.count(), true, 1, &self.record, &mut self.lent)
+    }
+}
+
+const PAGES: usize = 64;
+
+/// The PAGE records of a checkpoint of 64 dirty pages, read one by one.
+pub struct PageReads {
+    u: usize,
+    bytes: Vec<u8>,
+    lent: Lent,
+}
+
+impl PageReads {
+    pub fn new(u: usize) -> PageReads {
+        let mut bytes = filled(PAGES * (u + 10) + 84, 6);
+        let memory = filled(PAGES * u, 7);
+        assert_eq!(library::checkpoint(u, PAGES, 0, &memory, &mut marks(PAGES, 1), &mut bytes), 2);
+        bytes.truncate(PAGES * (u + 10));
+        PageReads { u, bytes, lent: lent(u, PAGES) }
+    }
+}
+
+impl Case for PageReads {
+    fn name(&self) -> String {
+        format!("read of PAGE, U {}", self.u)
+    }
+    fn bytes(&self) -> usize {
+        self.u
+    }
+    fn operations(&self) -> usize {
+        PAGES
+    }
+    fn wanted(&self) -> u64 {
+        self.bytes.len() as u64
+    }
+    fn ours(&mut self) -> u64 {
+        library::read(self.u, PAGES, 0, false, PAGES, &self.bytes, &mut self.lent)
+    }
+    fn copy(&mut self) {
+        library::base_scatter(&mut self.lent.pages, &self.bytes, self.u, PAGES);
+    }
+    fn model(&mut self) -> u64 {
+        model_read(self.u, PAGES, 0, false, PAGES, &self.bytes, &mut self.lent)
+    }
+}
+
+/// A flush of n of the staged blocks, which are all due.
+pub struct Flush {
+    u: usize,
+    staged: usize,
+    n: usize,
+    slots: Vec<u8>,
+    disk: Vec<u8>,
+}
+
+impl Flush {
+    pub fn new(u: usize, staged: usize, n: usize) -> Flush {
+        Flush { u, staged, n, slots: filled(64 * u, 13), disk: filled(64 * u, 14) }
+    }
+}
+
+impl Case for Flush {
+    fn name(&self) -> String {
+        format!("flush of {}, U {}, {} due", self.n, self.u, self.staged)
+    }
+    fn bytes(&self) -> usize {
+        self.staged * self.u
+    }
+    fn wanted(&self) -> u64 {
+        self.n as u64
+    }
+    fn ours(&mut self) -> u64 {
+        library::flush(self.u, self.staged, self.n, &mut self.slots, &mut self.disk)
+    }
+    fn copy(&mut self) {
+        library::base_move_out(&mut self.disk, &mut self.slots, self.n * self.u, self.staged * self.u);
+    }
+    #[inline(never)]
+    fn model(&mut self) -> u64 {
+        let mut s = standby(self.u, 1, self.staged, 0, false);
+        let r = model::flush(&mut s, &mut self.slots, &mut self.disk, self.n as u64);
+        black_box(&s);
+        told(r)
+    }
+}
