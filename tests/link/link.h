@@ -66,7 +66,7 @@ static inline size_t record_used(uint64_t word)
     return (size_t)(word >> 16);
 }
 
-/* Whether the bytes so far are the beginning of a record, or empty. */
+/* Whether more bytes are wanted before the record can be judged. */
 static inline int record_cut_short(uint64_t word)
 {
     return (word & 65535) == 0;

@@ -38,8 +38,8 @@ module _ {A : Type 0} where
       ∙ ap (put d at) (sym (take-add i c s))
 
   -- the same at the head
-  pub front-turn : (d s : List A) (i c : ℕ) → i ≤ length d → i + c ≤ length s → put (put d 0 (take i s)) i (part i c s) ≡ put d 0 (take (i + c) s)
-  front-turn d s i c h k =
+  pub front-chunk-turn : (d s : List A) (i c : ℕ) → i ≤ length d → i + c ≤ length s → put (put d 0 (take i s)) i (part i c s) ≡ put d 0 (take (i + c) s)
+  front-chunk-turn d s i c h k =
       ap (λ (n : ℕ). put (put d 0 (take i s)) n (part i c s)) (sym (zero-add i)) ∙ chunk-turn d s 0 i c (omega arith) k
 
   -- what lies behind the elements put stays

@@ -5,7 +5,7 @@ mod table;
 ghost use mathlib.Core.Path.{_≡_};
 ghost use Prim.Native.Nat.{_+_, _-_, _%_, min};
 ghost use lib.Count.{trailingZeros};
-ghost use Rattle.marks.specs.Mark.{marked, withMark, cleared, countMarks};
+ghost use Rattle.marks.specs.Mark.{withMark, cleared, countMarks};
 ghost use Rattle.marks.specs.Next.{NextMarked};
 
 // How many zeros stand below the lowest set bit of a word: 64 where none is set, by one test.
@@ -31,18 +31,6 @@ fn least(a: usize, b: usize) -> usize
     ensures { λ r. ⌜ r ≡ min a b ⌝ }
 {
     if a < b { a } else { b }
-}
-
-// Whether page p is marked.
-pub fn is_marked(ws: &[u64], p: usize) -> bool
-    ensures { λ r. ⌜ r ≡ marked (now (ws .entry)) p ⌝ }
-{
-    let i = p / 64;
-    let k = p % 64;
-    if ws.len() <= i {
-        return false;
-    }
-    (ws[i] >> k) & 1 == 1
 }
 
 // Marks page p.

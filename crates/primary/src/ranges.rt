@@ -8,7 +8,7 @@ use detector::Detector;
 use rules::Primary;
 
 // T's range, and a count that has not passed T, nor reached it while it is watching.
-pub fn detector_ok(d: Detector, watching: bool) -> bool
+fn detector_ok(d: Detector, watching: bool) -> bool
     ensures { λ r. ⌜ r ≡ detectorOk d watching ⌝ }
 {
     let patience = d.patience;

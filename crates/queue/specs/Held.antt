@@ -52,7 +52,7 @@ added k epoch n = record { count = k .count + 1; bytes = k .bytes + n; packets =
 unfoldable pub addedBytes : Queue → List ℕ → List ℕ → List ℕ
 addedBytes k held packet = put held (k .bytes) packet
 
--- room for a packet of n bytes: "64 packets held, or Q would be passed"
+-- room for a packet of n bytes; not: "64 packets held, or Q would be passed"
 abbrev pub hasSpace : Queue → ℕ → ℕ → Bool
 hasSpace k q n = ltb (k .count) mostPackets && leb (k .bytes + n) q
 

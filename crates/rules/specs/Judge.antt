@@ -24,7 +24,7 @@ readLentOk s l =
     && eqb (l .marks) (marksLength s)
     && eqb (l .blocks) (slotsLength s)
 
--- "epoch not the last received plus 1"
+-- not: "epoch not the last received plus 1"
 abbrev pub isNext : Standby → ℕ → Bool
 isNext s epoch = eqb epoch (s .received + 1)
 

@@ -52,7 +52,7 @@ mostNumber = 4294967295
 abbrev pub word : List (List ℕ) → ℕ → List ℕ
 word ws i = getD ws i []
 
--- a line of this letter and this many numbers
+-- a line of this letter and this many words
 abbrev pub isLine : ℕ → ℕ → List (List ℕ) → Bool
 isLine letter words ws = eqb (length ws) words && eqb (length (word ws 0)) 1 && eqb (getD (word ws 0) 0 0) letter
 

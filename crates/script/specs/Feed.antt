@@ -1,6 +1,6 @@
 -- The program byte by byte: what it keeps between two bytes, and what each byte makes it print. Assumes nothing.
 use Prim.Native.Nat.{ℕ}
-use mathlib.Core.Bool.{Bool, true, false, cond}
+use mathlib.Core.Bool.{Bool, false, cond}
 use mathlib.Core.List.{List, [], _∷_, _++_}
 use lib.Dec.{eqb}
 use Rattle.text.specs.declared.Line.{Line}

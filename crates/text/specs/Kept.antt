@@ -44,19 +44,19 @@ withLetter l b =
       second = l .second;
     }
 
-abbrev pub withFirst : Line → ℕ → Line
-withFirst l b = record { words = l .words; letters = l .letters; letter = l .letter; first = numberWith (l .first) b; second = l .second }
+abbrev pub withFirstNumber : Line → ℕ → Line
+withFirstNumber l b = record { words = l .words; letters = l .letters; letter = l .letter; first = numberWith (l .first) b; second = l .second }
 
-abbrev pub withSecond : Line → ℕ → Line
-withSecond l b = record { words = l .words; letters = l .letters; letter = l .letter; first = l .first; second = numberWith (l .second) b }
+abbrev pub withSecondNumber : Line → ℕ → Line
+withSecondNumber l b = record { words = l .words; letters = l .letters; letter = l .letter; first = l .first; second = numberWith (l .second) b }
 
 -- one byte more of a line; of a fourth word nothing is kept
 unfoldable pub lineWith : Line → ℕ → Line
 lineWith l b =
     cond (eqb b space) (nextWord l)
     (cond (eqb (l .words) 1) (withLetter l b)
-    (cond (eqb (l .words) 2) (withFirst l b)
-    (cond (eqb (l .words) 3) (withSecond l b)
+    (cond (eqb (l .words) 2) (withFirstNumber l b)
+    (cond (eqb (l .words) 3) (withSecondNumber l b)
     l)))
 
 unfoldable pub lineWithAll : Line → List ℕ → Line

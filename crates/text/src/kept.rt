@@ -1,7 +1,7 @@
 // A line, a byte at a time.
 ghost use mathlib.Core.Path.{_≡_};
 ghost use Prim.Native.Nat.{min};
-ghost use Rattle.text.specs.Kept.{noLine, numberWith, nextWord, withLetter, withFirst, withSecond, lineWith, lineWithAll, numberIs, isEmptyLine};
+ghost use Rattle.text.specs.Kept.{noLine, numberWith, nextWord, withLetter, withFirstNumber, withSecondNumber, lineWith, lineWithAll, numberIs, isEmptyLine};
 use crate::Line;
 use crate::Number;
 
@@ -87,8 +87,8 @@ fn with_letter(l: Line, b: u8) -> Line
 }
 
 // A byte of the second word.
-fn with_first(l: Line, b: u8) -> Line
-    ensures { λ r. ⌜ r ≡ withFirst l b ⌝ }
+fn with_first_number(l: Line, b: u8) -> Line
+    ensures { λ r. ⌜ r ≡ withFirstNumber l b ⌝ }
 {
     let word = l.first;
     let grown = number_with(word, b);
@@ -98,8 +98,8 @@ fn with_first(l: Line, b: u8) -> Line
 }
 
 // A byte of the third word.
-fn with_second(l: Line, b: u8) -> Line
-    ensures { λ r. ⌜ r ≡ withSecond l b ⌝ }
+fn with_second_number(l: Line, b: u8) -> Line
+    ensures { λ r. ⌜ r ≡ withSecondNumber l b ⌝ }
 {
     let word = l.second;
     let grown = number_with(word, b);
@@ -120,10 +120,10 @@ pub fn line_with(l: Line, b: u8) -> Line
         return with_letter(l, b);
     }
     if words == 2 {
-        return with_first(l, b);
+        return with_first_number(l, b);
     }
     if words == 3 {
-        return with_second(l, b);
+        return with_second_number(l, b);
     }
     l
 }

@@ -7,7 +7,7 @@ use mathlib.Core.List.{List}
 use lib.ListN.{length, take}
 use Rattle.lists.specs.Part.{part, put}
 use Rattle.lists.proofs.PartLaws.{put-none}
-use Rattle.lists.proofs.ChunkLaws.{front-turn, front-all}
+use Rattle.lists.proofs.ChunkLaws.{front-chunk-turn, front-all}
 use Rattle.lists.proofs.copy_front.Statement.{statement}
 use Rattle.lists.proofs.copy_front.Tie as tie
 
@@ -46,7 +46,7 @@ loop-again c =
     let a = c .before .before .before .before .before .before .before .before .before .args in
     let w = c .before .before .before .before .before .loop in
     let e : c .before .before .copy-chunk .last .0 ≡ put (a .dst .now) 0 (take (w .i + 4096) (a .src .now)) =
-    c .before .before .copy-chunk .ensures ∙ ap (λ (l : List ℕ). put l (w .i) (part (w .i) 4096 (a .src .now))) (w .inv .2) ∙ front-turn (a .dst .now) (a .src .now) (w .i) 4096 (omega arith) (omega arith) in
+    c .before .before .copy-chunk .ensures ∙ ap (λ (l : List ℕ). put l (w .i) (part (w .i) 4096 (a .src .now))) (w .inv .2) ∙ front-chunk-turn (a .dst .now) (a .src .now) (w .i) 4096 (omega arith) (omega arith) in
     (omega arith, search needs, e)
 
 sub-copy-chunk : tie.Need-sub-copy-chunk Inv-loop μ-loop
@@ -65,7 +65,7 @@ returns-2 c =
     let n : w .i + (length (a .src .now) - w .i) ≡ length (a .src .now) = omega arith in
     c .before .before .copy-chunk2 .ensures
     ∙ ap (λ (l : List ℕ). put l (w .i) (part (w .i) (length (a .src .now) - w .i) (a .src .now))) (w .inv .2)
-    ∙ front-turn (a .dst .now) (a .src .now) (w .i) (length (a .src .now) - w .i) (omega arith) (omega arith)
+    ∙ front-chunk-turn (a .dst .now) (a .src .now) (w .i) (length (a .src .now) - w .i) (omega arith) (omega arith)
     ∙ ap (λ (k : ℕ). put (a .dst .now) 0 (take k (a .src .now))) n
     ∙ front-all _ _
 

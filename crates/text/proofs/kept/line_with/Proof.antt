@@ -18,19 +18,19 @@ returns-2 : tie.Need-returns-2
 unfolding lineWith
 returns-2 c = rw (c .with-letter .ensures, ne-eqb (c .before .before .before .args .b) 32 (c .before .before .if1 .left), eq-eqb (c .before .before .before .args .l .words) 1 (c .before .if2 .taken))
 
-with-first-requires : tie.Need-with-first-requires
-with-first-requires c κs = search needs
+with-first-number-requires : tie.Need-with-first-number-requires
+with-first-number-requires c κs = search needs
 
 returns-3 : tie.Need-returns-3
 unfolding lineWith
-returns-3 c = rw (c .with-first .ensures, ne-eqb (c .before .before .before .before .args .b) 32 (c .before .before .before .if1 .left), c .before .if3 .taken)
+returns-3 c = rw (c .with-first-number .ensures, ne-eqb (c .before .before .before .before .args .b) 32 (c .before .before .before .if1 .left), c .before .if3 .taken)
 
-with-second-requires : tie.Need-with-second-requires
-with-second-requires c κs = search needs
+with-second-number-requires : tie.Need-with-second-number-requires
+with-second-number-requires c κs = search needs
 
 returns-4 : tie.Need-returns-4
 unfolding lineWith
-returns-4 c = rw (c .with-second .ensures, ne-eqb (c .before .before .before .before .before .args .b) 32 (c .before .before .before .before .if1 .left), c .before .if4 .taken)
+returns-4 c = rw (c .with-second-number .ensures, ne-eqb (c .before .before .before .before .before .args .b) 32 (c .before .before .before .before .if1 .left), c .before .if4 .taken)
 
 returns-5 : tie.Need-returns-5
 unfolding lineWith
@@ -44,8 +44,8 @@ line-with-spec =
     returns
     with-letter-requires
     returns-2
-    with-first-requires
+    with-first-number-requires
     returns-3
-    with-second-requires
+    with-second-number-requires
     returns-4
     returns-5)
