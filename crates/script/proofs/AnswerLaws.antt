@@ -1,17 +1,17 @@
 -- A line's answer is its command's, performed and printed. Assumes nothing.
 use Prim.Native.Nat.{ℕ, _+_, _≤_}
-use mathlib.Core.Path.{_≡_, refl, sym, ap, _∙_}
-use mathlib.Core.Bool.{Bool, false}
-use mathlib.Core.List.{List, _++_}
+use mathlib.Core.Path.{_≡_, ap, _∙_}
+use mathlib.Core.Bool.{false}
+use mathlib.Core.List.{List}
 use native.Mathlib.Omega.{arith}
 use native.Mathlib.Nat.{zero-add}
 use lib.ListN.{length, take, drop}
 use lib.Seq.{take-append-seam}
-use Rattle.lists.specs.Part.{put, PutDone}
+use Rattle.lists.specs.Part.{PutDone}
 use Rattle.lists.proofs.PartLaws.{put-front, put-done-length}
 use Rattle.text.specs.declared.Line.{Line}
 use Rattle.rules.specs.World.{World}
-use Rattle.rules.specs.Step.{Outcome, outcome}
+use Rattle.rules.specs.Step.{outcome}
 use Rattle.script.specs.declared.Command.{Command}
 use Rattle.script.specs.declared.Performed.{Performed}
 use Rattle.script.specs.Command.{commandOfLine, letterOf}

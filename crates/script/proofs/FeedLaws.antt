@@ -5,19 +5,18 @@ use mathlib.Core.Bool.{Bool, true, false, cond}
 use mathlib.Core.List.{List, [], _∷_, _++_, append-assoc, append-nil}
 use lib.Dec.{eqb}
 use lib.ListN.{length}
-use borrow.Author.Tests.{eqb-true, eqb-false, ne-eqb}
+use borrow.Author.Tests.{eqb-true, ne-eqb}
 use native.Mathlib.Omega.{arith}
 use Rattle.text.specs.declared.Line.{Line}
 use Rattle.text.specs.Line.{split, withFirst, dropEmptyLast, linesOf, newline}
-use Rattle.text.specs.Kept.{noLine, lineWith, lineWithAll, isEmptyLine}
+use Rattle.text.specs.Kept.{noLine, lineWith, lineWithAll}
 use Rattle.rules.specs.World.{World}
-use Rattle.script.specs.declared.Command.{Command}
-use Rattle.script.specs.Command.{commandOf, commandOfLine, letterOf}
+use Rattle.script.specs.Command.{commandOf, letterOf}
 use Rattle.script.specs.Pair.{perform, pairStart}
 use Rattle.script.specs.Output.{printed, printedAll, outputOf}
 use Rattle.text.proofs.KeptLaws.{empty-line}
 use Rattle.script.proofs.CommandLaws.{command-of-line}
-use Rattle.script.specs.Feed.{Reading, reading, firstReading, lineDone, linePrinted, fed, fedPrinted, fedAll, fedAllPrinted, endPrinted}
+use Rattle.script.specs.Feed.{reading, firstReading, linePrinted, fed, fedPrinted, fedAll, fedAllPrinted, endPrinted}
 
 -- splitting gives one part at least
 record Parts (l : List ℕ) : Type 0 where

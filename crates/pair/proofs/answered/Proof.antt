@@ -1,30 +1,22 @@
+-- `pair::answered` meets its contract. Assumes nothing.
 use mathlib.Core.Path.{sym}
 use native.Mathlib.Omega.{arith}
 use borrow.Author.Needs.{needs}
 use Rattle.pair.proofs.RunLaws.{taken-length, answered-run, answered-put}
 use Rattle.pair.proofs.answered.Statement.{statement}
 use Rattle.pair.proofs.answered.Tie as tie
-use Rattle.pair.proofs.answered.Reads as reads
-use Rattle.pair.proofs.answered.Lts as lts
-use Rattle.lists.proofs.copy_into.Reads as copy-into-reads
-use Rattle.script.proofs.answer.answer.Reads as answer-reads
-use Rattle.text.proofs.kept.no_line.Reads as no-line-reads
 
--- src/main.rt:45:9
 answer-requires : tie.Need-answer-requires
 answer-requires c κs = search needs
 
--- src/main.rt:48:36
 array-share-prefix-bytes : tie.Need-array-share-prefix-bytes
 array-share-prefix-bytes c = search needs
 
--- src/main.rt:48:36
 slice-aggregate-copy-into : tie.Need-slice-aggregate-copy-into
 slice-aggregate-copy-into c =
     let e = c .before .before .before .answer .ensures .1 .1 in
     sym (taken-length _ _ (e .1) (e .2))
 
--- src/main.rt:48:5
 copy-into-requires : tie.Need-copy-into-requires
 copy-into-requires c κs =
     let a = c .before .before .before .answer in
@@ -32,19 +24,15 @@ copy-into-requires c κs =
     let l = taken-length (a .result .length) (a .result .bytes) (e .1) (e .2) in
     rw l (omega (arith, c .before .before .before .before .before .before .before .pre .1, e .1))
 
--- src/main.rt:51:9
 no-line-requires : tie.Need-no-line-requires
 no-line-requires c κs = search needs
 
--- src/main.rt:60:18
 add-t18 : tie.Need-add-t18
 add-t18 c = search needs
 
--- src/main.rt:37:1
 same-length : tie.Need-same-length
 same-length c = search needs
 
--- src/main.rt:37:1
 returns : tie.Need-returns
 returns c =
     let a = c .before .before .before .before .before .before .before .before .answer in

@@ -1,3 +1,4 @@
+-- `pair::fed` meets its contract. Assumes nothing.
 use Prim.Native.Nat.{_-_, _<_}
 use mathlib.Core.Path.{_≡_, refl, sym, ap, _∙_}
 use mathlib.Core.Bool.{true}
@@ -10,9 +11,6 @@ use Rattle.pair.specs.Run.{readingOf}
 use Rattle.pair.proofs.RunLaws.{Progress, progress-none, progress-room, progress-fits, progress-more, progress-over, progress-end}
 use Rattle.pair.proofs.fed.Statement.{statement}
 use Rattle.pair.proofs.fed.Tie as tie
-use Rattle.pair.proofs.fed.Reads as reads
-use Rattle.pair.proofs.fed.Lts as lts
-use Rattle.pair.proofs.fed_line.Reads as fed-line-reads
 
 abbrev Inv-loop : tie.InvT-loop
 Inv-loop input out₀ run₀ over₀ read₀ written₀ out run over read written =
@@ -21,11 +19,9 @@ Inv-loop input out₀ run₀ over₀ read₀ written₀ out run over read writte
 abbrev μ-loop : tie.MeasureT-loop
 μ-loop input out₀ run₀ over₀ read₀ written₀ out run over read written = length input - read
 
--- src/main.rt:107:5
 loop-holds : tie.Need-loop-holds Inv-loop μ-loop
 loop-holds c = (refl, progress-none _ _ _ (c .before .before .pre .0) (c .before .before .pre .1))
 
--- src/main.rt:108:13
 fed-line-requires : tie.Need-fed-line-requires Inv-loop μ-loop
 fed-line-requires c κs =
     let at = c .before .before .before .loop in
@@ -33,14 +29,12 @@ fed-line-requires c κs =
     let h = c .before .before .loop-test .taken in
     (sym (at .inv .0) ∙ not-true (at .over) (c .before .if1 .taken), h, progress-room _ _ _ (start .pre .0) (start .pre .1) _ _ _ _ (at .inv .1) h, start .pre .0)
 
--- src/main.rt:107:5
 loop-less : tie.Need-loop-less Inv-loop μ-loop
 loop-less c =
     let h : c .before .before .before .before .before .before .before .loop .read < length (c .before .before .before .before .before .before .before .before .before .before .args .input .now) = c .before .before .before .before .before .before .loop-test .taken in
     let k : c .before .before .before .before .before .before .before .loop .read < c .before .before .before .fed-line .result .read = c .before .before .before .fed-line .ensures .0 .0 in
     omega (arith, h, k)
 
--- src/main.rt:107:5
 loop-again : tie.Need-loop-again Inv-loop μ-loop
 loop-again c =
     let at = c .before .before .before .before .before .before .before .loop in
@@ -48,11 +42,9 @@ loop-again c =
     let e = c .before .before .before .fed-line .ensures in
     (refl, progress-more _ _ _ (start .pre .0) (start .pre .1) _ _ _ _ (at .inv .1) _ _ _ _ (e .0 .0) (e .0 .1) (e .0 .2) (e .1 .0) (e .1 .1))
 
--- src/main.rt:98:1
 same-length : tie.Need-same-length Inv-loop μ-loop
 same-length c = c .before .before .loop .inv .1 .long
 
--- src/main.rt:98:1
 returns : tie.Need-returns Inv-loop μ-loop
 returns c =
     let at = c .before .before .loop in
@@ -61,11 +53,9 @@ returns c =
     let e = progress-over _ _ _ (start .pre .0) (start .pre .1) _ _ _ _ (at .inv .1) (worldOf (at .run .site)) (at .run .line) (ap (reading (worldOf (at .run .site)) (at .run .line)) over) in
     (e .0, (e .1, progress-fits _ _ _ (start .pre .0) (start .pre .1) _ _ _ _ (at .inv .1)))
 
--- src/main.rt:98:1
 same-length-2 : tie.Need-same-length-2 Inv-loop μ-loop
 same-length-2 c = c .before .loop .inv .1 .long
 
--- src/main.rt:98:1
 returns-2 : tie.Need-returns-2 Inv-loop μ-loop
 returns-2 c =
     let start = c .before .before .before .before in

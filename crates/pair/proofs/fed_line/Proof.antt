@@ -1,39 +1,29 @@
-use Prim.Native.Nat.{_<_, _≤_}
+-- `pair::fed_line` meets its contract. Assumes nothing.
+use Prim.Native.Nat.{_<_}
 use native.Mathlib.Omega.{arith}
 use lib.ListN.{length}
 use borrow.Author.Needs.{needs}
 use Rattle.pair.proofs.RunLaws.{end-inside, line-fed, line-put, ended-fed, ended-put}
 use Rattle.pair.proofs.fed_line.Statement.{statement}
 use Rattle.pair.proofs.fed_line.Tie as tie
-use Rattle.pair.proofs.fed_line.Reads as reads
-use Rattle.pair.proofs.fed_line.Lts as lts
-use Rattle.pair.proofs.answered.Reads as answered-reads
-use Rattle.text.proofs.kept.line_with_all.Reads as line-with-all-reads
-use Rattle.text.proofs.lines.line_end.Reads as line-end-reads
 
--- src/main.rt:72:9
 line-end-requires : tie.Need-line-end-requires
 line-end-requires c κs = search needs
 
--- src/main.rt:74:49
 sub-line-with-all : tie.Need-sub-line-with-all
 sub-line-with-all c = search needs
 
--- src/main.rt:74:49
 part-line-with-all-start : tie.Need-part-line-with-all-start
 part-line-with-all-start c = search needs
 
--- src/main.rt:74:49
 part-line-with-all-end : tie.Need-part-line-with-all-end
 part-line-with-all-end c =
     let start = c .before .before .before .before .before in
     end-inside _ _ _ (start .pre .1) (c .before .line-end .ensures)
 
--- src/main.rt:74:9
 line-with-all-requires : tie.Need-line-with-all-requires
 line-with-all-requires c κs = search needs
 
--- src/main.rt:81:9
 returns : tie.Need-returns
 returns c =
     let start = c .before .before .before .before .before .before .before .before in
@@ -43,21 +33,17 @@ returns c =
       (line-fed _ _ _ (start .pre .1) e _ _ _ _ (start .pre .0) kept, line-put _ _ _ (start .pre .1) e _ _ _ _ (start .pre .0) kept _ _),
     )
 
--- src/main.rt:87:9
 answered-requires : tie.Need-answered-requires
 answered-requires c κs = search needs
 
--- src/main.rt:92:15
 add-t15 : tie.Need-add-t15
 add-t15 c =
     let h : c .before .before .before .before .before .before .before .before .before .line-end .result < length (c .before .before .before .before .before .before .before .before .before .before .before .before .before .args .input .now) = c .before .before .before .before .before .if1 .left in
     record { fits = omega (arith, h, c .before .before .before .before .before .before .before .before .before .before .before .before .before .pre .3) }
 
--- src/main.rt:65:1
 same-length : tie.Need-same-length
 same-length c = search needs
 
--- src/main.rt:65:1
 returns-2 : tie.Need-returns-2
 returns-2 c =
     let start = c .before .before .before .before .before .before .before .before .before .before .before .before .before in

@@ -1,37 +1,26 @@
+-- `script::answer::answer` meets its contract. Assumes nothing.
 use mathlib.Core.Path.{refl}
 use borrow.Author.Needs.{needs}
 use Rattle.script.specs.Site.{worldOf}
 use Rattle.script.proofs.AnswerLaws.{answer-next, answer-last, answer-bytes, answer-room}
 use Rattle.script.proofs.answer.answer.Statement.{statement}
 use Rattle.script.proofs.answer.answer.Tie as tie
-use Rattle.script.proofs.answer.answer.Reads as reads
-use Rattle.script.proofs.answer.answer.Lts as lts
-use Rattle.script.proofs.answer.perform.Reads as perform-reads
-use Rattle.script.proofs.commands.command_of.Reads as command-of-reads
-use Rattle.script.proofs.printing.letter_of.Reads as letter-of-reads
-use Rattle.script.proofs.printing.print.Reads as print-reads
 
--- src/answer.rt:49:9
 command-of-requires : tie.Need-command-of-requires
 command-of-requires c κs = search needs
 
--- src/answer.rt:50:9
 letter-of-requires : tie.Need-letter-of-requires
 letter-of-requires c κs = search needs
 
--- src/answer.rt:51:9
 perform-requires : tie.Need-perform-requires
 perform-requires c κs = search needs
 
--- src/answer.rt:57:29
 slice-aggregate-print : tie.Need-slice-aggregate-print
 slice-aggregate-print c = search needs
 
--- src/answer.rt:57:9
 print-requires : tie.Need-print-requires
 print-requires c κs = search needs
 
--- src/answer.rt:44:1
 returns : tie.Need-returns
 returns c =
     let b = c .before .before .before .before in

@@ -1,3 +1,4 @@
+-- `script::commands::is_line` meets its contract. Assumes nothing.
 use borrow.Author.Tests.{ne-eqb, eq-eqb}
 use Rattle.script.proofs.commands.is_line.Statement.{statement}
 use Rattle.script.proofs.commands.is_line.Tie as tie

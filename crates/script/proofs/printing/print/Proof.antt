@@ -1,42 +1,30 @@
-use native.Mathlib.Omega.{arith}
+-- `script::printing::print` meets its contract. Assumes nothing.
 use borrow.Author.Needs.{needs}
 use Rattle.script.proofs.PrintLaws.{printed-put}
 use Rattle.script.proofs.printing.print.Statement.{statement}
 use Rattle.script.proofs.printing.print.Tie as tie
-use Rattle.script.proofs.printing.print.Reads as reads
-use Rattle.script.proofs.printing.print.Lts as lts
-use Rattle.script.proofs.printing.put_byte.Reads as put-byte-reads
-use Rattle.script.proofs.printing.put_number.Reads as put-number-reads
 
--- src/printing.rt:59:9
 put-byte-requires : tie.Need-put-byte-requires
 put-byte-requires c κs = search needs
 
--- src/printing.rt:60:9
 put-byte-requires-2 : tie.Need-put-byte-requires-2
 put-byte-requires-2 c κs = search needs
 
--- src/printing.rt:61:9
 put-number-requires : tie.Need-put-number-requires
 put-number-requires c κs = search needs
 
--- src/printing.rt:62:9
 put-byte-requires-3 : tie.Need-put-byte-requires-3
 put-byte-requires-3 c κs = search needs
 
--- src/printing.rt:63:9
 put-number-requires-2 : tie.Need-put-number-requires-2
 put-number-requires-2 c κs = search needs
 
--- src/printing.rt:64:5
 put-byte-requires-4 : tie.Need-put-byte-requires-4
 put-byte-requires-4 c κs = search needs
 
--- src/printing.rt:54:1
 same-length : tie.Need-same-length
 same-length c = search needs
 
--- src/printing.rt:54:1
 returns : tie.Need-returns
 returns c =
     let start = c .before .before .before .before .before .before .before .before .before .before .before .before .before .before .before .before .before .before .before .before .before .before .before .before .before in

@@ -1,46 +1,34 @@
+-- `script::printing::put_number` meets its contract. Assumes nothing.
 use native.Mathlib.Omega.{arith}
 use borrow.Author.Needs.{needs}
 use Rattle.script.proofs.PrintLaws.{number-put}
 use Rattle.script.proofs.printing.put_number.Statement.{statement}
 use Rattle.script.proofs.printing.put_number.Tie as tie
-use Rattle.script.proofs.printing.put_number.Reads as reads
-use Rattle.script.proofs.printing.put_number.Lts as lts
-use Rattle.lists.proofs.copy_into.Reads as copy-into-reads
-use Rattle.text.proofs.decimal.digits_of.Reads as digits-of-reads
 
--- src/printing.rt:46:9
 digits-of-requires : tie.Need-digits-of-requires
 digits-of-requires c κs = search needs
 
--- src/printing.rt:49:31
 sub-copy-into : tie.Need-sub-copy-into
 sub-copy-into c = search needs
 
--- src/printing.rt:49:31
 part-copy-into-start : tie.Need-part-copy-into-start
 part-copy-into-start c = search needs
 
--- src/printing.rt:49:31
 part-copy-into-end : tie.Need-part-copy-into-end
 part-copy-into-end c = search needs
 
--- src/printing.rt:49:5
 copy-into-requires : tie.Need-copy-into-requires
 copy-into-requires c κs = search needs
 
--- src/printing.rt:50:11
 sub-result : tie.Need-sub-result
 sub-result c = search needs
 
--- src/printing.rt:50:5
 add-result : tie.Need-add-result
 add-result c = search needs
 
--- src/printing.rt:41:1
 same-length : tie.Need-same-length
 same-length c = search needs
 
--- src/printing.rt:41:1
 returns : tie.Need-returns
 returns c =
     let d = c .before .before .before .before .before .before .before .digits-of in
