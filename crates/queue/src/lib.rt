@@ -25,13 +25,20 @@ pub fn queue_ok(k: Queue, epoch: u32, q: usize) -> bool
 {
     let n = k.count;
     let bytes = k.bytes;
-    let packets = k.packets;
     if 64 < n {
         return false;
     }
     if q < bytes {
         return false;
     }
+    // The array is copied only where there is a packet to look at.
+    if n < 1 {
+        if bytes != 0 {
+            return false;
+        }
+        return true;
+    }
+    let packets = k.packets;
     let mut low: u32 = 0;
     let mut sum: usize = 0;
     let mut i: usize = 0;
@@ -113,7 +120,7 @@ fn without_first(packets: [Packet; 64], n: usize) -> [Packet; 64]
     let last = n - 1;
     let mut i = 0;
     while i < last {
-        out[i] = packets[i + 1];
+        out[i] = out[i + 1];
         i += 1;
     }
     out[last] = Packet {

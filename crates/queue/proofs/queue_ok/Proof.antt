@@ -8,7 +8,7 @@ use lib.ListN.{length, length-map}
 use Rattle.queue.proofs.Packet.{the-type}
 use Rattle.lists.proofs.TestLaws.{refuted}
 use Rattle.queue.proofs.CheckLaws.{Left, left-all, left-length, left-epoch, left-next, left-lengths, left-top, left-rising, left-sum}
-use Rattle.queue.proofs.QueueLaws.{queue-tests, queue-tested}
+use Rattle.queue.proofs.QueueLaws.{queue-tests, queue-tested, empty-sum, empty-ok}
 use Rattle.queue.proofs.queue_ok.Statement.{statement}
 use Rattle.queue.proofs.queue_ok.Tie as tie
 
@@ -30,6 +30,15 @@ returns c = refuted _ (λ e. let f = queue-tests _ _ _ e in omega arith)
 returns-2 : tie.Need-returns-2 Inv-loop μ-loop
 returns-2 c = refuted _ (λ e. let f = queue-tests _ _ _ e in omega arith)
 
+returns-3 : tie.Need-returns-3 Inv-loop μ-loop
+returns-3 c =
+    let k = c .before .before .before .before .args .k in
+    let x = empty-sum k (omega arith) in
+    refuted _ (λ e. let f = queue-tests _ _ _ e in omega (arith, f .sum-is))
+
+returns-4 : tie.Need-returns-4 Inv-loop μ-loop
+returns-4 c = sym (empty-ok _ _ _ (omega arith) (omega arith))
+
 loop-holds : tie.Need-loop-holds Inv-loop μ-loop
 loop-holds c = left-all _ _ _
 
@@ -39,21 +48,21 @@ mul-p c = omega arith
 array-copy-out-p : tie.Need-array-copy-out-p Inv-loop μ-loop
 array-copy-out-p c = omega arith
 
-returns-3 : tie.Need-returns-3 Inv-loop μ-loop
-returns-3 c =
-    let h = array (c .before .before .before .before .before .before .before) in
+returns-5 : tie.Need-returns-5 Inv-loop μ-loop
+returns-5 c =
+    let h = array (c .before .before .before .before .before .before .before .before) in
     let w = c .before .before .before .loop .inv in
     refuted _ (λ e. let f = queue-tests _ _ _ e in let x = left-length _ _ _ _ _ _ w (omega arith) (omega arith) (f .lengths-ok) in omega arith)
 
-returns-4 : tie.Need-returns-4 Inv-loop μ-loop
-returns-4 c =
-    let h = array (c .before .before .before .before .before .before .before .before) in
+returns-6 : tie.Need-returns-6 Inv-loop μ-loop
+returns-6 c =
+    let h = array (c .before .before .before .before .before .before .before .before .before) in
     let w = c .before .before .before .before .loop .inv in
     refuted _ (λ e. let f = queue-tests _ _ _ e in let x = left-length _ _ _ _ _ _ w (omega arith) (omega arith) (f .lengths-ok) in omega arith)
 
-returns-5 : tie.Need-returns-5 Inv-loop μ-loop
-returns-5 c =
-    let h = array (c .before .before .before .before .before .before .before .before .before) in
+returns-7 : tie.Need-returns-7 Inv-loop μ-loop
+returns-7 c =
+    let h = array (c .before .before .before .before .before .before .before .before .before .before) in
     let w = c .before .before .before .before .before .loop .inv in
     refuted _ (λ e. let f = queue-tests _ _ _ e in let x = left-epoch _ _ _ _ _ _ w (omega arith) (omega arith) (f .epochs-ok) in omega arith)
 
@@ -68,25 +77,25 @@ loop-less c = omega arith
 
 loop-again : tie.Need-loop-again Inv-loop μ-loop
 loop-again c =
-    let h = array (c .before .before .before .before .before .before .before .before .before) in
+    let h = array (c .before .before .before .before .before .before .before .before .before .before) in
     let w = c .before .before .before .before .before .loop .inv in
     left-next _ _ _ _ _ _ w (omega arith) (omega arith) (omega arith) (omega arith) (omega arith)
-
-returns-6 : tie.Need-returns-6 Inv-loop μ-loop
-returns-6 c =
-    let h = array (c .before .before .before .before .before .before) in
-    let w = c .before .before .loop .inv in
-    refuted _ (λ e. let f = queue-tests _ _ _ e in let x = left-top _ _ _ _ _ _ w (omega arith) (omega arith) (f .epochs-ok) in omega arith)
-
-returns-7 : tie.Need-returns-7 Inv-loop μ-loop
-returns-7 c =
-    let h = array (c .before .before .before .before .before .before .before) in
-    let w = c .before .before .before .loop .inv in
-    refuted _ (λ e. let f = queue-tests _ _ _ e in let x = left-sum _ _ _ _ _ _ w (omega arith) (omega arith) in omega (arith, f .sum-is))
 
 returns-8 : tie.Need-returns-8 Inv-loop μ-loop
 returns-8 c =
     let h = array (c .before .before .before .before .before .before .before) in
+    let w = c .before .before .loop .inv in
+    refuted _ (λ e. let f = queue-tests _ _ _ e in let x = left-top _ _ _ _ _ _ w (omega arith) (omega arith) (f .epochs-ok) in omega arith)
+
+returns-9 : tie.Need-returns-9 Inv-loop μ-loop
+returns-9 c =
+    let h = array (c .before .before .before .before .before .before .before .before) in
+    let w = c .before .before .before .loop .inv in
+    refuted _ (λ e. let f = queue-tests _ _ _ e in let x = left-sum _ _ _ _ _ _ w (omega arith) (omega arith) in omega (arith, f .sum-is))
+
+returns-10 : tie.Need-returns-10 Inv-loop μ-loop
+returns-10 c =
+    let h = array (c .before .before .before .before .before .before .before .before) in
     let w = c .before .before .before .loop .inv in
     sym
     (queue-tested
@@ -109,16 +118,18 @@ queue-ok-spec =
     μ-loop
     returns
     returns-2
+    returns-3
+    returns-4
     loop-holds
     mul-p
     array-copy-out-p
-    returns-3
-    returns-4
     returns-5
+    returns-6
+    returns-7
     add-sum
     add-i
     loop-less
     loop-again
-    returns-6
-    returns-7
-    returns-8)
+    returns-8
+    returns-9
+    returns-10)

@@ -11,16 +11,16 @@ use Rattle.queue.proofs.without_first.Statement.{statement}
 use Rattle.queue.proofs.without_first.Tie as tie
 
 abbrev Inv-loop : tie.InvT-loop
-Inv-loop n packets out₀ last i₀ out i = (i ≤ last) × (length out ≡ length packets) × (out ≡ paste packets 0 (drop 1 packets) i)
+Inv-loop n out₀ last i₀ out i = (i ≤ last) × (length out ≡ length out₀) × (out ≡ paste out₀ 0 (drop 1 out₀) i)
 
 abbrev μ-loop : tie.MeasureT-loop
-μ-loop n packets out₀ last i₀ out i = last - i
+μ-loop n out₀ last i₀ out i = last - i
 
 sub-last : tie.Need-sub-last Inv-loop μ-loop
 sub-last c = omega arith
 
 loop-holds : tie.Need-loop-holds Inv-loop μ-loop
-loop-holds c = (omega arith, refl, paste-zero (c .args .t1) 0 (drop 1 (c .args .t1)))
+loop-holds c = (omega arith, refl, paste-zero (c .args .packets) 0 (drop 1 (c .args .packets)))
 
 add-out : tie.Need-add-out Inv-loop μ-loop
 add-out c = omega arith
@@ -47,8 +47,8 @@ loop-again : tie.Need-loop-again Inv-loop μ-loop
 loop-again c =
     let w = c .before .before .loop in
     let a = c .before .before .before .args in
-    let h : length (a .t1) ≡ 64 = search needs in
-    (omega arith, simp length-set (w .inv .1), rw (w .inv .2) (shift-turn (a .t1) (w .i) noPacket (omega arith)))
+    let h : length (a .packets) ≡ 64 = search needs in
+    (omega arith, simp length-set (w .inv .1), rw (w .inv .2) (shift-turn (a .packets) (w .i) noPacket (omega arith)))
 
 mul-out-3 : tie.Need-mul-out-3 Inv-loop μ-loop
 mul-out-3 c = omega arith
@@ -60,9 +60,9 @@ returns : tie.Need-returns Inv-loop μ-loop
 returns c =
     let w = c .before .loop in
     let a = c .before .before .args in
-    let h : length (a .t1) ≡ 64 = search needs in
+    let h : length (a .packets) ≡ 64 = search needs in
     let e : w .i ≡ a .n - 1 = omega arith in
-    rw (w .inv .2, e) (shifted (a .t1) (a .n) noPacket (omega arith) (omega arith))
+    rw (w .inv .2, e) (shifted (a .packets) (a .n) noPacket (omega arith) (omega arith))
 
 pub without-first-spec : {M : Type 1} → statement M
 without-first-spec =
