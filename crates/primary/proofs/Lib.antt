@@ -1,2 +1,3 @@
 -- The laws of this crate's own proofs.
 pub mod AppendLaws
+pub mod RangeLaws

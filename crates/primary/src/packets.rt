@@ -3,7 +3,7 @@ ghost use mathlib.Core.Path.{_≡_};
 ghost use lib.ListN.{length};
 ghost use Rattle.rules.specs.PrimaryState.{withQueue};
 ghost use Rattle.rules.specs.Packets.{packetRefusal, packetReply, packetHeld, takeRefusal, takeReply, takeHeld, takeDestination};
-use crate::ranges::primary_ok;
+use crate::ranges::numbers_ok;
 use queue::Queue;
 use rules::Primary;
 use rules::PrimaryReply;
@@ -21,9 +21,14 @@ fn packet_refusal(p: Primary, held: usize, n: usize) -> u64
     ensures { λ r. ⌜ r ≡ packetRefusal p held n ⌝ }
 {
     let g = p.settings;
+    let d = p.detector;
+    let epoch = p.epoch;
     let k = p.queue;
     let q = g.q;
-    if !primary_ok(p) {
+    if !numbers_ok(g, d, epoch, p.acknowledged, p.alone, p.blocks, p.waiting) {
+        return 1;
+    }
+    if !queue::queue_ok(k, epoch, q) {
         return 1;
     }
     if held != q {
@@ -73,15 +78,20 @@ fn take_refusal(p: Primary, held: usize, destination: usize) -> u64
     ensures { λ r. ⌜ r ≡ takeRefusal p held destination ⌝ }
 {
     let g = p.settings;
+    let d = p.detector;
+    let epoch = p.epoch;
+    let acknowledged = p.acknowledged;
+    let alone = p.alone;
     let k = p.queue;
     let q = g.q;
     let count = k.count;
-    let alone = p.alone;
-    let acknowledged = p.acknowledged;
     let first = queue::oldest(k);
-    let epoch = first.epoch;
+    let held_with = first.epoch;
     let n = first.length;
-    if !primary_ok(p) {
+    if !numbers_ok(g, d, epoch, p.acknowledged, p.alone, p.blocks, p.waiting) {
+        return 1;
+    }
+    if !queue::queue_ok(k, epoch, q) {
         return 1;
     }
     if held != q {
@@ -91,7 +101,7 @@ fn take_refusal(p: Primary, held: usize, destination: usize) -> u64
         return 18;
     }
     if !alone {
-        if acknowledged < epoch {
+        if acknowledged < held_with {
             return 18;
         }
     }

@@ -1,11 +1,13 @@
 // Number 1: whether the primary's state, and what is lent, is in its ranges.
 ghost use mathlib.Core.Path.{_≡_};
-ghost use mathlib.Core.Bool.{_&&_};
-ghost use lib.Dec.{eqb};
+ghost use mathlib.Core.Bool.{_&&_, not};
+ghost use lib.Dec.{leb, ltb, eqb};
+ghost use Rattle.settings.specs.Range.{primarySettingsOk};
 ghost use Rattle.rules.specs.Common.{detectorOk};
 ghost use Rattle.rules.specs.PrimaryState.{primaryOk, memoryLength, marksLength};
 use detector::Detector;
 use rules::Primary;
+use settings::PrimarySettings;
 
 // T's range, and a count that has not passed T, nor reached it while it is watching.
 fn detector_ok(d: Detector, watching: bool) -> bool
@@ -31,20 +33,20 @@ fn detector_ok(d: Detector, watching: bool) -> bool
     true
 }
 
-// Whether the state is in its ranges; the queue, whose packets are looked at one by one, comes last.
-pub fn primary_ok(p: Primary) -> bool
-    ensures { λ r. ⌜ r ≡ primaryOk p ⌝ }
+// Whether all of a state but its queue is in its ranges. A call that is made often asks this and queue_ok itself, with numbers alone: the state has a kilobyte of packets, and
+// goes by value.
+pub(crate) fn numbers_ok(
+    g: PrimarySettings,
+    d: Detector,
+    epoch: u32,
+    acknowledged: u32,
+    alone: bool,
+    blocks: usize,
+    waiting: usize,
+) -> bool
+    ensures { λ r. ⌜ r ≡ (primarySettingsOk g && ltb acknowledged epoch && leb waiting (g .l) && leb blocks (g .b) && detectorOk d (not alone)) ⌝ }
 {
-    let g = p.settings;
-    let d = p.detector;
-    let epoch = p.epoch;
-    let acknowledged = p.acknowledged;
-    let alone = p.alone;
-    let blocks = p.blocks;
-    let waiting = p.waiting;
-    let k = p.queue;
     let b = g.b;
-    let q = g.q;
     let l = g.l;
     if !settings::primary_settings_ok(g) {
         return false;
@@ -59,6 +61,25 @@ pub fn primary_ok(p: Primary) -> bool
         return false;
     }
     if !detector_ok(d, !alone) {
+        return false;
+    }
+    true
+}
+
+// Whether the state is in its ranges; the queue, whose packets are looked at one by one, comes last.
+pub fn primary_ok(p: Primary) -> bool
+    ensures { λ r. ⌜ r ≡ primaryOk p ⌝ }
+{
+    let g = p.settings;
+    let d = p.detector;
+    let epoch = p.epoch;
+    let acknowledged = p.acknowledged;
+    let alone = p.alone;
+    let blocks = p.blocks;
+    let waiting = p.waiting;
+    let k = p.queue;
+    let q = g.q;
+    if !numbers_ok(g, d, epoch, acknowledged, alone, blocks, waiting) {
         return false;
     }
     if !queue::queue_ok(k, epoch, q) {

@@ -11,6 +11,7 @@ ghost use Rattle.records.specs.Number.{badAck};
 ghost use Rattle.rules.specs.PrimaryState.{withWaiting, withAcknowledged};
 ghost use Rattle.rules.specs.Reply.{answerOf};
 ghost use Rattle.rules.specs.Stream.{drainRefusal, drainReply, drainStream, drainDestination, ackRefusal, ackJudged, ackState, ackReply};
+use crate::ranges::numbers_ok;
 use crate::ranges::primary_ok;
 use detector::Detector;
 use records::Reader;
@@ -33,8 +34,15 @@ fn drain_refusal(p: Primary, stream: usize) -> u64
     ensures { λ r. ⌜ r ≡ drainRefusal p stream ⌝ }
 {
     let g = p.settings;
+    let d = p.detector;
+    let epoch = p.epoch;
+    let k = p.queue;
+    let q = g.q;
     let l = g.l;
-    if !primary_ok(p) {
+    if !numbers_ok(g, d, epoch, p.acknowledged, p.alone, p.blocks, p.waiting) {
+        return 1;
+    }
+    if !queue::queue_ok(k, epoch, q) {
         return 1;
     }
     if stream != l {
