@@ -135,8 +135,13 @@ fn limit(what: &str, rows: &[Row], over: impl Fn(&Row) -> bool) {
 fn main() {
     println!("| case | bytes | ns | memcpy ns | to memcpy | model ns | to model |");
     println!("|---|---:|---:|---:|---:|---:|---:|");
+    let wanted: Vec<String> = std::env::args().skip(1).collect();
     let mut rows = Vec::new();
-    cases::all(|case| rows.push(row(case)));
+    cases::all(|case| {
+        if wanted.is_empty() || wanted.iter().any(|w| case.name().contains(w.as_str())) {
+            rows.push(row(case));
+        }
+    });
     println!();
     let largest = |r: &Row| r.name.contains("U 4096, M 4096") && r.name.contains("all");
     limit("all 4,096 pages of 4,096 bytes within 1.25 times memcpy", &rows, |r| largest(r) && r.to_copy > 1.25);
