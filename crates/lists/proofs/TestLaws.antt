@@ -33,11 +33,6 @@ pub both : (a b : Bool) → a && b ≡ true → (a ≡ true) × (b ≡ true)
 both true b e = (refl, e)
 both false b e = absurd (false≢true e)
 
--- a test without which another fails: the short way into a long conjunction
-pub needed : (b : Bool) → (b ≡ false → false ≡ true) → b ≡ true
-needed true f = refl
-needed false f = f refl
-
 pub join : (a b : Bool) → a ≡ true → b ≡ true → a && b ≡ true
 join a b p q = simp (p, q)
 

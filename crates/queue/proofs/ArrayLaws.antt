@@ -8,8 +8,7 @@ use lib.ListN.{length, drop, getD, set, length-drop}
 use lib.Seq.{paste, drop-paste, getD-drop}
 use Rattle.lists.specs.Part.{removed, freed}
 use Rattle.lists.proofs.PartLaws.{removed-paste, length-removed}
-use Rattle.lists.proofs.ArrayLaws.{front-turn}
-pub use Rattle.lists.proofs.ArrayLaws.{set-put}
+use Rattle.lists.proofs.ArrayLaws.{front-turn, set-put}
 
 module _ {A : Type 0} where
   -- what is not moved yet stands where it stood

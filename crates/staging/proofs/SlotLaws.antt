@@ -148,10 +148,6 @@ free-flushed k s count h g = omega arith
 
 -- ---- all due, and only the due: the numbers stay
 module _ (k : Slots) where
-  pub numbers-all-due : allDue k .numbers ≡ k .numbers
-  unfolding allDue
-  numbers-all-due = refl
-
   pub numbers-only-due : onlyDue k .numbers ≡ k .numbers
   unfolding onlyDue
   numbers-only-due = refl
