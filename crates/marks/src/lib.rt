@@ -102,7 +102,8 @@ fn clear_run(ws: &[u64], p: usize) -> usize
     least(zeros_below(ws[i] >> k), 64 - k)
 }
 
-// The first marked page at or after p, or m where there is none below m: a clear word takes one turn.
+// The first marked page at or after p, or m where there is none below m: a clear word takes one turn, and a marked page q is answered
+// before anything else is asked of it.
 pub fn next_marked(ws: &[u64], p: usize, m: usize) -> usize
     ensures { λ r. ⌜ NextMarked (now (ws .entry)) p m r ⌝ }
 {
@@ -110,6 +111,9 @@ pub fn next_marked(ws: &[u64], p: usize, m: usize) -> usize
     while q < m {
         let k = q % 64;
         let n = clear_run(ws, q);
+        if n == 0 {
+            return q;
+        }
         if m - q <= n {
             return m;
         }
