@@ -5,16 +5,18 @@ use mathlib.Core.List.{List, [], _++_, append-assoc, append-nil}
 use Prim.Native.Nat.{ℕ, _+_, _-_, _^_, _≤_, _<_}
 use native.Mathlib.Omega.{arith}
 use lib.Dec.{leb}
-use lib.ListN.{length, length-append, length-take, length-drop}
+use lib.ListN.{length, take, drop, length-append, length-take, length-drop}
+use lib.Seq.{take-at}
 use borrow.Author.Tests.{leb-true, le-leb, ltb-true, lt-ltb}
 use borrow.Rule.Slice.PartMut.{putMid, midOf}
 use Rattle.lists.specs.Part.{put, PutDone}
 use Rattle.lists.specs.LittleEndian.{leBytes}
 use Rattle.lists.proofs.TestLaws.{both, join, refuted, cond-true}
-use Rattle.lists.proofs.PartLaws.{put-next, part-back-front}
+use Rattle.lists.proofs.PartLaws.{put-front, put-next, part-back-front}
 use Rattle.lists.proofs.LittleEndianLaws.{length-leBytes}
-use Rattle.records.specs.Write.{frame, epochRecord, fitsTwo, hasRoom, Written}
-use Rattle.records.proofs.FrameLaws.{head-frame}
+use Rattle.records.specs.Kind.{ACK, bodyLength, recordLength}
+use Rattle.records.specs.Write.{frame, epochRecord, ackRecord, fitsTwo, hasRoom, Written}
+use Rattle.records.proofs.FrameLaws.{length-epoch, head-frame}
 
 -- ---- copies one after the other, over the kind and what follows the head
 
@@ -92,6 +94,11 @@ module _ {fits : Bool} {bs before after : List ℕ} {r : ℕ} where
   -- without it nothing, and 0
   pub unwritten-of : hasRoom fits bs before ≡ false → after ≡ before → r ≡ 0 → Written fits bs before after r
   unwritten-of h e n = record { content = rw h e; count = rw h n }
+
+-- what a COMMIT writes at the head of its reply: the bytes of an ACK's length there are the ACK
+pub ack-written : (u epoch : ℕ) (reply : List ℕ) → take (recordLength u ACK) (put reply 0 (ackRecord epoch)) ≡ ackRecord epoch
+unfolding recordLength bodyLength
+ack-written u epoch reply = ap (take 8) (put-front reply (ackRecord epoch)) ∙ take-at (ackRecord epoch) (drop (length (ackRecord epoch)) reply) 8 (length-epoch ACK epoch)
 
 -- ---- what comes back to a caller that lent `&mut s[at..]`
 module _ (fits : Bool) (bs s : List ℕ) (at : ℕ) where

@@ -6,20 +6,17 @@ use mathlib.Core.Bool.{true, false, false≢true}
 use mathlib.Core.List.{List, [], _∷_, _++_, append-nil}
 use native.Mathlib.Omega.{arith}
 use lib.ListN.{length, take, drop}
-use lib.Seq.{take-at}
-use Rattle.lists.specs.Part.{put}
 use Rattle.lists.proofs.TestLaws.{by-test, eq-or-ne}
-use Rattle.lists.proofs.PartLaws.{put-front}
 use Rattle.records.specs.declared.Record.{Record}
 use Rattle.records.specs.declared.Record.the-variants as record-of
 use Rattle.records.specs.declared.Reader.the-variants as reader
-use Rattle.records.specs.Kind.{unitOk, ACK, bodyLength, recordLength}
+use Rattle.records.specs.Kind.{unitOk}
 use Rattle.records.specs.Read.{readRecord, usedOf}
 use Rattle.records.specs.Write.{ackRecord}
 use Rattle.records.specs.Message.{Message, encode, encodeAll, readAs}
 use Rattle.records.specs.Message as message
-use Rattle.records.proofs.FrameLaws.{length-epoch}
 use Rattle.records.proofs.MessageLaws.{used-message, bytesOf, cursorOf, message-bytes}
+use Rattle.records.proofs.WriteLaws.{ack-written}
 use Rattle.settings.specs.declared.Settings.{Settings}
 use Rattle.settings.specs.declared.StandbySettings.{StandbySettings}
 use Rattle.rules.specs.declared.Standby.{Standby}
@@ -42,11 +39,6 @@ use Rattle.runs.proofs.Reading.{Reading, none, one, read-next}
 use Rattle.runs.proofs.ReadStaged.{stagedAfter, pageEnd, blockEnd, stateEnd, page-inv, block-inv, state-inv}
 use Rattle.runs.proofs.ReadCommit.{commitAfter, commit-inv}
 use Rattle.runs.proofs.Frame.{KeepsAccepted}
-
--- the ACK that a COMMIT writes is what the reply then begins with
-ack-written : (u epoch : ℕ) (reply : List ℕ) → take (recordLength u ACK) (put reply 0 (ackRecord epoch)) ≡ ackRecord epoch
-unfolding recordLength bodyLength
-ack-written u epoch reply = ap (take 8) (put-front reply (ackRecord epoch)) ∙ take-at (ackRecord epoch) (drop (length (ackRecord epoch)) reply) 8 (length-epoch ACK epoch)
 
 module _ (g : Settings) (b : Both) (i : Inv g b) (n : ℕ) (reply : List ℕ) where
   abbrev u : ℕ

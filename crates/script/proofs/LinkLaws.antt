@@ -14,9 +14,9 @@ use Rattle.lists.proofs.PartLaws.{length-part, part-zero, put-front, take-remov
 use Rattle.lists.proofs.TestLaws.{and-false, eq-or-ne, lt-or-ge, cond-true, pick-refused}
 use Rattle.records.specs.declared.Record.{Record}
 use Rattle.records.specs.declared.Record.the-variants.{Page, Block, State, Commit, Ack, Short, Refused}
-use Rattle.records.specs.Kind.{ACK, COMMIT, bodyLength, recordLength}
+use Rattle.records.specs.Kind.{COMMIT, bodyLength, recordLength}
 use Rattle.records.specs.Write.{ackRecord}
-use Rattle.records.proofs.FrameLaws.{length-epoch}
+use Rattle.records.proofs.WriteLaws.{ack-written}
 use Rattle.rules.specs.declared.Primary.{Primary}
 use Rattle.rules.specs.declared.PrimaryReply.{PrimaryReply}
 use Rattle.rules.specs.declared.Standby.{Standby}
@@ -164,10 +164,6 @@ module _ (s : Standby) (l : ReadLent) (bytes : List ℕ) where
   abbrev AcksAfter : ℕ → List ℕ → Record → Type 0
   AcksAfter unread reply r = acksBetween (unreadAfter unread (readBy r)) (readState s bytes r .received) ≡ acksBetween unread (s .received) ++ ackWritten (readBy r) (replyAfter reply r)
 
-  written : (u epoch : ℕ) (reply : List ℕ) → take (recordLength u ACK) (put reply 0 (ackRecord epoch)) ≡ ackRecord epoch
-  unfolding recordLength bodyLength
-  written u epoch reply = ap (take 8) (put-front reply (ackRecord epoch)) ∙ take-at (ackRecord epoch) (drop (length (ackRecord epoch)) reply) 8 (length-epoch ACK epoch)
-
   -- an accepted COMMIT adds the ACK of the next epoch; nothing else adds one
   pub acks-after : (unread : ℕ) (reply : List ℕ)
       → acksBetween (unreadAfter unread (readReply s l bytes)) (readReply s l bytes .state .received)
@@ -179,7 +175,7 @@ module _ (s : Standby) (l : ReadLent) (bytes : List ℕ) where
       go (Page e p c) f = sym (append-nil _)
       go (Block e n c) f = sym (append-nil _)
       go (State e c) f = sym (append-nil _)
-      go (Commit e p b c) f = rw (written (s .settings .u) e reply, f .tests .epoch-next) (acks-next unread (s .received))
+      go (Commit e p b c) f = rw (ack-written (s .settings .u) e reply, f .tests .epoch-next) (acks-next unread (s .received))
       go (Ack e c) f = absurd f
       go Short f = sym (append-nil _)
       go (Refused n) f = rw (and-false (eqb n 0)) (sym (append-nil _))
