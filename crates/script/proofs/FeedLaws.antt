@@ -8,56 +8,27 @@ use lib.ListN.{length}
 use borrow.Author.Tests.{eqb-true, ne-eqb}
 use native.Mathlib.Omega.{arith}
 use Rattle.text.specs.declared.Line.{Line}
-use Rattle.text.specs.Line.{split, withFirst, dropEmptyLast, linesOf, newline}
+use Rattle.text.specs.Line.{split, dropEmptyLast, linesOf, newline}
 use Rattle.text.specs.Kept.{noLine, lineWith, lineWithAll}
 use Rattle.rules.specs.World.{World}
 use Rattle.script.specs.Command.{commandOf, letterOf}
 use Rattle.script.specs.Pair.{perform, pairStart}
 use Rattle.script.specs.Output.{printed, printedAll, outputOf}
+use Rattle.text.proofs.SplitLaws.{joined, joined-byte, split-separator, split-other, parts, joined-none}
 use Rattle.text.proofs.KeptLaws.{empty-line}
 use Rattle.script.proofs.CommandLaws.{command-of-line}
 use Rattle.script.specs.Feed.{reading, firstReading, linePrinted, fed, fedPrinted, fedAll, fedAllPrinted, endPrinted}
-
--- splitting gives one part at least
-record Parts (l : List ℕ) : Type 0 where
-  head : List ℕ
-  rest : List (List ℕ)
-  is : split newline l ≡ head ∷ rest
-
-parts-with : (b : ℕ) (bs : List ℕ) (t : Bool) → eqb b newline ≡ t → Parts bs → Parts (b ∷ bs)
-unfolding split
-parts-with b bs true e p = record { head = []; rest = split newline bs; is = rw e }
-parts-with b bs false e p = record { head = b ∷ p .head; rest = p .rest; is = rw (e, p .is) }
-
-parts : (l : List ℕ) → Parts l
-unfolding split
-parts [] = record { head = []; rest = []; is = refl }
-parts (b ∷ bs) = parts-with b bs (eqb b newline) refl (parts bs)
-
--- the parts with these bytes in front of the first
-abbrev joined : List ℕ → List (List ℕ) → List (List ℕ)
-joined part [] = part ∷ []
-joined part (p ∷ ps) = (part ++ p) ∷ ps
 
 -- what follows bytes without a newline goes on with their line
 abbrev Unended : List ℕ → Type 0
 Unended part = (rest : List ℕ) → split newline (part ++ rest) ≡ joined part (split newline rest)
 
 unended-none : Unended []
-unended-none rest = let p = parts rest in rw (p .is)
-
-split-newline : (rest : List ℕ) → split newline (newline ∷ rest) ≡ [] ∷ split newline rest
-unfolding split
-split-newline rest = refl
-
-split-other : (b : ℕ) (rest : List ℕ) → eqb b newline ≡ false → split newline (b ∷ rest) ≡ withFirst b (split newline rest)
-unfolding split
-split-other b rest e = rw e
+unended-none rest = sym (joined-none newline rest)
 
 unended-one : (part : List ℕ) (b : ℕ) → eqb b newline ≡ false → Unended part → Unended (part ++ b ∷ [])
 unended-one part b e u rest =
-    let p = parts rest in
-    rw (append-assoc part (b ∷ []) rest, u (b ∷ rest), split-other b rest e, p .is, append-assoc part (b ∷ []) (p .head))
+    rw (append-assoc part (b ∷ []) rest, u (b ∷ rest), split-other newline b rest e) (joined-byte part b (split newline rest))
 
 -- a part with another behind it is no last one
 drop-not-last : (part : List ℕ) (ps : List (List ℕ)) (q : List ℕ) (qs : List (List ℕ)) → ps ≡ q ∷ qs → dropEmptyLast (part ∷ ps) ≡ part ∷ dropEmptyLast ps
@@ -65,7 +36,7 @@ drop-not-last [] ps q qs e = rw e
 drop-not-last (b ∷ bs) ps q qs e = refl
 
 split-ended : (part rest : List ℕ) → Unended part → split newline (part ++ newline ∷ rest) ≡ part ∷ split newline rest
-split-ended part rest u = rw (u (newline ∷ rest), split-newline rest, append-nil part)
+split-ended part rest u = rw (u (newline ∷ rest), split-separator newline newline rest refl, append-nil part)
 
 split-last : (part : List ℕ) → Unended part → split newline part ≡ part ∷ []
 unfolding split
@@ -76,7 +47,7 @@ split-last part u =
 -- the lines of a line with its newline and what follows
 lines-newline : (part rest : List ℕ) → Unended part → linesOf (part ++ newline ∷ rest) ≡ part ∷ linesOf rest
 lines-newline part rest u =
-    let p = parts rest in
+    let p = parts newline rest in
     ap dropEmptyLast (split-ended part rest u) ∙ drop-not-last part (split newline rest) (p .head) (p .rest) (p .is)
 
 -- the lines of a last one without its newline

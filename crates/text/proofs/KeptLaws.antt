@@ -1,7 +1,7 @@
 -- Laws of what is kept of a line: it is what the line's words give. Assumes nothing.
 use mathlib.Core.Path.{_≡_, refl, sym, ap, _∙_}
 use mathlib.Core.Logic.{⊎-elim}
-use mathlib.Core.Bool.{Bool, true, false, cond}
+use mathlib.Core.Bool.{true, false, cond}
 use mathlib.Core.List.{List, [], _∷_, _++_, append-nil}
 use Prim.Native.Nat.{ℕ, suc, _+_, _≤_, _<_, min}
 use native.Mathlib.Omega.{arith}
@@ -14,6 +14,7 @@ use Rattle.text.specs.Line.{space, split, wordsOf}
 use Rattle.text.specs.Line as line
 use Rattle.text.specs.Kept.{noLine, nextWord, lineWith, lineWithAll, isEmptyLine}
 use Rattle.text.specs.declared.Line.{Line}
+use Rattle.text.proofs.SplitLaws.{joined, joined-byte, split-separator, split-other, parts, joined-none}
 use Rattle.text.proofs.NumberLaws.{kept, numberWithAll, number-with-last}
 
 -- ---- a byte at a time
@@ -68,39 +69,7 @@ kept-byte (a ∷ []) w b e = rw (e, number-with-last _ w b)
 kept-byte (a ∷ c ∷ []) w b e = rw (e, number-with-last _ w b)
 kept-byte (a ∷ c ∷ d ∷ ws) w b e = rw (e, four ws w, four ws (w ++ (b ∷ [])))
 
--- ---- how the words of a line grow
-module _ (b : ℕ) (bytes : List ℕ) where
-  pub split-space : eqb b space ≡ true → split space (b ∷ bytes) ≡ [] ∷ split space bytes
-  unfolding split
-  split-space e = rw e
-
-  pub split-byte : eqb b space ≡ false → split space (b ∷ bytes) ≡ line.withFirst b (split space bytes)
-  unfolding split
-  split-byte e = rw e
-
--- w in front of the first part
-abbrev joined : List ℕ → List (List ℕ) → List (List ℕ)
-joined w [] = w ∷ []
-joined w (p ∷ ps) = (w ++ p) ∷ ps
-
-joined-byte : (w : List ℕ) (b : ℕ) (ps : List (List ℕ)) → joined w (line.withFirst b ps) ≡ joined (w ++ (b ∷ [])) ps
-joined-byte w b [] = refl
-joined-byte w b (p ∷ ps) = rw append-snoc
-
--- a line has a word: nothing in front of it changes nothing
-joined-none : (bytes : List ℕ) → joined [] (split space bytes) ≡ split space bytes
-unfolding split
-joined-none [] = refl
-joined-none (b ∷ bytes) = go (eqb b space) (split space bytes)
-  where
-    first : (ps : List (List ℕ)) → joined [] (line.withFirst b ps) ≡ line.withFirst b ps
-    first [] = refl
-    first (p ∷ ps) = refl
-
-    go : (t : Bool) (ps : List (List ℕ)) → joined [] (cond t ([] ∷ ps) (line.withFirst b ps)) ≡ cond t ([] ∷ ps) (line.withFirst b ps)
-    go true ps = refl
-    go false ps = first ps
-
+-- ---- all the bytes of a line
 with-space : (l : Line) (b : ℕ) → eqb b space ≡ true → lineWith l b ≡ nextWord l
 unfolding lineWith
 with-space l b e = rw e
@@ -117,11 +86,11 @@ kept-all (b ∷ bytes) ws w =
     ⊎-elim (λ e.
     ap (λ (l : Line). lineWithAll l bytes) (with-space (keptOf (ws ++ (w ∷ []))) b e ∙ kept-space ws w)
     ∙ kept-all bytes (ws ++ (w ∷ [])) []
-    ∙ rw (split-space b bytes e, joined-none bytes, append-nil w, append-snoc))
+    ∙ rw (split-separator space b bytes e, joined-none space bytes, append-nil w, append-snoc))
     (λ e.
     ap (λ (l : Line). lineWithAll l bytes) (kept-byte ws w b e)
     ∙ kept-all bytes ws (w ++ (b ∷ []))
-    ∙ rw (split-byte b bytes e, joined-byte w b (split space bytes))) (by-test (eqb b space))
+    ∙ rw (split-other space b bytes e, joined-byte w b (split space bytes))) (by-test (eqb b space))
 
 kept-none : noLine ≡ keptOf ([] ∷ [])
 unfolding keptOf numberWithAll
@@ -129,21 +98,11 @@ kept-none = refl
 
 -- what is kept of a whole line
 pub kept-line : (bytes : List ℕ) → lineWithAll noLine bytes ≡ keptOf (wordsOf bytes)
-kept-line bytes = ap (λ (l : Line). lineWithAll l bytes) kept-none ∙ kept-all bytes [] [] ∙ ap keptOf (joined-none bytes)
+kept-line bytes = ap (λ (l : Line). lineWithAll l bytes) kept-none ∙ kept-all bytes [] [] ∙ ap keptOf (joined-none space bytes)
 
 -- ---- the empty line
 some-word : (bytes : List ℕ) → 1 ≤ length (split space bytes)
-unfolding split
-some-word [] = omega arith
-some-word (b ∷ bytes) = go (eqb b space) (split space bytes)
-  where
-    first : (ps : List (List ℕ)) → 1 ≤ length (line.withFirst b ps)
-    first [] = omega arith
-    first (p ∷ ps) = omega arith
-
-    go : (t : Bool) (ps : List (List ℕ)) → 1 ≤ length (cond t ([] ∷ ps) (line.withFirst b ps))
-    go true ps = omega arith
-    go false ps = first ps
+some-word bytes = rw (parts space bytes .is) (omega arith)
 
 -- neither a line that begins with a space nor one that begins with another byte is empty
 two-words : (ws : List (List ℕ)) → 1 ≤ length ws → isEmptyLine (keptOf ([] ∷ ws)) ≡ false
@@ -161,6 +120,6 @@ unfolding lineWithAll
 empty-line [] = refl
 empty-line (b ∷ bytes) =
     ap isEmptyLine (kept-line (b ∷ bytes))
-    ∙ ⊎-elim (λ e. ap (λ (ws : List (List ℕ)). isEmptyLine (keptOf ws)) (split-space b bytes e) ∙ two-words (split space bytes) (some-word bytes))
-    (λ e. ap (λ (ws : List (List ℕ)). isEmptyLine (keptOf ws)) (split-byte b bytes e) ∙ one-letter b (split space bytes)) (by-test (eqb b space))
+    ∙ ⊎-elim (λ e. ap (λ (ws : List (List ℕ)). isEmptyLine (keptOf ws)) (split-separator space b bytes e) ∙ two-words (split space bytes) (some-word bytes))
+    (λ e. ap (λ (ws : List (List ℕ)). isEmptyLine (keptOf ws)) (split-other space b bytes e) ∙ one-letter b (split space bytes)) (by-test (eqb b space))
     ∙ sym (eqb·suc-zero (length bytes))

@@ -1,5 +1,6 @@
 -- The laws of this crate's definitions, for its own proofs and for the crates above.
 pub mod LineLaws
+pub mod SplitLaws
 pub mod DecimalLaws
 pub mod NumberLaws
 pub mod KeptLaws
