@@ -48,6 +48,10 @@ module _ {A : Type 0} where
   unfolding put
   put-front s bs = rw zero-add
 
+  -- what is put at the head is what the list then begins with
+  pub take-put-front : (s bs : List A) (n : ℕ) → length bs ≡ n → take n (put s 0 bs) ≡ bs
+  take-put-front s bs n e = ap (take n) (put-front s bs) ∙ take-at bs (drop (length bs) s) n e
+
   -- all of a list replaced
   pub put-whole : (s bs : List A) → length bs ≡ length s → put s 0 bs ≡ bs
   put-whole s bs h =

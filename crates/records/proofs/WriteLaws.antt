@@ -5,14 +5,13 @@ use mathlib.Core.List.{List, [], _++_, append-assoc, append-nil}
 use Prim.Native.Nat.{ℕ, _+_, _-_, _^_, _≤_, _<_}
 use native.Mathlib.Omega.{arith}
 use lib.Dec.{leb}
-use lib.ListN.{length, take, drop, length-append, length-take, length-drop}
-use lib.Seq.{take-at}
+use lib.ListN.{length, take, length-append, length-take, length-drop}
 use borrow.Author.Tests.{leb-true, le-leb, ltb-true, lt-ltb}
 use borrow.Rule.Slice.PartMut.{putMid, midOf}
 use Rattle.lists.specs.Part.{put, PutDone}
 use Rattle.lists.specs.LittleEndian.{leBytes}
 use Rattle.lists.proofs.TestLaws.{both, join, refuted, cond-true}
-use Rattle.lists.proofs.PartLaws.{put-front, put-next, part-back-front}
+use Rattle.lists.proofs.PartLaws.{take-put-front, put-next, part-back-front}
 use Rattle.lists.proofs.LittleEndianLaws.{length-leBytes}
 use Rattle.records.specs.Kind.{ACK, bodyLength, recordLength}
 use Rattle.records.specs.Write.{frame, epochRecord, ackRecord, fitsTwo, hasRoom, Written}
@@ -98,7 +97,7 @@ module _ {fits : Bool} {bs before after : List ℕ} {r : ℕ} where
 -- what a COMMIT writes at the head of its reply: the bytes of an ACK's length there are the ACK
 pub ack-written : (u epoch : ℕ) (reply : List ℕ) → take (recordLength u ACK) (put reply 0 (ackRecord epoch)) ≡ ackRecord epoch
 unfolding recordLength bodyLength
-ack-written u epoch reply = ap (take 8) (put-front reply (ackRecord epoch)) ∙ take-at (ackRecord epoch) (drop (length (ackRecord epoch)) reply) 8 (length-epoch ACK epoch)
+ack-written u epoch reply = take-put-front reply (ackRecord epoch) 8 (length-epoch ACK epoch)
 
 -- ---- what comes back to a caller that lent `&mut s[at..]`
 module _ (fits : Bool) (bs s : List ℕ) (at : ℕ) where

@@ -7,10 +7,10 @@ use mathlib.Core.List.{List, _++_, append-nil}
 use native.Mathlib.Omega.{arith}
 use lib.Dec.{eqb}
 use lib.ListN.{length, take, drop, replicate, length-take, length-replicate}
-use lib.Seq.{length-take-le, take-at, take-all, take-length}
+use lib.Seq.{length-take-le, take-all, take-length}
 use borrow.Author.Tests.{eq-eqb, ne-eqb}
 use Rattle.lists.specs.Part.{part, put, removed}
-use Rattle.lists.proofs.PartLaws.{length-part, part-zero, put-front, take-removed}
+use Rattle.lists.proofs.PartLaws.{length-part, part-zero, take-put-front, take-removed}
 use Rattle.lists.proofs.TestLaws.{and-false, eq-or-ne, lt-or-ge, cond-true, pick-refused}
 use Rattle.records.specs.declared.Record.{Record}
 use Rattle.records.specs.declared.Record.the-variants.{Page, Block, State, Commit, Ack, Short, Refused}
@@ -49,9 +49,7 @@ module _ (p : Primary) (stream : List ℕ) (n : ℕ) where
 
   -- what reaches the link
   given : (destination : List ℕ) (c : ℕ) → c ≤ length stream → take c (put destination 0 (take c stream)) ≡ take c stream
-  given destination c h =
-      ap (take c) (put-front destination (take c stream))
-      ∙ take-at (take c stream) (drop (length (take c stream)) destination) c (length-take-le c stream h)
+  given destination c h = take-put-front destination (take c stream) c (length-take-le c stream h)
 
   module _ (room : ℕ) (h : length stream ≤ room) where
     pub drain-reply-same : drainReply p (length stream) n room ≡ drainReply p (length stream) n n
