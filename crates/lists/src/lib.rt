@@ -1,4 +1,6 @@
-// Copies and moves inside lent slices, and a part of one: the loops that every layer above rests on.
+// Copies and moves inside lent slices, and a part of one: the loops that every layer above rests on. Numbers in bytes are in `field`.
+pub mod field;
+
 ghost use mathlib.Core.Path.{_≡_};
 ghost use Prim.Native.Nat.{_+_, _≤_};
 ghost use lib.ListN.{length};

@@ -3,8 +3,8 @@ ghost use mathlib.Core.Path.{_≡_};
 ghost use Rattle.records.specs.Area.{allZero, areaOf};
 use crate::ACTIVATION;
 use crate::Area;
-use crate::field::get2;
-use crate::field::get4;
+use lists::field::get2;
+use lists::field::get4;
 
 // Whether each byte is 0.
 fn all_zero(s: &[u8]) -> bool

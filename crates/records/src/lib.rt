@@ -1,6 +1,5 @@
 // The records of the stream: reading one, writing each kind, and the record area.
 pub mod disk_area;
-mod field;
 pub mod reading;
 pub mod writing;
 

@@ -13,8 +13,8 @@ use crate::Cursor;
 use crate::PAGE;
 use crate::Reader;
 use crate::Record;
-use crate::field::get2;
-use crate::field::get4;
+use lists::field::get2;
+use lists::field::get4;
 
 // Whether U is in its range.
 pub fn unit_ok(u: usize) -> bool

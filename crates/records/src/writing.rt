@@ -14,8 +14,8 @@ use crate::BLOCK;
 use crate::COMMIT;
 use crate::PAGE;
 use crate::STATE;
-use crate::field::bytes2;
-use crate::field::bytes4;
+use lists::field::bytes2;
+use lists::field::bytes4;
 
 // The head that every record has: the length of its body, its kind and its epoch.
 fn put_head(out: &mut [u8], n: u32, kind: u32, epoch: u32)

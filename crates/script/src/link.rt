@@ -3,7 +3,7 @@ ghost use mathlib.Core.Path.{_≡_};
 ghost use mathlib.Core.Bool.{false, cond, _&&_};
 ghost use Prim.Native.Nat.{_+_, _<_, _≤_, _^_, min};
 ghost use lib.Dec.{eqb};
-ghost use lib.ListN.{getD, length, replicate};
+ghost use lib.ListN.{length, replicate};
 ghost use Rattle.lists.specs.LittleEndian.{leAt};
 ghost use Rattle.records.specs.Kind.{COMMIT, headerLength};
 ghost use Rattle.records.specs.Write.{ackRecord};
@@ -75,20 +75,12 @@ fn answered(s: Site, a: Answer) -> Performed
     }
 }
 
-// The byte at a place.
-fn byte(s: &[u8], at: usize) -> usize
-    requires { ⌜ at < length (now s) ⌝ }
-    ensures { λ r. ⌜ (r ≡ getD (now (s .entry)) at 0) × (r < 256) ⌝ }
-{
-    s[at] as usize
-}
-
 // The length of the record at the head of the stream.
 fn first_length(stream: &[u8]) -> usize
     requires { ⌜ 2 ≤ length (now stream) ⌝ }
     ensures { λ r. ⌜ r ≡ headerLength + leAt 2 (now (stream .entry)) 0 ⌝ }
 {
-    4 + (byte(stream, 0) + 256 * byte(stream, 1))
+    4 + lists::field::get2(stream, 0) as usize
 }
 
 // The link, with a record drained into it where it is empty.

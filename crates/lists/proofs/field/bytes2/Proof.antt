@@ -1,8 +1,8 @@
 use borrow.Author.Needs.{needs}
-use Rattle.records.proofs.field.bytes2.Statement.{statement}
-use Rattle.records.proofs.field.bytes2.Tie as tie
+use Rattle.lists.proofs.field.bytes2.Statement.{statement}
+use Rattle.lists.proofs.field.bytes2.Tie as tie
 use mathlib.Core.Path.{refl}
 use Rattle.lists.specs.LittleEndian.{leBytes}
 
 cast-t4 : tie.Need-cast-t4
 cast-t4 c = search needs

@@ -1,8 +1,8 @@
 use borrow.Author.Needs.{needs}
-use Rattle.records.proofs.field.bytes4.Statement.{statement}
-use Rattle.records.proofs.field.bytes4.Tie as tie
+use Rattle.lists.proofs.field.bytes4.Statement.{statement}
+use Rattle.lists.proofs.field.bytes4.Tie as tie
 use mathlib.Core.Path.{refl}
 use Rattle.lists.specs.LittleEndian.{leBytes}
 
 cast-t6 : tie.Need-cast-t6
 cast-t6 c = search needs

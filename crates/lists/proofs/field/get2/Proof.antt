@@ -1,9 +1,9 @@
 use native.Mathlib.Omega.{arith}
 use Rattle.lists.specs.LittleEndian.{leAt}
 use native.Mathlib.Numerals.{towards-numerals}
 use borrow.Author.Needs.{needs}
-use Rattle.records.proofs.field.get2.Statement.{statement}
-use Rattle.records.proofs.field.get2.Tie as tie
+use Rattle.lists.proofs.field.get2.Statement.{statement}
+use Rattle.lists.proofs.field.get2.Tie as tie
 
 byte-requires : tie.Need-byte-requires
 byte-requires c κs = search needs

@@ -1,8 +1,8 @@
 use mathlib.Core.Path.{refl}
 use native.Mathlib.Omega.{arith}
 use borrow.Author.Needs.{needs}
-use Rattle.records.proofs.field.byte.Statement.{statement}
-use Rattle.records.proofs.field.byte.Tie as tie
+use Rattle.lists.proofs.field.byte.Statement.{statement}
+use Rattle.lists.proofs.field.byte.Tie as tie
 
 shared-slice-read-result : tie.Need-shared-slice-read-result
 shared-slice-read-result c = search needs
