@@ -34,7 +34,12 @@ pub fn copy_front(dst: &mut [u8], src: &[u8])
     ensures { λ _. ⌜ now (dst .exit) ≡ put (now (dst .entry)) 0 (now (src .entry)) ⌝ }
 {
     let n = src.len();
-    // a block move is a call, which pays from here on
+    // the least page, and a processor state: of a length that it knows the compiler makes a few moves, and no loop
+    if n == 64 {
+        copy_chunk(dst, src, 0, 64);
+        return;
+    }
+    // a block move of another length is a call, which pays from here on
     if n < 1024 {
         copy_bytes(dst, src);
         return;
