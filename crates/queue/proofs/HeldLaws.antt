@@ -6,9 +6,9 @@ use Prim.Native.Nat.{ℕ, _+_, _-_, _≤_, _<_}
 use native.Mathlib.Nat.{zero-add}
 use native.Mathlib.Omega.{arith}
 use lib.ListN.{length, take, drop}
-use lib.Seq.{length-take-le, take-take, drop-drop, take-at}
+use lib.Seq.{length-take-le, take-take, drop-drop}
 use Rattle.lists.specs.Part.{part, put, removed}
-use Rattle.lists.proofs.PartLaws.{drop-take, length-put, length-removed, put-front, take-put, part-put, part-removed}
+use Rattle.lists.proofs.PartLaws.{drop-take, length-put, length-removed, take-put, take-put-front, part-put, part-removed}
 use Rattle.settings.specs.Range.{mostPackets}
 use Rattle.queue.specs.declared.Packet.{Packet}
 use Rattle.queue.specs.declared.Queue.{Queue}
@@ -74,9 +74,7 @@ module _ (k : Queue) (array : length (k .packets) ≡ mostPackets) (epoch q : �
 
     -- what stands at the head of the destination
     pub handed-out : (destination : List ℕ) → take (oldest k .length) (put destination 0 (oldestBytes k held)) ≡ oldestBytes k held
-    handed-out destination =
-        let n = oldestBytes k held in
-        ap (take (oldest k .length)) (put-front destination n) ∙ take-at n (drop (length n) destination) (oldest k .length) length-oldest-bytes
+    handed-out destination = take-put-front destination (oldestBytes k held) (oldest k .length) length-oldest-bytes
 
     pub length-without-oldest-bytes : length (withoutOldestBytes k held) ≡ length held
     unfolding withoutOldestBytes

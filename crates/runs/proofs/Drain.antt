@@ -4,10 +4,10 @@ use mathlib.Core.Path.{_≡_, sym, ap, ap₂, _∙_, subst}
 use mathlib.Core.List.{List, _++_, append-assoc}
 use native.Mathlib.Omega.{arith}
 use lib.ListN.{length, take, drop, take-append-drop}
-use lib.Seq.{length-take-le, take-at, take-take}
+use lib.Seq.{length-take-le, take-take}
 use borrow.Author.Tests.{eq-eqb}
 use Rattle.lists.specs.Part.{put, removed}
-use Rattle.lists.proofs.PartLaws.{put-front, length-removed, take-removed}
+use Rattle.lists.proofs.PartLaws.{take-put-front, length-removed, take-removed}
 use Rattle.settings.specs.declared.Settings.{Settings}
 use Rattle.rules.specs.PrimaryState.{withWaiting}
 use Rattle.rules.specs.Stream.{drainCount, drainReply, drainStream, drainDestination}
@@ -70,8 +70,7 @@ module _ (n : ℕ) (destination : List ℕ) where
         let s = b .world .primary .stream in
         let c = countOf b in
         let l : length (take c s) ≡ c = length-take-le c s (omega (arith, waits)) in
-        ap (take c) (put-front destination (take c s))
-        ∙ take-at (take c s) (drop (length (take c s)) destination) c l
+        take-put-front destination (take c s) c l
         ∙ sym (take-take c (b .world .primary .state .waiting) s (omega arith))
 
     after-inv : Inv g (after b)
