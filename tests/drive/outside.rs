@@ -42,7 +42,7 @@ pub fn push_primary(r: &Random, p: &mut Primary, clause: u64) -> bool {
         8 => p.t = r.pick(&[60_001, 65_536]),
         9 => return push_packets(r, p),
         10 => return push_packet_length(r, p, 0),
-        11 => return push_packet_length(r, p, r.pick(&[1_515, 1_515, 1_516, 65_536, 1 << 32])),
+        11 => return push_packet_length(r, p, r.pick(&[1_515, 1_515, 1_516, 65_536, u32::MAX as u64])),
         12 => p.held = outside(r, p.held, &[p.held + 1, p.held + 1, p.held + 256]),
         13 if p.held > 0 => p.held -= 1,
         14 if p.held > 0 => p.q = p.held - 1,

@@ -72,7 +72,7 @@ fn some_count(r: &Random, t: u64, counting: bool) -> u64 {
 fn fill_queue(r: &Random, p: &mut Primary) {
     if r.percent(50) {
         for packet in p.queue.iter_mut() {
-            *packet = Packet { epoch: epoch(r), length: r.pick(&[r.below(2_000), r.below(2_000), r.next()]) };
+            *packet = Packet { epoch: epoch(r), length: r.pick(&[r.below(2_000), r.below(2_000), r.below(1 << 32)]) };
         }
     }
     let wanted = r.pick(&[0, 1, 1, 2, 3, r.range(0, 64), 63, 64]);

@@ -50,7 +50,7 @@ fn packets_of(count: usize, size: usize) -> [Packet; 64] {
         }
         packets[i] = Packet {
             epoch: 1,
-            length: size,
+            length: (size % 4294967296) as u32,
         };
         i += 1;
     }

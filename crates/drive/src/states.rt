@@ -40,7 +40,7 @@ fn detector_of(patience: u64, count: u64) -> Detector {
 
 fn read_packet(input: &mut Buffer, place: &mut [usize; 3]) -> Packet {
     let epoch = low(input::number(input, place));
-    let length = input::number(input, place) as usize;
+    let length = low(input::number(input, place));
     Packet {
         epoch: epoch,
         length: length,

@@ -1,10 +1,16 @@
 // Packets: held with the open epoch, and handed out once their epoch is acknowledged.
+// Both calls look at the packets, and change them, in one array of their own, which goes into the reply whether the call is accepted or not: so the compiler makes one array of those
+// of several calls, where a queue that is handed on by value is a copy each time.
 ghost use mathlib.Core.Path.{_≡_};
 ghost use lib.ListN.{length};
+ghost use Rattle.queue.specs.Held.{queueOk, oldest};
+ghost use Rattle.queue.specs.Seen.{seenOk};
 ghost use Rattle.rules.specs.PrimaryState.{withQueue};
 ghost use Rattle.rules.specs.Packets.{packetRefusal, packetReply, packetHeld, takeRefusal, takeReply, takeHeld, takeDestination};
 use crate::ranges::numbers_ok;
+use queue::Packet;
 use queue::Queue;
+use queue::Seen;
 use rules::Primary;
 use rules::PrimaryReply;
 
@@ -16,8 +22,9 @@ fn with_queue(p: Primary, queue: Queue) -> Primary
     next
 }
 
-// What a packet of n bytes is refused with: 1 4 16.
-fn packet_refusal(p: Primary, held: usize, n: usize) -> u64
+// What a packet of n bytes is refused with, by what was seen of those held: 1 4 16.
+fn packet_refusal(p: Primary, seen: Seen, held: usize, n: usize) -> u64
+    requires { ⌜ seenOk seen (p .queue .count) (p .queue .bytes) (p .epoch) (p .settings .q) ≡ queueOk (p .queue) (p .epoch) (p .settings .q) ⌝ }
     ensures { λ r. ⌜ r ≡ packetRefusal p held n ⌝ }
 {
     let g = p.settings;
@@ -28,7 +35,7 @@ fn packet_refusal(p: Primary, held: usize, n: usize) -> u64
     if !numbers_ok(g, d, epoch, p.acknowledged, p.alone, p.blocks, p.waiting) {
         return 1;
     }
-    if !queue::queue_ok(k, epoch, q) {
+    if !queue::seen_ok(seen, k.count, k.bytes, epoch, q) {
         return 1;
     }
     if held != q {
@@ -53,28 +60,52 @@ pub fn packet(p: Primary, held: &mut [u8], bytes: &[u8]) -> PrimaryReply
 {
     let k = p.queue;
     let epoch = p.epoch;
-    let count = k.count;
     let n = bytes.len();
-    let number = packet_refusal(p, held.len(), n);
-    if number != 0 {
-        return PrimaryReply {
-            state: p,
-            number: number,
-            value: 0,
-        };
+    let mut packets = k.packets;
+    let mut count = k.count;
+    let mut total = k.bytes;
+    let looked = queue::looked_at(count);
+    let mut seen = queue::none_seen();
+    let mut i = 0;
+    while i < looked {
+        seen = queue::seen_with(seen, packets[i].epoch, packets[i].length);
+        i += 1;
     }
-    queue::add_bytes(held, k, bytes);
-    let next = queue::added(k, epoch, n);
+    let number = packet_refusal(p, seen, held.len(), n);
+    let mut value: u64 = 0;
+    if number == 0 {
+        packets[count] = Packet {
+            epoch: epoch,
+            length: n as u32,
+        };
+        lists::copy_into(held, total, bytes);
+        count += 1;
+        total += n;
+        value = count as u64;
+    }
+    let next = Queue {
+        count: count,
+        bytes: total,
+        packets: packets,
+    };
     let state = with_queue(p, next);
     PrimaryReply {
         state: state,
-        number: 0,
-        value: count as u64 + 1,
+        number: number,
+        value: value,
     }
 }
 
-// What a take into a destination of this length is refused with: 1 18 5.
-fn take_refusal(p: Primary, held: usize, destination: usize) -> u64
+// What a take into a destination of this length is refused with, by what was seen of the packets held and by the oldest: 1 18 5.
+fn take_refusal(
+    p: Primary,
+    seen: Seen,
+    first: u32,
+    n: usize,
+    held: usize,
+    destination: usize,
+) -> u64
+    requires { ⌜ (seenOk seen (p .queue .count) (p .queue .bytes) (p .epoch) (p .settings .q) ≡ queueOk (p .queue) (p .epoch) (p .settings .q)) × (first ≡ oldest (p .queue) .epoch) × (n ≡ oldest (p .queue) .length) ⌝ }
     ensures { λ r. ⌜ r ≡ takeRefusal p held destination ⌝ }
 {
     let g = p.settings;
@@ -85,13 +116,10 @@ fn take_refusal(p: Primary, held: usize, destination: usize) -> u64
     let k = p.queue;
     let q = g.q;
     let count = k.count;
-    let first = queue::oldest(k);
-    let held_with = first.epoch;
-    let n = first.length;
     if !numbers_ok(g, d, epoch, p.acknowledged, p.alone, p.blocks, p.waiting) {
         return 1;
     }
-    if !queue::queue_ok(k, epoch, q) {
+    if !queue::seen_ok(seen, count, k.bytes, epoch, q) {
         return 1;
     }
     if held != q {
@@ -101,7 +129,7 @@ fn take_refusal(p: Primary, held: usize, destination: usize) -> u64
         return 18;
     }
     if !alone {
-        if acknowledged < held_with {
+        if acknowledged < first {
             return 18;
         }
     }
@@ -111,29 +139,51 @@ fn take_refusal(p: Primary, held: usize, destination: usize) -> u64
     0
 }
 
-// Hands out the oldest packet if its epoch is acknowledged or the primary is alone.
+// Hands out the oldest packet if its epoch is acknowledged or the primary is alone: the others move to the front, and the freed entry becomes 0.
 pub fn take(p: Primary, held: &mut [u8], destination: &mut [u8]) -> PrimaryReply
     ensures { λ r. ⌜ r ≡ takeReply p (length (now (held .entry))) (length (now (destination .entry))) ⌝ }
     ensures { λ _. ⌜ now (held .exit) ≡ takeHeld p (now (held .entry)) (now (destination .entry)) ⌝ }
     ensures { λ _. ⌜ now (destination .exit) ≡ takeDestination p (now (held .entry)) (now (destination .entry)) ⌝ }
 {
     let k = p.queue;
-    let first = queue::oldest(k);
-    let n = first.length;
-    let number = take_refusal(p, held.len(), destination.len());
-    if number != 0 {
-        return PrimaryReply {
-            state: p,
-            number: number,
-            value: 0,
-        };
+    let mut packets = k.packets;
+    let mut count = k.count;
+    let mut total = k.bytes;
+    let first = packets[0].epoch;
+    let n = queue::size(packets[0].length);
+    let looked = queue::looked_at(count);
+    let mut seen = queue::none_seen();
+    let mut i = 0;
+    while i < looked {
+        seen = queue::seen_with(seen, packets[i].epoch, packets[i].length);
+        i += 1;
     }
-    queue::hand_out(held, k, destination);
-    let next = queue::without_oldest(k);
+    let number = take_refusal(p, seen, first, n, held.len(), destination.len());
+    let mut value: u64 = 0;
+    if number == 0 {
+        count -= 1;
+        let mut j = 0;
+        while j < count {
+            packets[j] = packets[j + 1];
+            j += 1;
+        }
+        packets[count] = Packet {
+            epoch: 0,
+            length: 0,
+        };
+        queue::hand_out(held, n, total, destination);
+        total -= n;
+        value = n as u64;
+    }
+    let next = Queue {
+        count: count,
+        bytes: total,
+        packets: packets,
+    };
     let state = with_queue(p, next);
     PrimaryReply {
         state: state,
-        number: 0,
-        value: n as u64,
+        number: number,
+        value: value,
     }
 }

@@ -33,8 +33,8 @@ fn detector_ok(d: Detector, watching: bool) -> bool
     true
 }
 
-// Whether all of a state but its queue is in its ranges. A call that is made often asks this and queue_ok itself, with numbers alone: the state has a kilobyte of packets, and
-// goes by value.
+// Whether all of a state but its queue is in its ranges. Packet, take and drain ask this, and test the queue, apart: this takes numbers alone, where the whole state with its
+// packets would go by value.
 pub(crate) fn numbers_ok(
     g: PrimarySettings,
     d: Detector,

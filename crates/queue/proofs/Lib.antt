@@ -1,6 +1,6 @@
 -- The laws of this crate's definitions, for its own proofs and for the crates above.
 pub mod ArrayLaws
 pub mod PacketLaws
-pub mod CheckLaws
+pub mod SeenLaws
 pub mod QueueLaws
 pub mod HeldLaws

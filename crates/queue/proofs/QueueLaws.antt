@@ -48,16 +48,6 @@ module _ (k : Queue) (epoch q : ℕ) where
   queue-tested f =
       simp (le-leb (k .count) mostPackets (f .count-high), f .lengths-ok, eq-eqb (sumLengths (heldPackets k)) (k .bytes) (f .sum-is), le-leb (k .bytes) q (f .bytes-high), f .epochs-ok)
 
--- ---- a queue without packets
-pub empty-sum : (k : Queue) → k .count ≡ 0 → sumLengths (heldPackets k) ≡ 0
-unfolding sumLengths
-empty-sum k n = rw n refl
-
-pub empty-ok : (k : Queue) (epoch q : ℕ) → k .count ≡ 0 → k .bytes ≡ 0 → queueOk k epoch q ≡ true
-unfolding lengthsOk epochsOk
-empty-ok k epoch q n b =
-    queue-tested k epoch q (record { count-high = omega arith; lengths-ok = rw n refl; sum-is = empty-sum k n ∙ sym b; bytes-high = omega arith; epochs-ok = rw n (le-leb 0 epoch (omega arith)) })
-
 -- ---- room for one packet more
 module _ (k : Queue) (q n : ℕ) where
   pub space-facts : hasSpace k q n ≡ true → (k .count < mostPackets) × (k .bytes + n ≤ q)

@@ -5,20 +5,16 @@ use native.Mathlib.Omega.{arith}
 use lib.ListN.{length}
 use denote.Ref.{now}
 use Rattle.lists.proofs.PartLaws.{length-part, part-zero}
-use Rattle.queue.specs.Held.{oldest, oldestBytes, withoutOldestBytes}
 use Rattle.queue.proofs.hand_out.Statement.{statement}
 use Rattle.queue.proofs.hand_out.Tie as tie
-
-array-copy-out-first : tie.Need-array-copy-out-first
-array-copy-out-first c = search needs
 
 part-of-requires : tie.Need-part-of-requires
 part-of-requires c κs = search needs
 
 copy-front-requires : tie.Need-copy-front-requires
 copy-front-requires c κs =
-    let a = c .before .before .before .before .before .before .before .args in
-    let n = length-part 0 (oldest (a .k) .length) (now (a .held)) (omega arith) in
+    let a = c .before .before .before .before .before .args in
+    let n = length-part 0 (a .n) (now (a .held)) (omega arith) in
     rw (c .part-of .ensures) (omega arith)
 
 remove-requires : tie.Need-remove-requires
@@ -31,20 +27,10 @@ same-length-2 : tie.Need-same-length-2
 same-length-2 c = search needs
 
 returns : tie.Need-returns
-unfolding oldestBytes withoutOldestBytes
 returns c =
-    let a = c .before .before .before .before .before .before .before .before .before .before .before .before .before .before .args in
-    let e = c .before .before .before .before .before .before .before .part-of .ensures ∙ part-zero (oldest (a .k) .length) (now (a .held)) in
+    let a = c .before .before .before .before .before .before .before .before .before .before .before .before .args in
+    let e = c .before .before .before .before .before .before .before .part-of .ensures ∙ part-zero (a .n) (now (a .held)) in
     (rw e at (c .before .before .before .before .before .before .copy-front .ensures), c .before .before .remove .ensures)
 
 pub hand-out-spec : {M : Type 1} → statement M
-hand-out-spec =
-    tie.close
-    (tie.spec
-    array-copy-out-first
-    part-of-requires
-    copy-front-requires
-    remove-requires
-    same-length
-    same-length-2
-    returns)
+hand-out-spec = tie.close (tie.spec part-of-requires copy-front-requires remove-requires same-length same-length-2 returns)

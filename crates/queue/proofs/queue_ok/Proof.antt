@@ -1,22 +1,20 @@
--- `queue::queue_ok` meets its contract. The loop's invariant: what the tests say of all the packets they say of those left. Assumes nothing.
+-- `queue::queue_ok` meets its contract. The loop's invariant: what was seen is what the packets passed give. Assumes nothing.
 use borrow.Author.Needs.{needs}
 use native.Mathlib.Omega.{arith}
 use mathlib.Core.Path.{_≡_, sym, _∙_}
-use Prim.Native.Nat.{_-_}
 use mathlib.Core.List.{map}
+use Prim.Native.Nat.{_-_}
 use lib.ListN.{length, length-map}
 use Rattle.queue.proofs.Packet.{the-type}
-use Rattle.lists.proofs.TestLaws.{refuted}
-use Rattle.queue.proofs.CheckLaws.{Left, left-all, left-length, left-epoch, left-next, left-lengths, left-top, left-rising, left-sum}
-use Rattle.queue.proofs.QueueLaws.{queue-tests, queue-tested, empty-sum, empty-ok}
+use Rattle.queue.proofs.SeenLaws.{Looked, looked-none, looked-next, looked-all}
 use Rattle.queue.proofs.queue_ok.Statement.{statement}
 use Rattle.queue.proofs.queue_ok.Tie as tie
 
 abbrev Inv-loop : tie.InvT-loop
-Inv-loop epoch q n bytes packets low₀ sum₀ i₀ low sum i = Left n epoch packets low sum i
+Inv-loop epoch q count bytes packets looked seen₀ i₀ seen i = Looked looked packets seen i
 
 abbrev μ-loop : tie.MeasureT-loop
-μ-loop epoch q n bytes packets low₀ sum₀ i₀ low sum i = n - i
+μ-loop epoch q count bytes packets looked seen₀ i₀ seen i = looked - i
 
 -- the array's length, which the type gives
 array : (c : tie.Start Inv-loop μ-loop) → length (c .args .k .packets) ≡ 64
@@ -24,50 +22,29 @@ array c =
     let m : length (map (the-type .to) (c .args .k .packets)) ≡ 64 = search needs in
     sym (length-map (c .args .k .packets) (the-type .to)) ∙ m
 
-returns : tie.Need-returns Inv-loop μ-loop
-returns c = refuted _ (λ e. let f = queue-tests _ _ _ e in omega arith)
+looked-at-requires : tie.Need-looked-at-requires Inv-loop μ-loop
+looked-at-requires c κs = search needs
 
-returns-2 : tie.Need-returns-2 Inv-loop μ-loop
-returns-2 c = refuted _ (λ e. let f = queue-tests _ _ _ e in omega arith)
-
-returns-3 : tie.Need-returns-3 Inv-loop μ-loop
-returns-3 c =
-    let k = c .before .before .before .before .args .k in
-    let x = empty-sum k (omega arith) in
-    refuted _ (λ e. let f = queue-tests _ _ _ e in omega (arith, f .sum-is))
-
-returns-4 : tie.Need-returns-4 Inv-loop μ-loop
-returns-4 c = sym (empty-ok _ _ _ (omega arith) (omega arith))
+none-seen-requires : tie.Need-none-seen-requires Inv-loop μ-loop
+none-seen-requires c κs = search needs
 
 loop-holds : tie.Need-loop-holds Inv-loop μ-loop
-loop-holds c = left-all _ _ _
+loop-holds c = looked-none _ _ _ (c .none-seen .ensures)
 
-mul-p : tie.Need-mul-p Inv-loop μ-loop
-mul-p c = omega arith
+mul-seen-with : tie.Need-mul-seen-with Inv-loop μ-loop
+mul-seen-with c = omega arith
 
-array-copy-out-p : tie.Need-array-copy-out-p Inv-loop μ-loop
-array-copy-out-p c = omega arith
+element-copy-out-seen-with : tie.Need-element-copy-out-seen-with Inv-loop μ-loop
+element-copy-out-seen-with c = omega arith
 
-returns-5 : tie.Need-returns-5 Inv-loop μ-loop
-returns-5 c =
-    let h = array (c .before .before .before .before .before .before .before .before) in
-    let w = c .before .before .before .loop .inv in
-    refuted _ (λ e. let f = queue-tests _ _ _ e in let x = left-length _ _ _ _ _ _ w (omega arith) (omega arith) (f .lengths-ok) in omega arith)
+mul-seen-with-2 : tie.Need-mul-seen-with-2 Inv-loop μ-loop
+mul-seen-with-2 c = omega arith
 
-returns-6 : tie.Need-returns-6 Inv-loop μ-loop
-returns-6 c =
-    let h = array (c .before .before .before .before .before .before .before .before .before) in
-    let w = c .before .before .before .before .loop .inv in
-    refuted _ (λ e. let f = queue-tests _ _ _ e in let x = left-length _ _ _ _ _ _ w (omega arith) (omega arith) (f .lengths-ok) in omega arith)
+element-copy-out-seen-with-2 : tie.Need-element-copy-out-seen-with-2 Inv-loop μ-loop
+element-copy-out-seen-with-2 c = omega arith
 
-returns-7 : tie.Need-returns-7 Inv-loop μ-loop
-returns-7 c =
-    let h = array (c .before .before .before .before .before .before .before .before .before .before) in
-    let w = c .before .before .before .before .before .loop .inv in
-    refuted _ (λ e. let f = queue-tests _ _ _ e in let x = left-epoch _ _ _ _ _ _ w (omega arith) (omega arith) (f .epochs-ok) in omega arith)
-
-add-sum : tie.Need-add-sum Inv-loop μ-loop
-add-sum c = omega arith
+seen-with-requires : tie.Need-seen-with-requires Inv-loop μ-loop
+seen-with-requires c κs = omega arith
 
 add-i : tie.Need-add-i Inv-loop μ-loop
 add-i c = omega arith
@@ -77,38 +54,15 @@ loop-less c = omega arith
 
 loop-again : tie.Need-loop-again Inv-loop μ-loop
 loop-again c =
-    let h = array (c .before .before .before .before .before .before .before .before .before .before) in
-    let w = c .before .before .before .before .before .loop .inv in
-    left-next _ _ _ _ _ _ w (omega arith) (omega arith) (omega arith) (omega arith) (omega arith)
+    let w = c .before .before .loop in
+    let h = array (c .before .before .before .before .before .before) in
+    looked-next _ _ _ (w .i) (w .inv) (omega arith) (omega arith) _ (c .seen-with .ensures)
 
-returns-8 : tie.Need-returns-8 Inv-loop μ-loop
-returns-8 c =
-    let h = array (c .before .before .before .before .before .before .before) in
-    let w = c .before .before .loop .inv in
-    refuted _ (λ e. let f = queue-tests _ _ _ e in let x = left-top _ _ _ _ _ _ w (omega arith) (omega arith) (f .epochs-ok) in omega arith)
+seen-ok-requires : tie.Need-seen-ok-requires Inv-loop μ-loop
+seen-ok-requires c κs = search needs
 
-returns-9 : tie.Need-returns-9 Inv-loop μ-loop
-returns-9 c =
-    let h = array (c .before .before .before .before .before .before .before .before) in
-    let w = c .before .before .before .loop .inv in
-    refuted _ (λ e. let f = queue-tests _ _ _ e in let x = left-sum _ _ _ _ _ _ w (omega arith) (omega arith) in omega (arith, f .sum-is))
-
-returns-10 : tie.Need-returns-10 Inv-loop μ-loop
-returns-10 c =
-    let h = array (c .before .before .before .before .before .before .before .before) in
-    let w = c .before .before .before .loop .inv in
-    sym
-    (queue-tested
-    _
-    _
-    _
-    (record {
-      count-high = omega arith;
-      lengths-ok = left-lengths _ _ _ _ _ _ w (omega arith) (omega arith);
-      sum-is = let x = left-sum _ _ _ _ _ _ w (omega arith) (omega arith) in omega arith;
-      bytes-high = omega arith;
-      epochs-ok = left-rising _ _ _ _ _ _ w (omega arith) (omega arith) (omega arith);
-    }))
+returns : tie.Need-returns Inv-loop μ-loop
+returns c = c .seen-ok .ensures ∙ looked-all (c .before .before .before .before .before .before .args .k) _ _ _ _ _ (c .before .before .before .before .looked-at .ensures) (c .before .before .loop .inv) (λ h. omega arith)
 
 pub queue-ok-spec : {M : Type 1} → statement M
 queue-ok-spec =
@@ -116,20 +70,16 @@ queue-ok-spec =
     (tie.spec
     Inv-loop
     μ-loop
-    returns
-    returns-2
-    returns-3
-    returns-4
+    looked-at-requires
+    none-seen-requires
     loop-holds
-    mul-p
-    array-copy-out-p
-    returns-5
-    returns-6
-    returns-7
-    add-sum
+    mul-seen-with
+    element-copy-out-seen-with
+    mul-seen-with-2
+    element-copy-out-seen-with-2
+    seen-with-requires
     add-i
     loop-less
     loop-again
-    returns-8
-    returns-9
-    returns-10)
+    seen-ok-requires
+    returns)

@@ -13,8 +13,8 @@ use Rattle.primary.proofs.packets.packet_refusal.Tie as tie
 ok : (c : tie.Else2) → primaryOk (c .before .before .before .before .before .before .before .args .p) ≡ true
 ok c =
     let n = c .before .before .before .numbers-ok in
-    let q = c .before .queue-ok in
-    both-ok _ (sym (n .ensures) ∙ not-false (n .result) (c .before .before .if1 .left)) (sym (q .ensures) ∙ not-false (q .result) (c .if2 .left))
+    let q = c .before .seen-ok in
+    both-ok _ (sym (n .ensures) ∙ not-false (n .result) (c .before .before .if1 .left)) (sym (c .before .before .before .before .before .before .before .pre) ∙ sym (q .ensures) ∙ not-false (q .result) (c .if2 .left))
 
 returns : tie.Need-returns
 unfolding packetRefusal
@@ -25,8 +25,8 @@ returns c =
 returns-2 : tie.Need-returns-2
 unfolding packetRefusal
 returns-2 c =
-    let q = c .before .queue-ok in
-    simp (held-bad (c .before .before .before .before .before .before .before .args .p) (sym (q .ensures) ∙ not-true (q .result) (c .if2 .taken)))
+    let q = c .before .seen-ok in
+    simp (held-bad (c .before .before .before .before .before .before .before .args .p) (sym (c .before .before .before .before .before .before .before .pre) ∙ sym (q .ensures) ∙ not-true (q .result) (c .if2 .taken)))
 
 returns-3 : tie.Need-returns-3
 unfolding packetRefusal
@@ -53,8 +53,8 @@ returns-7 c =
 numbers-ok-requires : tie.Need-numbers-ok-requires
 numbers-ok-requires c κs = search needs
 
-queue-ok-requires : tie.Need-queue-ok-requires
-queue-ok-requires c κs = search needs
+seen-ok-requires : tie.Need-seen-ok-requires
+seen-ok-requires c κs = search needs
 
 has-space-requires : tie.Need-has-space-requires
 has-space-requires c κs = search needs
@@ -65,7 +65,7 @@ packet-refusal-spec =
     (tie.spec
     numbers-ok-requires
     returns
-    queue-ok-requires
+    seen-ok-requires
     returns-2
     returns-3
     returns-4

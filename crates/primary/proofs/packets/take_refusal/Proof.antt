@@ -14,18 +14,18 @@ use Rattle.primary.proofs.packets.take_refusal.Statement.{statement}
 use Rattle.primary.proofs.packets.take_refusal.Tie as tie
 
 -- the state is in range past the first two tests
-ok : (c : tie.Else2) → primaryOk (c .before .before .before .before .before .before .before .before .args .p) ≡ true
+ok : (c : tie.Else2) → primaryOk (c .before .before .before .before .before .before .before .args .p) ≡ true
 ok c =
     let n = c .before .before .before .numbers-ok in
-    let q = c .before .queue-ok in
-    both-ok _ (sym (n .ensures) ∙ not-false (n .result) (c .before .before .if1 .left)) (sym (q .ensures) ∙ not-false (q .result) (c .if2 .left))
+    let q = c .before .seen-ok in
+    both-ok _ (sym (n .ensures) ∙ not-false (n .result) (c .before .before .if1 .left)) (sym (c .before .before .before .before .before .before .before .pre .0) ∙ sym (q .ensures) ∙ not-false (q .result) (c .if2 .left))
 
 -- past the test of its epoch the oldest packet may leave
-free : (c : tie.Joined5) → let p = c .before .before .before .before .before .before .before .before .before .before .before .args .p in (p .alone || leb (oldest (p .queue) .epoch) (p .acknowledged)) ≡ true
+free : (c : tie.Joined5) → let p = c .before .before .before .before .before .before .before .before .before .before .args .p in (p .alone || leb (oldest (p .queue) .epoch) (p .acknowledged)) ≡ true
 free c =
-    let p = c .before .before .before .before .before .before .before .before .before .before .before .args .p in
+    let p = c .before .before .before .before .before .before .before .before .before .before .args .p in
     ⊎-elim
-    (λ w. simp (not-true (p .alone) (w .0 .taken), le-leb _ _ (rw (c .before .before .before .before .before .before .before .oldest .ensures) at (w .1 .left))))
+    (λ w. simp (not-true (p .alone) (w .0 .taken), le-leb _ _ (rw (c .before .before .before .before .before .before .before .before .before .before .pre .1) at (w .1 .left))))
     (λ w. simp (not-false (p .alone) (w .left)))
     (c .if5 .came)
 
@@ -33,13 +33,13 @@ returns : tie.Need-returns
 unfolding takeRefusal
 returns c =
     let n = c .before .numbers-ok in
-    simp (numbers-bad (c .before .before .before .before .before .before .args .p) (sym (n .ensures) ∙ not-true (n .result) (c .if1 .taken)))
+    simp (numbers-bad (c .before .before .before .before .before .args .p) (sym (n .ensures) ∙ not-true (n .result) (c .if1 .taken)))
 
 returns-2 : tie.Need-returns-2
 unfolding takeRefusal
 returns-2 c =
-    let q = c .before .queue-ok in
-    simp (held-bad (c .before .before .before .before .before .before .before .before .args .p) (sym (q .ensures) ∙ not-true (q .result) (c .if2 .taken)))
+    let q = c .before .seen-ok in
+    simp (held-bad (c .before .before .before .before .before .before .before .args .p) (sym (c .before .before .before .before .before .before .before .pre .0) ∙ sym (q .ensures) ∙ not-true (q .result) (c .if2 .taken)))
 
 returns-3 : tie.Need-returns-3
 unfolding takeRefusal
@@ -47,40 +47,36 @@ returns-3 c = simp (ok (c .before), ne-eqb _ _ (c .if3 .taken))
 
 returns-4 : tie.Need-returns-4
 unfolding takeRefusal
-returns-4 c = simp (ok (c .before .before), eq-eqb _ _ (c .before .if3 .left), le-ltb 0 (c .before .before .before .before .before .before .before .before .before .before .args .p .queue .count) (omega (arith, c .if4 .taken)))
+returns-4 c = simp (ok (c .before .before), eq-eqb _ _ (c .before .if3 .left), le-ltb 0 (c .before .before .before .before .before .before .before .before .before .args .p .queue .count) (omega (arith, c .if4 .taken)))
 
 returns-5 : tie.Need-returns-5
 unfolding takeRefusal
 returns-5 c =
-    simp (ok (c .before .before .before .before), eq-eqb _ _ (c .before .before .before .if3 .left), lt-ltb 0 (c .before .before .before .before .before .before .before .before .before .before .before .before .args .p .queue .count) (omega (arith, c .before .before .if4 .left)), not-true (c .before .before .before .before .before .before .before .before .before .before .before .before .args .p .alone) (c .before .if5 .taken), lt-leb _ _ (rw (c .before .before .before .before .before .before .before .before .oldest .ensures) at (c .if6 .taken)))
+    simp (ok (c .before .before .before .before), eq-eqb _ _ (c .before .before .before .if3 .left), lt-ltb 0 (c .before .before .before .before .before .before .before .before .before .before .before .args .p .queue .count) (omega (arith, c .before .before .if4 .left)), not-true (c .before .before .before .before .before .before .before .before .before .before .before .args .p .alone) (c .before .if5 .taken), lt-leb _ _ (rw (c .before .before .before .before .before .before .before .before .before .before .before .pre .1) at (c .if6 .taken)))
 
 returns-6 : tie.Need-returns-6
 unfolding takeRefusal
 returns-6 c =
-    simp (ok (c .before .before .before .before), eq-eqb _ _ (c .before .before .before .if3 .left), lt-ltb 0 (c .before .before .before .before .before .before .before .before .before .before .before .before .args .p .queue .count) (omega (arith, c .before .before .if4 .left)), free (c .before), lt-leb _ _ (rw (c .before .before .before .before .before .before .before .before .oldest .ensures) at (c .if7 .taken)))
+    simp (ok (c .before .before .before .before), eq-eqb _ _ (c .before .before .before .if3 .left), lt-ltb 0 (c .before .before .before .before .before .before .before .before .before .before .before .args .p .queue .count) (omega (arith, c .before .before .if4 .left)), free (c .before), lt-leb _ _ (rw (c .before .before .before .before .before .before .before .before .before .before .before .pre .2) at (c .if7 .taken)))
 
 returns-7 : tie.Need-returns-7
 unfolding takeRefusal
 returns-7 c =
-    simp (ok (c .before .before .before .before), eq-eqb _ _ (c .before .before .before .if3 .left), lt-ltb 0 (c .before .before .before .before .before .before .before .before .before .before .before .before .args .p .queue .count) (omega (arith, c .before .before .if4 .left)), free (c .before), le-leb _ _ (rw (c .before .before .before .before .before .before .before .before .oldest .ensures) at (c .if7 .left)))
-
-oldest-requires : tie.Need-oldest-requires
-oldest-requires c κs = search needs
+    simp (ok (c .before .before .before .before), eq-eqb _ _ (c .before .before .before .if3 .left), lt-ltb 0 (c .before .before .before .before .before .before .before .before .before .before .before .args .p .queue .count) (omega (arith, c .before .before .if4 .left)), free (c .before), le-leb _ _ (rw (c .before .before .before .before .before .before .before .before .before .before .before .pre .2) at (c .if7 .left)))
 
 numbers-ok-requires : tie.Need-numbers-ok-requires
 numbers-ok-requires c κs = search needs
 
-queue-ok-requires : tie.Need-queue-ok-requires
-queue-ok-requires c κs = search needs
+seen-ok-requires : tie.Need-seen-ok-requires
+seen-ok-requires c κs = search needs
 
 pub take-refusal-spec : {M : Type 1} → statement M
 take-refusal-spec =
     tie.close
     (tie.spec
-    oldest-requires
     numbers-ok-requires
     returns
-    queue-ok-requires
+    seen-ok-requires
     returns-2
     returns-3
     returns-4
