@@ -1,6 +1,6 @@
 -- Laws of the ranges: what each test of the settings says, by name, and back; what the ends keep is in its ranges; the least length of the stream; lengths. Assumes nothing.
-use mathlib.Core.Path.{_≡_, refl}
-use mathlib.Core.Bool.{Bool, true, _&&_}
+use mathlib.Core.Path.{_≡_, refl, sym, _∙_}
+use mathlib.Core.Bool.{Bool, true, false, _&&_, and-true, and-false}
 use Prim.Native.Nat.{ℕ, _+_, _*_, _%_, _≤_}
 use native.Mathlib.Nat.{mul-le-mul}
 use native.Mathlib.Omega.{arith}
@@ -13,7 +13,7 @@ use Rattle.records.proofs.ReadLaws.{unit-le}
 use Rattle.settings.specs.declared.Settings.{Settings}
 use Rattle.settings.specs.declared.PrimarySettings.{PrimarySettings}
 use Rattle.settings.specs.declared.StandbySettings.{StandbySettings}
-use Rattle.settings.specs.Range.{memoryPagesOk, diskBlocksOk, allowanceOk, blockSlotsOk, heldBytesOk, leastStream, streamOk, settingsOk, primarySettingsOk, standbySettingsOk, ofPrimary, ofStandby}
+use Rattle.settings.specs.Range.{memoryPagesOk, diskBlocksOk, allowanceOk, blockSlotsOk, heldBytesOk, patienceOk, leastStream, streamOk, settingsOk, primarySettingsOk, standbySettingsOk, ofPrimary, ofStandby}
 
 -- ---- the facts, each stated once
 
@@ -95,9 +95,6 @@ module _ (b s : ℕ) where
   pub slots-facts : blockSlotsOk b s ≡ true → SlotsFacts b s
   slots-facts e = let p = within-facts b 64 s e in record { s-low = p .0; s-high = p .1 }
 
-  pub slots-of : SlotsFacts b s → blockSlotsOk b s ≡ true
-  slots-of f = within-of b 64 s (f .s-low) (f .s-high)
-
 module _ (u m b q l : ℕ) where
   pub stream-facts : heldBytesOk q ≡ true → streamOk u m b l ≡ true → StreamFacts u m b q l
   stream-facts h e =
@@ -110,23 +107,6 @@ module _ (u m b q l : ℕ) where
 
     pub stream-of : streamOk u m b l ≡ true
     stream-of = within-of (leastStream u m b) 33554432 l (f .l-low) (f .l-high)
-
-module _ (g : Settings) where
-  pub settings-facts : settingsOk g ≡ true → SettingsFacts g
-  unfolding settingsOk
-  settings-facts e =
-      let p = both _ _ e in
-      let q = both _ _ (p .0) in
-      let r = both _ _ (q .0) in
-      let s = both _ _ (r .0) in
-      let t = within-facts 1 60000 (g .t) (p .1) in
-      record {
-        shared = shared-facts _ _ _ _ (s .0);
-        slots = slots-facts _ _ (s .1);
-        stream = stream-facts _ _ _ _ _ (r .1) (q .1);
-        t-low = t .0;
-        t-high = t .1;
-      }
 
 module _ (g : PrimarySettings) where
   pub primary-settings-facts : primarySettingsOk g ≡ true → PrimarySettingsFacts g
@@ -148,21 +128,34 @@ module _ (g : StandbySettings) where
       let p = both _ _ e in
       record { shared = shared-facts _ _ _ _ (p .0); slots = slots-facts _ _ (p .1) }
 
-  pub standby-settings-of : StandbySettingsFacts g → standbySettingsOk g ≡ true
-  unfolding standbySettingsOk
-  standby-settings-of f = join _ _ (shared-of _ _ _ _ (f .shared)) (slots-of _ _ (f .slots))
+-- S, the second of the five, stands behind the primary's
+parts : (a b c d e : Bool) → a && b && c && d && e ≡ a && c && d && b && e
+parts true true c d e = rw (and-true (c && d))
+parts true false c d e = rw (and-false (c && d))
+parts false b c d e = refl
+
+module _ (g : Settings) where
+  -- the settings that start is told: the primary's, S and T
+  pub settings-parts : settingsOk g ≡ (primarySettingsOk (ofPrimary g) && blockSlotsOk (g .b) (g .s) && patienceOk (g .t))
+  unfolding settingsOk primarySettingsOk
+  settings-parts = parts (sharedOk (g .u) (g .m) (g .d) (g .b)) (blockSlotsOk (g .b) (g .s)) (heldBytesOk (g .q)) (streamOk (g .u) (g .m) (g .b) (g .l)) (patienceOk (g .t))
+
+  pub settings-facts : settingsOk g ≡ true → SettingsFacts g
+  settings-facts e =
+      let p = both _ _ (sym settings-parts ∙ e) in
+      let q = both _ _ (p .0) in
+      let f = primary-settings-facts (ofPrimary g) (q .0) in
+      let t = within-facts 1 60000 (g .t) (p .1) in
+      record { shared = f .shared; slots = slots-facts _ _ (q .1); stream = f .stream; t-low = t .0; t-high = t .1 }
 
 -- ---- what the ends keep of settings in their ranges is in its ranges
 module _ (g : Settings) (e : settingsOk g ≡ true) where
   pub primary-of-settings : primarySettingsOk (ofPrimary g) ≡ true
-  primary-of-settings =
-      let f = settings-facts g e in
-      primary-settings-of (ofPrimary g) (record { shared = f .shared; stream = f .stream })
+  primary-of-settings = both _ _ (both _ _ (sym (settings-parts g) ∙ e) .0) .0
 
   pub standby-of-settings : standbySettingsOk (ofStandby g) ≡ true
-  standby-of-settings =
-      let f = settings-facts g e in
-      standby-settings-of (ofStandby g) (record { shared = f .shared; slots = f .slots })
+  unfolding settingsOk standbySettingsOk
+  standby-of-settings = both _ _ (both _ _ (both _ _ e .0) .0) .0
 
 -- ---- the least length of the stream
 

@@ -2,7 +2,6 @@
 ghost use mathlib.Core.Path.{_≡_};
 ghost use mathlib.Core.Bool.{_&&_};
 ghost use Prim.Native.Nat.{_≤_};
-ghost use Rattle.lists.specs.Refusal.{within};
 ghost use Rattle.records.specs.Kind.{unitOk};
 ghost use Rattle.settings.specs.Range.{memoryPagesOk, diskBlocksOk, allowanceOk, blockSlotsOk, heldBytesOk, streamOk, patienceOk, settingsOk, primarySettingsOk, standbySettingsOk};
 use records::reading::unit_ok;
@@ -38,53 +37,28 @@ pub struct StandbySettings {
     pub s: usize,
 }
 
-// Whether x is one of low to high.
-fn between(low: usize, high: usize, x: usize) -> bool
-    ensures { λ r. ⌜ r ≡ within low high x ⌝ }
-{
-    if x < low {
-        return false;
-    }
-    if high < x {
-        return false;
-    }
-    true
-}
+// Tests are joined by `&`: both sides are made, which is safe and has no effect, and what comes out is the definition's own conjunction. `&&` would
+// be a branch for each.
 
 // U, M, D and B, which both ends keep.
 fn shared_ok(u: usize, m: usize, d: usize, b: usize) -> bool
     ensures { λ r. ⌜ r ≡ (unitOk u && memoryPagesOk m && diskBlocksOk d && allowanceOk b) ⌝ }
 {
-    if !unit_ok(u) {
-        return false;
-    }
-    if !between(1, 4096, m) {
-        return false;
-    }
-    if 4096 < d {
-        return false;
-    }
-    if 64 < b {
-        return false;
-    }
-    true
+    unit_ok(u) & ((1 <= m) & (m <= 4096)) & (d <= 4096) & (b <= 64)
 }
 
 // S.
 fn slots_ok(b: usize, s: usize) -> bool
     ensures { λ r. ⌜ r ≡ blockSlotsOk b s ⌝ }
 {
-    between(b, 64, s)
+    (b <= s) & (s <= 64)
 }
 
 // Q.
 fn held_ok(q: usize) -> bool
     ensures { λ r. ⌜ r ≡ heldBytesOk q ⌝ }
 {
-    if 32768 < q {
-        return false;
-    }
-    true
+    q <= 32768
 }
 
 // L, once U, M and B are in their ranges, so that its lower end does not wrap.
@@ -94,82 +68,48 @@ fn stream_ok(u: usize, m: usize, b: usize, l: usize) -> bool
 {
     let pages = m * (u + 10);
     let blocks = b * (u + 10);
-    between(pages + blocks + 84, 33554432, l)
+    let least = pages + blocks + 84;
+    (least <= l) & (l <= 33554432)
 }
 
 // T.
 fn patience_ok(t: u32) -> bool
     ensures { λ r. ⌜ r ≡ patienceOk t ⌝ }
 {
-    between(1, 60000, t as usize)
+    (1 <= t) & (t <= 60000)
 }
 
-// Whether the settings that start is told are in their ranges.
-pub fn settings_ok(g: Settings) -> bool
-    ensures { λ r. ⌜ r ≡ settingsOk g ⌝ }
-{
-    let u = g.u;
-    let m = g.m;
-    let d = g.d;
-    let b = g.b;
-    let s = g.s;
-    let q = g.q;
-    let l = g.l;
-    let t = g.t;
-    if !shared_ok(u, m, d, b) {
-        return false;
-    }
-    if !slots_ok(b, s) {
-        return false;
-    }
-    if !held_ok(q) {
-        return false;
-    }
-    if !stream_ok(u, m, b, l) {
-        return false;
-    }
-    if !patience_ok(t) {
-        return false;
-    }
-    true
-}
-
-// Whether those that the primary keeps are.
+// Whether the settings that the primary keeps are in their ranges.
 pub fn primary_settings_ok(g: PrimarySettings) -> bool
     ensures { λ r. ⌜ r ≡ primarySettingsOk g ⌝ }
 {
     let u = g.u;
     let m = g.m;
-    let d = g.d;
     let b = g.b;
-    let q = g.q;
-    let l = g.l;
-    if !shared_ok(u, m, d, b) {
+    if !shared_ok(u, m, g.d, b) {
         return false;
     }
-    if !held_ok(q) {
-        return false;
-    }
-    if !stream_ok(u, m, b, l) {
-        return false;
-    }
-    true
+    held_ok(g.q) & stream_ok(u, m, b, g.l)
 }
 
 // Whether those that the standby keeps are.
 pub fn standby_settings_ok(g: StandbySettings) -> bool
     ensures { λ r. ⌜ r ≡ standbySettingsOk g ⌝ }
 {
-    let u = g.u;
-    let m = g.m;
-    let d = g.d;
-    let b = g.b;
-    let s = g.s;
-    if !shared_ok(u, m, d, b) {
-        return false;
-    }
-    if !slots_ok(b, s) {
-        return false;
-    }
-    true
+    shared_ok(g.u, g.m, g.d, g.b) & slots_ok(g.b, g.s)
+}
+
+// Whether the settings that start is told are: the primary's, S and T.
+pub fn settings_ok(g: Settings) -> bool
+    ensures { λ r. ⌜ r ≡ settingsOk g ⌝ }
+{
+    let kept = PrimarySettings {
+        u: g.u,
+        m: g.m,
+        d: g.d,
+        b: g.b,
+        q: g.q,
+        l: g.l,
+    };
+    primary_settings_ok(kept) & slots_ok(g.b, g.s) & patience_ok(g.t)
 }

@@ -21,19 +21,15 @@ add-blocks c = search needs
 mul-blocks : tie.Need-mul-blocks
 mul-blocks c = omega (arith, small c)
 
-add-between : tie.Need-add-between
-add-between c = omega (arith, small c)
+add-least : tie.Need-add-least
+add-least c = omega (arith, small c)
 
-add-between-2 : tie.Need-add-between-2
-add-between-2 c = omega (arith, small c)
-
-between-requires : tie.Need-between-requires
-between-requires c κs = search needs
+add-least-2 : tie.Need-add-least-2
+add-least-2 c = omega (arith, small c)
 
 returns : tie.Need-returns
-returns c = rw (least-stream (c .before .args .u) (c .before .args .m) (c .before .args .b)) (c .between .ensures)
+returns c = rw (least-stream (c .args .u) (c .args .m) (c .args .b))
 
 pub stream-ok-spec : {M : Type 1} → statement M
 stream-ok-spec =
-    tie.close
-    (tie.spec add-pages mul-pages add-blocks mul-blocks add-between add-between-2 between-requires returns)
+    tie.close (tie.spec add-pages mul-pages add-blocks mul-blocks add-least add-least-2 returns)
