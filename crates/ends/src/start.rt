@@ -28,62 +28,23 @@ fn lent_ok(g: Settings, l: StartLent) -> bool
     requires { ⌜ settingsOk g ≡ true ⌝ }
     ensures { λ r. ⌜ r ≡ startLentOk g l ⌝ }
 {
-    let u = g.u;
-    let m = g.m;
-    let d = g.d;
-    let slots = g.s;
-    let q = g.q;
-    let room = g.l;
     let p = l.primary;
     let s = l.standby;
-    let memory = p.memory;
-    let disk = p.disk;
-    let dirty = p.dirty;
-    let held = p.held;
-    let stream = p.stream;
-    let standby_memory = s.memory;
-    let standby_disk = s.disk;
-    let pages = s.pages;
-    let marks = s.marks;
-    let blocks = s.blocks;
-    let area = s.area;
-    let memory_bytes = m * u;
-    let disk_bytes = d * u;
-    let words = (m + 63) / 64;
-    if memory != memory_bytes {
-        return false;
-    }
-    if disk != disk_bytes {
-        return false;
-    }
-    if dirty != words {
-        return false;
-    }
-    if held != q {
-        return false;
-    }
-    if stream != room {
-        return false;
-    }
-    if standby_memory != memory_bytes {
-        return false;
-    }
-    if standby_disk != disk_bytes {
-        return false;
-    }
-    if pages != memory_bytes {
-        return false;
-    }
-    if marks != words {
-        return false;
-    }
-    if blocks != slots * u {
-        return false;
-    }
-    if area != 8 {
-        return false;
-    }
-    true
+    let memory = g.m * g.u;
+    let disk = g.d * g.u;
+    let words = (g.m + 63) / 64;
+    let blocks = g.s * g.u;
+    (p.memory == memory)
+        & (p.disk == disk)
+        & (p.dirty == words)
+        & (p.held == g.q)
+        & (p.stream == g.l)
+        & (s.memory == memory)
+        & (s.disk == disk)
+        & (s.pages == memory)
+        & (s.marks == words)
+        & (s.blocks == blocks)
+        & (s.area == 8)
 }
 
 // The refusal of start, from the lengths of the lent buffers.
