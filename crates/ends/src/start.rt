@@ -208,6 +208,29 @@ fn no_standby() -> Standby
     }
 }
 
+// Both ends' states and the number, from the lengths of the lent buffers.
+fn opened(g: Settings, l: StartLent, processor: [u8; 64]) -> Started
+    ensures { λ r. ⌜ r ≡ started g l processor ⌝ }
+{
+    let number = start_refusal(g, l);
+    if number != 0 {
+        let primary = no_primary();
+        let standby = no_standby();
+        return Started {
+            primary,
+            standby,
+            number,
+        };
+    }
+    let primary = opened_primary(g);
+    let standby = opened_standby(g, processor);
+    Started {
+        primary,
+        standby,
+        number: 0,
+    }
+}
+
 // Clears the record area.
 fn zero_area(area: &mut [u8])
     requires { ⌜ length (now area) ≡ areaLength ⌝ }
@@ -241,14 +264,14 @@ pub fn start(
     ensures { λ _. ⌜ now (area .exit) ≡ startArea g (startLens (now (memory .entry)) (now (disk .entry)) (now (dirty .entry)) (now (held .entry)) (now (stream .entry)) (now («standby_memory» .entry)) (now («standby_disk» .entry)) (now («staged_pages» .entry)) (now («staged_marks» .entry)) (now («staged_blocks» .entry)) (now (area .entry))) (now (area .entry)) ⌝ }
 {
     let m = g.m;
-    let p = PrimaryLent {
+    let primary = PrimaryLent {
         memory: memory.len(),
         disk: disk.len(),
         dirty: dirty.len(),
         held: held.len(),
         stream: stream.len(),
     };
-    let s = StandbyLent {
+    let standby = StandbyLent {
         memory: standby_memory.len(),
         disk: standby_disk.len(),
         pages: staged_pages.len(),
@@ -256,30 +279,16 @@ pub fn start(
         blocks: staged_blocks.len(),
         area: area.len(),
     };
-    let l = StartLent {
-        primary: p,
-        standby: s,
-    };
-    let number = start_refusal(g, l);
+    let l = StartLent { primary, standby };
+    let made = opened(g, l, processor);
+    let number = made.number;
     if number != 0 {
-        let none = no_primary();
-        let other = no_standby();
-        return Started {
-            primary: none,
-            standby: other,
-            number: number,
-        };
+        return made;
     }
-    let primary = opened_primary(g);
-    let standby = opened_standby(g, processor);
     lists::copy_front(standby_memory, memory);
     lists::copy_front(standby_disk, disk);
     marks::clear(dirty, m);
     marks::clear(staged_marks, m);
     zero_area(area);
-    Started {
-        primary: primary,
-        standby: standby,
-        number: 0,
-    }
+    made
 }
