@@ -149,63 +149,35 @@ fn opened_standby(g: Settings, processor: [u8; 64]) -> Standby
 }
 
 // "A refused start gives the state with every setting 0".
-fn no_primary() -> Primary
-    ensures { λ r. ⌜ r ≡ noPrimary ⌝ }
+fn no_settings() -> Settings
+    ensures { λ r. ⌜ r ≡ record { u = 0; m = 0; d = 0; b = 0; s = 0; q = 0; l = 0; t = 0 } ⌝ }
 {
-    let settings = PrimarySettings {
-        u: 0,
-        m: 0,
-        d: 0,
-        b: 0,
-        q: 0,
-        l: 0,
-    };
-    let detector = Detector {
-        patience: 0,
-        count: 0,
-    };
-    let queue = empty_queue();
-    Primary {
-        settings: settings,
-        detector: detector,
-        epoch: 0,
-        acknowledged: 0,
-        alone: false,
-        blocks: 0,
-        waiting: 0,
-        queue: queue,
-    }
-}
-
-// The same of the standby.
-fn no_standby() -> Standby
-    ensures { λ r. ⌜ r ≡ noStandby ⌝ }
-{
-    let settings = StandbySettings {
+    Settings {
         u: 0,
         m: 0,
         d: 0,
         b: 0,
         s: 0,
-    };
-    let detector = Detector {
-        patience: 0,
-        count: 0,
-    };
-    let slots = empty_slots();
-    Standby {
-        settings: settings,
-        detector: detector,
-        mode: Mode::Receiving,
-        received: 0,
-        slots: slots,
-        blocks: 0,
-        pages: 0,
-        next: 0,
-        seen: false,
-        pending: [0; 64],
-        processor: [0; 64],
+        q: 0,
+        l: 0,
+        t: 0,
     }
+}
+
+// That of the primary: no epoch is open.
+fn no_primary() -> Primary
+    ensures { λ r. ⌜ r ≡ noPrimary ⌝ }
+{
+    let mut p = opened_primary(no_settings());
+    p.epoch = 0;
+    p
+}
+
+// That of the standby.
+fn no_standby() -> Standby
+    ensures { λ r. ⌜ r ≡ noStandby ⌝ }
+{
+    opened_standby(no_settings(), [0; 64])
 }
 
 // Both ends' states and the number, from the lengths of the lent buffers.

@@ -3,11 +3,14 @@ use borrow.Author.Needs.{needs}
 use Rattle.ends.proofs.start.no_primary.Statement.{statement}
 use Rattle.ends.proofs.start.no_primary.Tie as tie
 
-empty-queue-requires : tie.Need-empty-queue-requires
-empty-queue-requires c κs = search needs
+no-settings-requires : tie.Need-no-settings-requires
+no-settings-requires c κs = search needs
+
+opened-primary-requires : tie.Need-opened-primary-requires
+opened-primary-requires c κs = search needs
 
 returns : tie.Need-returns
-returns c = rw (c .empty-queue .ensures)
+returns c = rw (c .opened-primary .ensures, c .before .no-settings .ensures)
 
 pub no-primary-spec : {M : Type 1} → statement M
-no-primary-spec = tie.close (tie.spec empty-queue-requires returns)
+no-primary-spec = tie.close (tie.spec no-settings-requires opened-primary-requires returns)
