@@ -1,12 +1,17 @@
 // The standby's tick, activation, and the guest's writes once it is active.
 ghost use mathlib.Core.Path.{_≡_};
-ghost use mathlib.Core.Bool.{cond};
+ghost use mathlib.Core.Bool.{true, cond};
+ghost use Prim.Native.Nat.{_+_, _*_, _≤_};
 ghost use lib.ListN.{length};
+ghost use Rattle.lists.specs.Refusal.{pick};
 ghost use Rattle.marks.specs.Mark.{cleared};
 ghost use Rattle.detector.specs.Tick.{expired};
 ghost use Rattle.rules.specs.declared.Mode.the-variants.{TakingOver};
-ghost use Rattle.rules.specs.StandbyState.{withDetector, withMode};
-ghost use Rattle.rules.specs.Takeover.{dropped, standbyTickRefusal, standbyTickReply, standbyTickMarks, activationRefusal, activationReply, activationArea, activeMemoryWriteRefusal, activeMemoryWriteReply, activeMemoryWriteMemory, activeDiskWriteRefusal, activeDiskWriteReply, activeDiskWriteDisk};
+ghost use Rattle.rules.specs.Common.{insidePage, written};
+ghost use Rattle.rules.specs.Reply.{standbyReply};
+ghost use Rattle.rules.specs.StandbyState.{standbyOk, withDetector, withMode};
+ghost use Rattle.rules.specs.Takeover.{dropped, standbyTickRefusal, standbyTickReply, standbyTickMarks, activationRefusal, activationReply, activationArea, activeMemoryWriteReply, activeMemoryWriteMemory, activeDiskWriteReply, activeDiskWriteDisk};
+ghost use Rattle.standby.specs.GuestWrite.{writeRefusal};
 use crate::parts::with_detector;
 use crate::parts::with_mode;
 use crate::parts::with_no_records;
@@ -143,37 +148,74 @@ pub fn activate(s: Standby, area: &mut [u8]) -> StandbyReply
     }
 }
 
-// The refusal of a memory write, from the lengths of the memory and of the bytes.
-fn memory_write_refusal(s: Standby, memory: usize, page: usize, offset: usize, n: usize) -> u64
-    ensures { λ r. ⌜ r ≡ activeMemoryWriteRefusal s memory page offset n ⌝ }
+// "1 to U bytes inside one page". No sum is made, so none can wrap.
+fn inside_page(u: usize, offset: usize, n: usize) -> bool
+    ensures { λ r. ⌜ r ≡ insidePage u offset n ⌝ }
+{
+    if u < offset {
+        return false;
+    }
+    (1 <= n) & (n <= u - offset)
+}
+
+// What a guest's write is refused with, of a page or block, its number, and whether the bytes have their size: 1 13 2 3.
+fn write_refusal(s: Standby, lent: usize, units: usize, unit: usize, sized: bool) -> u64
+    requires { ⌜ (standbyOk s ≡ true → units ≤ 4096) ⌝ }
+    ensures { λ r. ⌜ r ≡ writeRefusal s lent units unit sized ⌝ }
 {
     let g = s.settings;
     let u = g.u;
-    let m = g.m;
     let mode = s.mode;
     if !standby_ok(s) {
         return 1;
     }
-    if memory != m * u {
+    if lent != units * u {
         return 1;
     }
     if !is_active(mode) {
         return 13;
     }
-    if m <= page {
+    if units <= unit {
         return 2;
     }
-    if n < 1 {
-        return 3;
-    }
-    // no sum is made, so none can wrap
-    if u < offset {
-        return 3;
-    }
-    if u - offset < n {
+    if !sized {
         return 3;
     }
     0
+}
+
+// A guest's write: the bytes into their page or block, at the offset.
+fn write(
+    s: Standby,
+    image: &mut [u8],
+    units: usize,
+    unit: usize,
+    offset: usize,
+    bytes: &[u8],
+    sized: bool,
+) -> StandbyReply
+    requires { ⌜ (standbyOk s ≡ true → units ≤ 4096) ⌝ }
+    requires { ⌜ (sized ≡ true → offset + length (now bytes) ≤ s .settings .u) ⌝ }
+    ensures { λ r. ⌜ r ≡ standbyReply (writeRefusal s (length (now (image .entry))) units unit sized) s s (s .received) ⌝ }
+    ensures { λ _. ⌜ now (image .exit) ≡ pick (writeRefusal s (length (now (image .entry))) units unit sized) (written (s .settings .u) (now (image .entry)) unit offset (now (bytes .entry))) (now (image .entry)) ⌝ }
+{
+    let g = s.settings;
+    let u = g.u;
+    let received = s.received;
+    let number = write_refusal(s, image.len(), units, unit, sized);
+    if number != 0 {
+        return StandbyReply {
+            state: s,
+            number: number,
+            value: 0,
+        };
+    }
+    lists::copy_into(image, unit * u + offset, bytes);
+    StandbyReply {
+        state: s,
+        number: 0,
+        value: received as u64,
+    }
 }
 
 // The guest's memory write once the standby is active.
@@ -188,48 +230,8 @@ pub fn memory_write(
     ensures { λ _. ⌜ now (memory .exit) ≡ activeMemoryWriteMemory s (now (memory .entry)) page offset (now (bytes .entry)) ⌝ }
 {
     let g = s.settings;
-    let u = g.u;
-    let received = s.received;
-    let number = memory_write_refusal(s, memory.len(), page, offset, bytes.len());
-    if number != 0 {
-        return StandbyReply {
-            state: s,
-            number: number,
-            value: 0,
-        };
-    }
-    lists::copy_into(memory, page * u + offset, bytes);
-    StandbyReply {
-        state: s,
-        number: 0,
-        value: received as u64,
-    }
-}
-
-// The refusal of a disk write, from the lengths of the disk and of the bytes.
-fn disk_write_refusal(s: Standby, disk: usize, block: usize, n: usize) -> u64
-    ensures { λ r. ⌜ r ≡ activeDiskWriteRefusal s disk block n ⌝ }
-{
-    let g = s.settings;
-    let u = g.u;
-    let d = g.d;
-    let mode = s.mode;
-    if !standby_ok(s) {
-        return 1;
-    }
-    if disk != d * u {
-        return 1;
-    }
-    if !is_active(mode) {
-        return 13;
-    }
-    if d <= block {
-        return 2;
-    }
-    if n != u {
-        return 3;
-    }
-    0
+    let sized = inside_page(g.u, offset, bytes.len());
+    write(s, memory, g.m, page, offset, bytes, sized)
 }
 
 // The guest's disk write once the standby is active.
@@ -238,20 +240,6 @@ pub fn disk_write(s: Standby, disk: &mut [u8], block: usize, bytes: &[u8]) -> St
     ensures { λ _. ⌜ now (disk .exit) ≡ activeDiskWriteDisk s (now (disk .entry)) block (now (bytes .entry)) ⌝ }
 {
     let g = s.settings;
-    let u = g.u;
-    let received = s.received;
-    let number = disk_write_refusal(s, disk.len(), block, bytes.len());
-    if number != 0 {
-        return StandbyReply {
-            state: s,
-            number: number,
-            value: 0,
-        };
-    }
-    lists::copy_into(disk, block * u, bytes);
-    StandbyReply {
-        state: s,
-        number: 0,
-        value: received as u64,
-    }
+    let sized = bytes.len() == g.u;
+    write(s, disk, g.d, block, 0, bytes, sized)
 }
