@@ -138,26 +138,10 @@ fn lent_ok(s: Standby, l: ReadLent) -> bool
     ensures { λ r. ⌜ r ≡ readLentOk s l ⌝ }
 {
     let g = s.settings;
-    let u = g.u;
-    let m = g.m;
-    let slots = g.s;
-    let memory = l.memory;
-    let pages = l.pages;
-    let marks = l.marks;
-    let blocks = l.blocks;
-    if memory != m * u {
-        return false;
-    }
-    if pages != m * u {
-        return false;
-    }
-    if marks != (m + 63) / 64 {
-        return false;
-    }
-    if blocks != slots * u {
-        return false;
-    }
-    true
+    let memory = g.m * g.u;
+    let words = (g.m + 63) / 64;
+    let blocks = g.s * g.u;
+    (l.memory == memory) & (l.pages == memory) & (l.marks == words) & (l.blocks == blocks)
 }
 
 // The record at the head of the bytes where it is accepted, else cut short or the number.

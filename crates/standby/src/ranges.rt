@@ -42,22 +42,9 @@ fn detector_ok(d: Detector, watching: bool) -> bool
 {
     let patience = d.patience;
     let count = d.count;
-    if patience < 1 {
-        return false;
-    }
-    if 60000 < patience {
-        return false;
-    }
-    if patience < count {
-        return false;
-    }
-    if !watching {
-        return true;
-    }
-    if patience <= count {
-        return false;
-    }
-    true
+    ((1 <= patience) & (patience <= 60000))
+        & (count <= patience)
+        & !(watching & (patience <= count))
 }
 
 // Whether the state is in its ranges.
@@ -68,26 +55,9 @@ pub fn standby_ok(s: Standby) -> bool
     let d = s.detector;
     let mode = s.mode;
     let k = s.slots;
-    let blocks = s.blocks;
-    let pages = s.pages;
-    let most_pages = g.m;
-    let disk_blocks = g.d;
-    let most_blocks = g.b;
-    let most_slots = g.s;
-    if !settings::standby_settings_ok(g) {
-        return false;
-    }
-    if !staging::slots_ok(k, most_slots, disk_blocks) {
-        return false;
-    }
-    if most_blocks < blocks {
-        return false;
-    }
-    if most_pages < pages {
-        return false;
-    }
-    if !detector_ok(d, is_receiving(mode)) {
-        return false;
-    }
-    true
+    settings::standby_settings_ok(g)
+        & staging::slots_ok(k, g.s, g.d)
+        & (s.blocks <= g.b)
+        & (s.pages <= g.m)
+        & detector_ok(d, is_receiving(mode))
 }
