@@ -1,61 +1,60 @@
 // The commands that are calls of the primary: w d s c t.
 ghost use mathlib.Core.Path.{_≡_};
 ghost use Prim.Native.Nat.{min};
+ghost use Rattle.rules.specs.Step.{atPrimary, stepped};
 ghost use Rattle.script.specs.declared.Command.the-variants.{Write, Disk, Send, Close, Take};
-ghost use Rattle.script.specs.Pair.{mostLent, perform};
+ghost use Rattle.script.specs.Pair.{done, mostLent, perform};
 ghost use Rattle.script.specs.Site.{worldOf, doneOf};
 use crate::Performed;
+use crate::PrimaryBox;
 use crate::Site;
 use crate::sites::with_primary;
+use rules::PrimaryReply;
 
-// `w p v`: one byte at the head of a page.
-pub fn write(s: Site, page: u64, byte: u8) -> Performed
-    ensures { λ r. ⌜ doneOf r ≡ perform (worldOf s) (Write page byte) ⌝ }
+// The site with the primary's box in the state of a reply, and what is printed of the reply.
+fn replied(s: Site, p: PrimaryBox, r: PrimaryReply) -> Performed
+    ensures { λ d. ⌜ doneOf d ≡ done (stepped (atPrimary (worldOf s) (record { state = r .state; memory = p .memory; disk = p .disk; dirty = p .dirty; held = p .held; stream = p .stream })) (r .number) (r .value)) ⌝ }
 {
-    let p = s.primary;
-    let state = p.state;
-    let mut memory = p.memory;
-    let mut dirty = p.dirty;
-    let bytes = [byte; 1];
-    let at = page as usize;
-    let r = primary::writes::memory_write(state, &mut memory, &mut dirty, at, 0, &bytes);
-    let after = r.state;
+    let state = r.state;
     let mut next = p;
-    next.state = after;
-    next.memory = memory;
-    next.dirty = dirty;
+    next.state = state;
     let site = with_primary(s, next);
     Performed {
-        site: site,
+        site,
         number: r.number,
         value: r.value,
         last: false,
     }
 }
 
+// `w p v`: one byte at the head of a page.
+pub fn write(s: Site, page: u64, byte: u8) -> Performed
+    ensures { λ r. ⌜ doneOf r ≡ perform (worldOf s) (Write page byte) ⌝ }
+{
+    let mut p = s.primary;
+    let mut memory = p.memory;
+    let mut dirty = p.dirty;
+    let bytes = [byte; 1];
+    let at = page as usize;
+    let r = primary::writes::memory_write(p.state, &mut memory, &mut dirty, at, 0, &bytes);
+    p.memory = memory;
+    p.dirty = dirty;
+    replied(s, p, r)
+}
+
 // `d b v`: a block of v.
 pub fn disk(s: Site, block: u64, byte: u8) -> Performed
     ensures { λ r. ⌜ doneOf r ≡ perform (worldOf s) (Disk block byte) ⌝ }
 {
-    let p = s.primary;
-    let state = p.state;
+    let mut p = s.primary;
     let mut image = p.disk;
     let mut stream = p.stream;
     let bytes = [byte; 64];
     let at = block as usize;
-    let r = primary::writes::disk_write(state, &mut image, &mut stream, at, &bytes);
-    let after = r.state;
-    let mut next = p;
-    next.state = after;
-    next.disk = image;
-    next.stream = stream;
-    let site = with_primary(s, next);
-    Performed {
-        site: site,
-        number: r.number,
-        value: r.value,
-        last: false,
-    }
+    let r = primary::writes::disk_write(p.state, &mut image, &mut stream, at, &bytes);
+    p.disk = image;
+    p.stream = stream;
+    replied(s, p, r)
 }
 
 // How many bytes are lent for a packet of this length.
@@ -72,68 +71,38 @@ fn lent(length: u64) -> usize
 pub fn send(s: Site, length: u64) -> Performed
     ensures { λ r. ⌜ doneOf r ≡ perform (worldOf s) (Send length) ⌝ }
 {
-    let p = s.primary;
-    let state = p.state;
+    let mut p = s.primary;
     let mut held = p.held;
     let zeros = [0u8; 1515];
     let n = lent(length);
-    let r = primary::packets::packet(state, &mut held, &zeros[..n]);
-    let after = r.state;
-    let mut next = p;
-    next.state = after;
-    next.held = held;
-    let site = with_primary(s, next);
-    Performed {
-        site: site,
-        number: r.number,
-        value: r.value,
-        last: false,
-    }
+    let r = primary::packets::packet(p.state, &mut held, &zeros[..n]);
+    p.held = held;
+    replied(s, p, r)
 }
 
 // `c v`: a checkpoint with the processor state all v.
 pub fn close(s: Site, byte: u8) -> Performed
     ensures { λ r. ⌜ doneOf r ≡ perform (worldOf s) (Close byte) ⌝ }
 {
-    let p = s.primary;
-    let state = p.state;
+    let mut p = s.primary;
     let memory = p.memory;
     let mut dirty = p.dirty;
     let mut stream = p.stream;
     let processor = [byte; 64];
-    let r = primary::checkpoint::checkpoint(state, &memory, &mut dirty, &mut stream, processor);
-    let after = r.state;
-    let mut next = p;
-    next.state = after;
-    next.dirty = dirty;
-    next.stream = stream;
-    let site = with_primary(s, next);
-    Performed {
-        site: site,
-        number: r.number,
-        value: r.value,
-        last: false,
-    }
+    let r = primary::checkpoint::checkpoint(p.state, &memory, &mut dirty, &mut stream, processor);
+    p.dirty = dirty;
+    p.stream = stream;
+    replied(s, p, r)
 }
 
 // `t`: the oldest packet, into a destination that any packet fits.
 pub fn take(s: Site) -> Performed
     ensures { λ r. ⌜ doneOf r ≡ perform (worldOf s) Take ⌝ }
 {
-    let p = s.primary;
-    let state = p.state;
+    let mut p = s.primary;
     let mut held = p.held;
     let mut destination = [0u8; 1515];
-    let r = primary::packets::take(state, &mut held, &mut destination);
-    let after = r.state;
-    let mut next = p;
-    next.state = after;
-    next.held = held;
-    let site = with_primary(s, next);
-    Performed {
-        site: site,
-        number: r.number,
-        value: r.value,
-        last: false,
-    }
+    let r = primary::packets::take(p.state, &mut held, &mut destination);
+    p.held = held;
+    replied(s, p, r)
 }

@@ -14,19 +14,17 @@ use crate::sites::with_standby;
 fn flushed(s: Site, n: usize) -> Performed
     ensures { λ r. ⌜ doneOf r ≡ done (step (worldOf s) (call.flush n)) ⌝ }
 {
-    let b = s.standby;
-    let state = b.state;
+    let mut b = s.standby;
     let mut blocks = b.blocks;
     let mut disk = b.disk;
-    let r = standby::flush::flush(state, &mut blocks, &mut disk, n);
-    let after = r.state;
-    let mut next = b;
-    next.state = after;
-    next.blocks = blocks;
-    next.disk = disk;
-    let site = with_standby(s, next);
+    let r = standby::flush::flush(b.state, &mut blocks, &mut disk, n);
+    let state = r.state;
+    b.state = state;
+    b.blocks = blocks;
+    b.disk = disk;
+    let site = with_standby(s, b);
     Performed {
-        site: site,
+        site,
         number: r.number,
         value: r.value,
         last: false,
@@ -57,15 +55,13 @@ fn flushed_all(s: Site) -> Site
 fn ticked(s: Site) -> Site
     ensures { λ r. ⌜ worldOf r ≡ step (worldOf s) call.standbyTick .next ⌝ }
 {
-    let b = s.standby;
-    let state = b.state;
+    let mut b = s.standby;
     let mut marks = b.marks;
-    let r = standby::takeover::tick(state, &mut marks);
-    let after = r.state;
-    let mut next = b;
-    next.state = after;
-    next.marks = marks;
-    with_standby(s, next)
+    let r = standby::takeover::tick(b.state, &mut marks);
+    let state = r.state;
+    b.state = state;
+    b.marks = marks;
+    with_standby(s, b)
 }
 
 // Activation, the last call.
@@ -74,17 +70,15 @@ fn activated(s: Site) -> Performed
     ensures { λ r. ⌜ outcome (r .number) (r .value) ≡ step (worldOf s) call.activation .outcome ⌝ }
     ensures { λ r. ⌜ r .last ≡ true ⌝ }
 {
-    let b = s.standby;
-    let state = b.state;
+    let mut b = s.standby;
     let mut area = b.area;
-    let r = standby::takeover::activate(state, &mut area);
-    let after = r.state;
-    let mut next = b;
-    next.state = after;
-    next.area = area;
-    let site = with_standby(s, next);
+    let r = standby::takeover::activate(b.state, &mut area);
+    let state = r.state;
+    b.state = state;
+    b.area = area;
+    let site = with_standby(s, b);
     Performed {
-        site: site,
+        site,
         number: r.number,
         value: r.value,
         last: true,

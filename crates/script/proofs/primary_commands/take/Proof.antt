@@ -9,29 +9,13 @@ use Rattle.script.proofs.primary_commands.take.Statement.{statement}
 use Rattle.script.proofs.primary_commands.take.Tie as tie
 
 slice-aggregate-take : tie.Need-slice-aggregate-take
-slice-aggregate-take c = let b = c .before .before .before .before in sym (lengths (b .args .s) _ (b .good .0) .held)
-
-slice-aggregate-take-2 : tie.Need-slice-aggregate-take-2
-slice-aggregate-take-2 c = search needs
-
-take-requires : tie.Need-take-requires
-take-requires c κs = search needs
-
-with-primary-requires : tie.Need-with-primary-requires
-with-primary-requires c κs = search needs
+slice-aggregate-take c = let b = c .before .before .before in sym (lengths (b .args .s) _ (b .good .0) .held)
 
 returns : tie.Need-returns
 unfolding perform step worldOf
 returns c =
-    let m = c .before .before .before .before .take .ensures in
-    rw (c .with-primary .ensures, m .0, m .1 .0)
+    let m = c .before .before .before .take .ensures in
+    rw (c .replied .ensures, m .0, m .1 .0)
 
 pub take-spec : {M : Type 1} → statement M
-take-spec =
-    tie.close
-    (tie.spec
-    slice-aggregate-take
-    slice-aggregate-take-2
-    take-requires
-    with-primary-requires
-    returns)
+take-spec = tie.close (tie.spec slice-aggregate-take (search needs) (search needs) (search needs) returns)

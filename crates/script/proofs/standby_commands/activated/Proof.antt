@@ -8,10 +8,7 @@ use Rattle.script.proofs.standby_commands.activated.Statement.{statemen
 use Rattle.script.proofs.standby_commands.activated.Tie as tie
 
 slice-aggregate-activate : tie.Need-slice-aggregate-activate
-slice-aggregate-activate c = let b = c .before .before .before .before in sym (lengths (b .args .s) _ (b .good .0) .area)
-
-activate-requires : tie.Need-activate-requires
-activate-requires c κs = search needs
+slice-aggregate-activate c = let b = c .before .before .before in sym (lengths (b .args .s) _ (b .good .0) .area)
 
 with-standby-requires : tie.Need-with-standby-requires
 with-standby-requires c κs = rw (c .before .before .activate .ensures .0) (activation-received _ _)
@@ -23,5 +20,4 @@ returns c =
     (rw (c .with-standby .ensures, m .0, m .1), (rw (m .0), refl))
 
 pub activated-spec : {M : Type 1} → statement M
-activated-spec =
-    tie.close (tie.spec slice-aggregate-activate activate-requires with-standby-requires returns)
+activated-spec = tie.close (tie.spec slice-aggregate-activate (search needs) with-standby-requires returns)

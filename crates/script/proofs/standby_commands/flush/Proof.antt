@@ -4,12 +4,6 @@ use Rattle.script.specs.Pair.{perform}
 use Rattle.script.proofs.standby_commands.flush.Statement.{statement}
 use Rattle.script.proofs.standby_commands.flush.Tie as tie
 
-flushed-requires : tie.Need-flushed-requires
-flushed-requires c κs = search needs
-
-returns : tie.Need-returns
-unfolding perform
-returns c = c .flushed .ensures
-
 pub flush-spec : {M : Type 1} → statement M
-flush-spec = tie.close (tie.spec flushed-requires returns)
+unfolding perform
+flush-spec = tie.close (tie.spec (search needs) (λ c. c .flushed .ensures))

@@ -8,13 +8,7 @@ use Rattle.script.proofs.standby_commands.flushed.Statement.{statement}
 use Rattle.script.proofs.standby_commands.flushed.Tie as tie
 
 slice-aggregate-flush : tie.Need-slice-aggregate-flush
-slice-aggregate-flush c = let b = c .before .before .before .before .before in sym (lengths (b .args .s) _ (b .good .0) .blocks)
-
-slice-aggregate-flush-2 : tie.Need-slice-aggregate-flush-2
-slice-aggregate-flush-2 c = search needs
-
-flush-requires : tie.Need-flush-requires
-flush-requires c κs = search needs
+slice-aggregate-flush c = let b = c .before .before .before .before in sym (lengths (b .args .s) _ (b .good .0) .blocks)
 
 with-standby-requires : tie.Need-with-standby-requires
 with-standby-requires c κs = rw (c .before .before .before .flush .ensures .0) (flush-received _ _ _ _)
@@ -26,11 +20,4 @@ returns c =
     rw (c .with-standby .ensures, m .0, m .1 .0, m .1 .1)
 
 pub flushed-spec : {M : Type 1} → statement M
-flushed-spec =
-    tie.close
-    (tie.spec
-    slice-aggregate-flush
-    slice-aggregate-flush-2
-    flush-requires
-    with-standby-requires
-    returns)
+flushed-spec = tie.close (tie.spec slice-aggregate-flush (λ c. search needs) (search needs) with-standby-requires returns)

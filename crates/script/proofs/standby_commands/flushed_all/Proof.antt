@@ -6,12 +6,6 @@ use Rattle.script.specs.Site.{worldOf}
 use Rattle.script.proofs.standby_commands.flushed_all.Statement.{statement}
 use Rattle.script.proofs.standby_commands.flushed_all.Tie as tie
 
-flushed-requires : tie.Need-flushed-requires
-flushed-requires c κs = search needs
-
-returns : tie.Need-returns
-unfolding worldOf
-returns c = ap (λ (d : Done). d .next) (c .before .flushed .ensures)
-
 pub flushed-all-spec : {M : Type 1} → statement M
-flushed-all-spec = tie.close (tie.spec flushed-requires returns)
+unfolding worldOf
+flushed-all-spec = tie.close (tie.spec (search needs) (λ c. ap (λ (d : Done). d .next) (c .before .flushed .ensures)))

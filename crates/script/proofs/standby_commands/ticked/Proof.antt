@@ -8,10 +8,7 @@ use Rattle.script.proofs.standby_commands.ticked.Statement.{statement}
 use Rattle.script.proofs.standby_commands.ticked.Tie as tie
 
 slice-aggregate-tick : tie.Need-slice-aggregate-tick
-slice-aggregate-tick c = let b = c .before .before .before .before in sym (lengths (b .args .s) _ (b .good .0) .marks)
-
-tick-requires : tie.Need-tick-requires
-tick-requires c κs = search needs
+slice-aggregate-tick c = let b = c .before .before .before in sym (lengths (b .args .s) _ (b .good .0) .marks)
 
 with-standby-requires : tie.Need-with-standby-requires
 with-standby-requires c κs = rw (c .before .before .tick .ensures .0) (tick-received _ _)
@@ -23,4 +20,4 @@ returns c =
     rw (c .with-standby .ensures, m .0, m .1)
 
 pub ticked-spec : {M : Type 1} → statement M
-ticked-spec = tie.close (tie.spec slice-aggregate-tick tick-requires with-standby-requires returns)
+ticked-spec = tie.close (tie.spec slice-aggregate-tick (search needs) with-standby-requires returns)
