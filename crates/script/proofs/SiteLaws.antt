@@ -1,12 +1,12 @@
 -- Laws of a site: the lengths of its arrays; that flush, tick and activation keep the last received epoch, on which the unread ACKs depend; the site that start
 -- makes; and the first of many zeros. Assumes nothing.
-use mathlib.Core.Path.{_≡_, refl}
+use mathlib.Core.Path.{_≡_, refl, sym}
 use mathlib.Core.Bool.{Bool, true, false, cond}
 use mathlib.Core.List.{List}
 use Prim.Native.Nat.{ℕ, zero, suc, _≤_}
 use native.Mathlib.Omega.{arith}
 use lib.Dec.{eqb}
-use lib.ListN.{length, take, replicate, length-replicate}
+use lib.ListN.{length, take, replicate}
 use mir.Val.{Val}
 use denote.Laws.{Is}
 use denote.Struct.Declared.{row}
@@ -27,39 +27,25 @@ use Rattle.script.specs.declared.Site.{Site}
 use Rattle.script.specs.Site.{acksFrom, acksBetween, worldOf}
 use Rattle.script.proofs.Site.{the-type}
 
--- ---- the lengths of the arrays, which their types give
+-- ---- the lengths of the arrays, which their types give, as lending one as a slice asks them; those that `search` does not reach
 pub record Lengths (s : Site) : Type 0 where
-  pub memory : length (s .primary .memory) ≡ 256
-  pub disk : length (s .primary .disk) ≡ 256
-  pub dirty : length (s .primary .dirty) ≡ 1
-  pub held : length (s .primary .held) ≡ 256
-  pub stream : length (s .primary .stream) ≡ 1024
-  pub standby-memory : length (s .standby .memory) ≡ 256
-  pub standby-disk : length (s .standby .disk) ≡ 256
-  pub pages : length (s .standby .pages) ≡ 256
-  pub marks : length (s .standby .marks) ≡ 1
-  pub blocks : length (s .standby .blocks) ≡ 256
-  pub area : length (s .standby .area) ≡ 8
-  pub link : length (s .link) ≡ 1024
+  pub held : 256 ≡ length (s .primary .held)
+  pub stream : 1024 ≡ length (s .primary .stream)
+  pub marks : 1 ≡ length (s .standby .marks)
+  pub blocks : 256 ≡ length (s .standby .blocks)
+  pub area : 8 ≡ length (s .standby .area)
 
 -- of a parameter s, where c is the function's start: `lengths (c .args .s) _ (c .good .0)`
 pub lengths : (s : Site) (vs : List Val) → Is (row the-type) s vs → Lengths s
 lengths s vs g =
-    let p = g .1 .1 .0 .1 .1 .1 in
-    let b = g .1 .1 .1 .0 .1 .1 .1 in
+    let p = g .1 .1 .0 .1 .1 .1 .1 .1 .1 in
+    let b = g .1 .1 .1 .0 .1 .1 .1 .1 .1 .1 in
     record {
-      memory = length-unmapped ℕ (s .primary .memory) _ (p .0 .1 .0 .1);
-      disk = length-unmapped ℕ (s .primary .disk) _ (p .1 .0 .1 .0 .1);
-      dirty = length-unmapped ℕ (s .primary .dirty) _ (p .1 .1 .0 .1 .0 .1);
-      held = length-unmapped ℕ (s .primary .held) _ (p .1 .1 .1 .0 .1 .0 .1);
-      stream = length-unmapped ℕ (s .primary .stream) _ (p .1 .1 .1 .1 .0 .1 .0 .1);
-      standby-memory = length-unmapped ℕ (s .standby .memory) _ (b .0 .1 .0 .1);
-      standby-disk = length-unmapped ℕ (s .standby .disk) _ (b .1 .0 .1 .0 .1);
-      pages = length-unmapped ℕ (s .standby .pages) _ (b .1 .1 .0 .1 .0 .1);
-      marks = length-unmapped ℕ (s .standby .marks) _ (b .1 .1 .1 .0 .1 .0 .1);
-      blocks = length-unmapped ℕ (s .standby .blocks) _ (b .1 .1 .1 .1 .0 .1 .0 .1);
-      area = length-unmapped ℕ (s .standby .area) _ (b .1 .1 .1 .1 .1 .0 .1 .0 .1);
-      link = length-unmapped ℕ (s .link) _ (g .1 .1 .1 .1 .0 .1 .0 .1);
+      held = sym (length-unmapped ℕ (s .primary .held) _ (p .0 .1 .0 .1));
+      stream = sym (length-unmapped ℕ (s .primary .stream) _ (p .1 .0 .1 .0 .1));
+      marks = sym (length-unmapped ℕ (s .standby .marks) _ (b .0 .1 .0 .1));
+      blocks = sym (length-unmapped ℕ (s .standby .blocks) _ (b .1 .0 .1 .0 .1));
+      area = sym (length-unmapped ℕ (s .standby .area) _ (b .1 .1 .0 .1 .0 .1));
     }
 
 -- ---- calls of the standby that keep the last received epoch
@@ -125,6 +111,3 @@ pub take-replicate : (n m v : ℕ) → n ≤ m → take n (replicate m v) ≡ re
 take-replicate zero m v h = refl
 take-replicate (suc n) zero v h = absurd (omega arith)
 take-replicate (suc n) (suc m) v h = rw (take-replicate n m v (omega arith))
-
-pub length-take-replicate : (n m v : ℕ) → n ≤ m → length (take n (replicate m v)) ≡ n
-length-take-replicate n m v h = rw (take-replicate n m v h) (length-replicate n v)

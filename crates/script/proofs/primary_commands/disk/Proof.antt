@@ -1,6 +1,5 @@
 -- `script::primary_commands::disk` meets its contract. Assumes nothing.
 use borrow.Author.Needs.{needs}
-use mathlib.Core.Path.{sym}
 use Rattle.rules.specs.Step.{step}
 use Rattle.script.specs.Pair.{perform}
 use Rattle.script.specs.Site.{worldOf}
@@ -9,7 +8,7 @@ use Rattle.script.proofs.primary_commands.disk.Statement.{statement}
 use Rattle.script.proofs.primary_commands.disk.Tie as tie
 
 slice-aggregate-disk-write-2 : tie.Need-slice-aggregate-disk-write-2
-slice-aggregate-disk-write-2 c = let b = c .before .before .before .before .before in sym (lengths (b .args .s) _ (b .good .0) .stream)
+slice-aggregate-disk-write-2 c = let b = c .before .before .before .before .before in lengths (b .args .s) _ (b .good .0) .stream
 
 returns : tie.Need-returns
 unfolding perform step worldOf

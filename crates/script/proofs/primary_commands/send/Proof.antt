@@ -3,10 +3,11 @@ use borrow.Author.Needs.{needs}
 use mathlib.Core.Path.{sym}
 use Prim.Native.Nat.{_≤_}
 use native.Mathlib.Omega.{arith}
+use lib.Seq.{length-take-le}
 use Rattle.rules.specs.Step.{step}
 use Rattle.script.specs.Pair.{perform}
 use Rattle.script.specs.Site.{worldOf}
-use Rattle.script.proofs.SiteLaws.{lengths, take-replicate, length-take-replicate}
+use Rattle.script.proofs.SiteLaws.{lengths, take-replicate}
 use Rattle.script.proofs.primary_commands.send.Statement.{statement}
 use Rattle.script.proofs.primary_commands.send.Tie as tie
 
@@ -14,10 +15,10 @@ short : (c : tie.After-lent) → c .lent .result ≤ 1515
 short c = omega arith
 
 slice-aggregate-packet : tie.Need-slice-aggregate-packet
-slice-aggregate-packet c = let b = c .before .before .before .before in sym (lengths (b .args .s) _ (b .good .0) .held)
+slice-aggregate-packet c = let b = c .before .before .before .before in lengths (b .args .s) _ (b .good .0) .held
 
 slice-aggregate-packet-2 : tie.Need-slice-aggregate-packet-2
-slice-aggregate-packet-2 c = sym (length-take-replicate _ 1515 0 (short (c .before .before)))
+slice-aggregate-packet-2 c = sym (length-take-le _ _ (short (c .before .before)))
 
 returns : tie.Need-returns
 unfolding perform step worldOf

@@ -1,6 +1,5 @@
 -- `script::primary_commands::take` meets its contract. Assumes nothing.
 use borrow.Author.Needs.{needs}
-use mathlib.Core.Path.{sym}
 use Rattle.rules.specs.Step.{step}
 use Rattle.script.specs.Pair.{perform}
 use Rattle.script.specs.Site.{worldOf}
@@ -9,7 +8,7 @@ use Rattle.script.proofs.primary_commands.take.Statement.{statement}
 use Rattle.script.proofs.primary_commands.take.Tie as tie
 
 slice-aggregate-take : tie.Need-slice-aggregate-take
-slice-aggregate-take c = let b = c .before .before .before in sym (lengths (b .args .s) _ (b .good .0) .held)
+slice-aggregate-take c = let b = c .before .before .before in lengths (b .args .s) _ (b .good .0) .held
 
 returns : tie.Need-returns
 unfolding perform step worldOf

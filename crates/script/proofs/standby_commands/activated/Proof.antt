@@ -1,6 +1,6 @@
 -- `script::standby_commands::activated` meets its contract. Assumes nothing.
 use borrow.Author.Needs.{needs}
-use mathlib.Core.Path.{refl, sym}
+use mathlib.Core.Path.{refl}
 use Rattle.rules.specs.Step.{step}
 use Rattle.script.specs.Site.{worldOf}
 use Rattle.script.proofs.SiteLaws.{lengths, activation-received}
@@ -8,7 +8,7 @@ use Rattle.script.proofs.standby_commands.activated.Statement.{statemen
 use Rattle.script.proofs.standby_commands.activated.Tie as tie
 
 slice-aggregate-activate : tie.Need-slice-aggregate-activate
-slice-aggregate-activate c = let b = c .before .before .before in sym (lengths (b .args .s) _ (b .good .0) .area)
+slice-aggregate-activate c = let b = c .before .before .before in lengths (b .args .s) _ (b .good .0) .area
 
 with-standby-requires : tie.Need-with-standby-requires
 with-standby-requires c κs = rw (c .before .before .activate .ensures .0) (activation-received _ _)

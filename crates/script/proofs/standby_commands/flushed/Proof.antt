@@ -1,6 +1,5 @@
 -- `script::standby_commands::flushed` meets its contract. Assumes nothing.
 use borrow.Author.Needs.{needs}
-use mathlib.Core.Path.{sym}
 use Rattle.rules.specs.Step.{step}
 use Rattle.script.specs.Site.{worldOf}
 use Rattle.script.proofs.SiteLaws.{lengths, flush-received}
@@ -8,7 +7,7 @@ use Rattle.script.proofs.standby_commands.flushed.Statement.{statement}
 use Rattle.script.proofs.standby_commands.flushed.Tie as tie
 
 slice-aggregate-flush : tie.Need-slice-aggregate-flush
-slice-aggregate-flush c = let b = c .before .before .before .before in sym (lengths (b .args .s) _ (b .good .0) .blocks)
+slice-aggregate-flush c = let b = c .before .before .before .before in lengths (b .args .s) _ (b .good .0) .blocks
 
 with-standby-requires : tie.Need-with-standby-requires
 with-standby-requires c κs = rw (c .before .before .before .flush .ensures .0) (flush-received _ _ _ _)

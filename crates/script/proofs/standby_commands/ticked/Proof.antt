@@ -1,6 +1,5 @@
 -- `script::standby_commands::ticked` meets its contract. Assumes nothing.
 use borrow.Author.Needs.{needs}
-use mathlib.Core.Path.{sym}
 use Rattle.rules.specs.Step.{step}
 use Rattle.script.specs.Site.{worldOf}
 use Rattle.script.proofs.SiteLaws.{lengths, tick-received}
@@ -8,7 +7,7 @@ use Rattle.script.proofs.standby_commands.ticked.Statement.{statement}
 use Rattle.script.proofs.standby_commands.ticked.Tie as tie
 
 slice-aggregate-tick : tie.Need-slice-aggregate-tick
-slice-aggregate-tick c = let b = c .before .before .before in sym (lengths (b .args .s) _ (b .good .0) .marks)
+slice-aggregate-tick c = let b = c .before .before .before in lengths (b .args .s) _ (b .good .0) .marks
 
 with-standby-requires : tie.Need-with-standby-requires
 with-standby-requires c κs = rw (c .before .before .tick .ensures .0) (tick-received _ _)
