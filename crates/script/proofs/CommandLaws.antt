@@ -4,12 +4,15 @@ use mathlib.Core.Bool.{Bool, true, false, cond, _&&_}
 use mathlib.Core.List.{List}
 use Prim.Native.Nat.{ℕ, _<_, min}
 use native.Mathlib.Omega.{arith}
-use lib.Dec.{eqb}
+use lib.Dec.{eqb, leb}
 use lib.ListN.{length}
-use borrow.Author.Tests.{eqb-true, eq-eqb}
+use mir.Val.{Fits}
+use mir.Syntax.{w8}
+use borrow.Author.Tests.{eqb-true, eq-eqb, leb-true}
 use Rattle.lists.proofs.TestLaws.{agree, both}
 use Rattle.text.specs.Line.{wordsOf}
 use Rattle.text.specs.Decimal.{isNumber, valueOf}
+use Rattle.text.specs.declared.Number.{Number}
 use Rattle.text.specs.Kept.{tooLarge, noLine, lineWithAll, numberIs}
 use Rattle.text.proofs.NumberLaws.{kept-number}
 use Rattle.text.proofs.KeptLaws.{keptOf, kept-line}
@@ -88,3 +91,7 @@ command-of-words ws =
 -- the command of a line, from what is kept of it
 pub command-of-line : (line : List ℕ) → commandOfLine (lineWithAll noLine line) ≡ commandOf line
 command-of-line line = ap commandOfLine (kept-line line) ∙ command-of-words (wordsOf line)
+
+-- a number of at most 255 fits a byte
+pub byte-fits : (n : Number) → numberIs mostByte n ≡ true → Fits w8 (n .value)
+byte-fits n e = record { fits = omega (arith, leb-true (n .value) mostByte (both (n .some && n .digits) (leb (n .value) mostByte) e .1)) }

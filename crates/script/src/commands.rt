@@ -1,97 +1,82 @@
 // The command that a line is.
 ghost use mathlib.Core.Path.{_≡_};
-ghost use mathlib.Core.Bool.{_&&_};
-ghost use Rattle.text.specs.Kept.{numberIs};
-ghost use Rattle.script.specs.Command.{isKeptLine, mostNumber, mostByte, commandOfLine};
+ghost use Rattle.text.specs.Kept.{noNumber};
+ghost use Rattle.script.specs.Command.{commandOfLine};
 use crate::Command;
 use text::Line;
+use text::Number;
 use text::kept::number_is;
 
-// A line of this letter and this many words.
-fn is_line(letter: u8, words: usize, l: Line) -> bool
-    ensures { λ r. ⌜ r ≡ isKeptLine letter words l ⌝ }
+// The command of a line of one word, which is this letter.
+fn letter_command(letter: u8) -> Command
+    ensures { λ r. ⌜ r ≡ commandOfLine (record { words = 1; letters = 1; letter = letter; first = noNumber; second = noNumber }) ⌝ }
 {
-    let count = l.words;
-    let letters = l.letters;
-    let first = l.letter;
-    if count != words {
-        return false;
+    match letter {
+        b'm' => Command::Move,
+        b'a' => Command::Acknowledge,
+        b't' => Command::Take,
+        b'f' => Command::Flush,
+        b'k' => Command::Takeover,
+        _ => Command::Other,
     }
-    if letters != 1 {
-        return false;
-    }
-    if first != letter {
-        return false;
-    }
-    true
 }
 
-// A line of this letter and a number of at most this.
-fn has_number(letter: u8, most: u64, l: Line) -> bool
-    ensures { λ r. ⌜ r ≡ (isKeptLine letter 2 l && numberIs most (l .first)) ⌝ }
+// The command of a line of this letter and one word more.
+fn number_command(letter: u8, n: Number) -> Command
+    ensures { λ r. ⌜ r ≡ commandOfLine (record { words = 2; letters = 1; letter = letter; first = n; second = noNumber }) ⌝ }
 {
-    let first = l.first;
-    if !is_line(letter, 2, l) {
-        return false;
+    let value = n.value;
+    if letter == b's' {
+        if !number_is(4294967295, n) {
+            return Command::Other;
+        }
+        return Command::Send { length: value };
     }
-    number_is(most, first)
+    if letter != b'c' {
+        return Command::Other;
+    }
+    if !number_is(255, n) {
+        return Command::Other;
+    }
+    Command::Close { byte: value as u8 }
 }
 
-// A line of this letter, a number and a byte.
-fn has_number_and_byte(letter: u8, l: Line) -> bool
-    ensures { λ r. ⌜ r ≡ (isKeptLine letter 3 l && numberIs mostNumber (l .first) && numberIs mostByte (l .second)) ⌝ }
+// The command of a line of this letter and two words more.
+fn pair_command(letter: u8, first: Number, second: Number) -> Command
+    ensures { λ r. ⌜ r ≡ commandOfLine (record { words = 3; letters = 1; letter = letter; first = first; second = second }) ⌝ }
 {
-    let first = l.first;
-    let second = l.second;
-    if !is_line(letter, 3, l) {
-        return false;
-    }
+    let at = first.value;
+    let value = second.value;
     if !number_is(4294967295, first) {
-        return false;
+        return Command::Other;
     }
-    number_is(255, second)
+    if !number_is(255, second) {
+        return Command::Other;
+    }
+    let byte = value as u8;
+    match letter {
+        b'w' => Command::Write { page: at, byte },
+        b'd' => Command::Disk { block: at, byte },
+        _ => Command::Other,
+    }
 }
 
 // The command of what is kept of a line.
 pub fn command_of(l: Line) -> Command
     ensures { λ r. ⌜ r ≡ commandOfLine l ⌝ }
 {
+    let words = l.words;
+    let letters = l.letters;
+    let letter = l.letter;
     let first = l.first;
     let second = l.second;
-    let number = first.value;
-    let byte = second.value;
-    if has_number_and_byte(b'w', l) {
-        return Command::Write {
-            page: number,
-            byte: byte as u8,
-        };
+    if letters != 1 {
+        return Command::Other;
     }
-    if has_number_and_byte(b'd', l) {
-        return Command::Disk {
-            block: number,
-            byte: byte as u8,
-        };
+    match words {
+        1 => letter_command(letter),
+        2 => number_command(letter, first),
+        3 => pair_command(letter, first, second),
+        _ => Command::Other,
     }
-    if has_number(b's', 4294967295, l) {
-        return Command::Send { length: number };
-    }
-    if has_number(b'c', 255, l) {
-        return Command::Close { byte: number as u8 };
-    }
-    if is_line(b'm', 1, l) {
-        return Command::Move;
-    }
-    if is_line(b'a', 1, l) {
-        return Command::Acknowledge;
-    }
-    if is_line(b't', 1, l) {
-        return Command::Take;
-    }
-    if is_line(b'f', 1, l) {
-        return Command::Flush;
-    }
-    if is_line(b'k', 1, l) {
-        return Command::Takeover;
-    }
-    Command::Other
 }
