@@ -86,13 +86,14 @@ start-received g l processor = go (eqb (startRefusal g l) 0)
     go false = refl
 
 -- the site that is made of what start gave: no bytes on the link, and no ACK unread
-module _ (g : Settings) (processor : Processor) (b : Buffers) (r : Started) (dirty memory disk marks area link : List ℕ) where
-  pub start-world : r ≡ started g (startLent b) (processor .bytes)
-      → dirty ≡ startMarks g (startLent b) (b .dirty)
-      → memory ≡ startCopy g (startLent b) (b .memory) (b .standbyMemory)
-      → disk ≡ startCopy g (startLent b) (b .disk) (b .standbyDisk)
-      → marks ≡ startMarks g (startLent b) (b .stagedMarks)
-      → area ≡ startArea g (startLent b) (b .area)
+module _ (g : Settings) (processor : Processor) (b : Buffers) where
+  pub start-world : (r : Started) (dirty memory disk marks area link : List ℕ)
+      → (r ≡ started g (startLent b) (processor .bytes))
+      × ((dirty ≡ startMarks g (startLent b) (b .dirty))
+      × ((memory ≡ startCopy g (startLent b) (b .memory) (b .standbyMemory))
+      × ((disk ≡ startCopy g (startLent b) (b .disk) (b .standbyDisk))
+      × ((marks ≡ startMarks g (startLent b) (b .stagedMarks))
+      × (area ≡ startArea g (startLent b) (b .area))))))
       → worldOf
       (record {
         primary = record { state = r .primary; memory = b .memory; disk = b .disk; dirty = dirty; held = b .held; stream = b .stream };
@@ -103,8 +104,8 @@ module _ (g : Settings) (processor : Processor) (b : Buffers) (r : Started) (dir
       })
       ≡ startWorld g processor b
   unfolding worldOf startWorld acksBetween acksFrom
-  start-world states dirtyIs memoryIs diskIs marksIs areaIs =
-      rw (states, dirtyIs, memoryIs, diskIs, marksIs, areaIs, start-received g (startLent b) (processor .bytes))
+  start-world r dirty memory disk marks area link m =
+      rw (m .0, m .1 .0, m .1 .1 .0, m .1 .1 .1 .0, m .1 .1 .1 .1 .0, m .1 .1 .1 .1 .1, start-received g (startLent b) (processor .bytes))
 
 -- ---- the first zeros of many
 pub take-replicate : (n m v : ℕ) → n ≤ m → take n (replicate m v) ≡ replicate n v

@@ -1,11 +1,13 @@
 // A site: made by start, and with one box changed.
 ghost use mathlib.Core.Path.{_≡_};
+ghost use lib.ListN.{replicate};
 ghost use Rattle.rules.specs.Step.{atPrimary, atStandby};
 ghost use Rattle.script.specs.Pair.{pairSettings, pairStart};
 ghost use Rattle.script.specs.Site.{primaryOf, standbyOf, worldOf};
 use crate::PrimaryBox;
 use crate::Site;
 use crate::StandbyBox;
+use rules::Primary;
 use settings::Settings;
 
 // "Settings: U 64, M 4, D 4, B 2, S 4, Q 256, L 1,024, T 3".
@@ -24,65 +26,66 @@ fn pair_settings() -> Settings
     }
 }
 
+// The site of a primary in this state with these marks, its buffers zeros, and of a standby; the link is empty and no ACK unread.
+fn opened(primary: Primary, dirty: [u64; 1], standby: StandbyBox) -> Site
+    ensures { λ r. ⌜ r ≡ record { primary = record { state = primary; memory = replicate 256 0; disk = replicate 256 0; dirty = dirty; held = replicate 256 0; stream = replicate 1024 0 }; standby = standby; link = replicate 1024 0; linked = 0; unread = 1 } ⌝ }
+{
+    let zeros = [0u8; 256];
+    let empty = [0u8; 1024];
+    let end = PrimaryBox {
+        state: primary,
+        memory: zeros,
+        disk: zeros,
+        dirty,
+        held: zeros,
+        stream: empty,
+    };
+    Site {
+        primary: end,
+        standby,
+        link: empty,
+        linked: 0,
+        unread: 1,
+    }
+}
+
 // Both ends started at the settings of `pair`, all zeros.
 pub fn started() -> Site
     ensures { λ r. ⌜ worldOf r ≡ pairStart ⌝ }
 {
-    let g = pair_settings();
-    let processor = [0u8; 64];
-    let memory = [0u8; 256];
-    let disk = [0u8; 256];
-    let mut dirty = [0u64; 1];
-    let held = [0u8; 256];
+    let zeros = [0u8; 256];
     let stream = [0u8; 1024];
-    let mut copy = [0u8; 256];
-    let mut image = [0u8; 256];
-    let pages = [0u8; 256];
+    let mut dirty = [0u64; 1];
+    let mut memory = [0u8; 256];
+    let mut disk = [0u8; 256];
     let mut marks = [0u64; 1];
-    let blocks = [0u8; 256];
     let mut area = [0u8; 8];
-    let link = [0u8; 1024];
     let r = ends::start::start(
-        g,
-        processor,
-        &memory,
-        &disk,
+        pair_settings(),
+        [0u8; 64],
+        &zeros,
+        &zeros,
         &mut dirty,
-        &held,
+        &zeros,
         &stream,
-        &mut copy,
-        &mut image,
-        &pages,
+        &mut memory,
+        &mut disk,
+        &zeros,
         &mut marks,
-        &blocks,
+        &zeros,
         &mut area,
     );
-    let state = r.primary;
-    let primary = PrimaryBox {
+    let state = r.standby;
+    let standby = StandbyBox {
         state,
         memory,
         disk,
-        dirty,
-        held,
-        stream,
-    };
-    let other = r.standby;
-    let standby = StandbyBox {
-        state: other,
-        memory: copy,
-        disk: image,
-        pages,
+        pages: zeros,
         marks,
-        blocks,
+        blocks: zeros,
         area,
     };
-    Site {
-        primary,
-        standby,
-        link,
-        linked: 0,
-        unread: 1,
-    }
+    opened(r.primary, dirty, standby)
 }
 
 // The site with another primary's box.
