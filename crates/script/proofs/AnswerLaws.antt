@@ -26,27 +26,26 @@ module _ (w : World) (l : Line) (p : Performed) (command : Command) (letter n : 
   done-is : doneOf p ≡ lineDone (reading w l false)
   done-is = does ∙ ap (perform w) is
 
-  pub answer-next : worldOf (p .site) ≡ lineDone (reading w l false) .next
-  answer-next = ap (λ (d : Done). d .next) done-is
-
-  pub answer-last : p .last ≡ lineDone (reading w l false) .last
-  answer-last = ap (λ (d : Done). d .last) done-is
-
   text-is : printed letter (outcome (p .number) (p .value)) ≡ linePrinted (reading w l false)
   text-is =
       let o : outcome (p .number) (p .value) ≡ lineDone (reading w l false) .outcome = ap (λ (d : Done). d .outcome) done-is in
       let k : letter ≡ letterOf (commandOfLine l) = says ∙ ap letterOf is in
       λ i. printed (k i) (o i)
 
-  pub answer-bytes : take n bytes ≡ linePrinted (reading w l false)
-  answer-bytes = taken (printed letter (outcome (p .number) (p .value))) put-it ∙ text-is
+  bytes-are : take n bytes ≡ linePrinted (reading w l false)
+  bytes-are = taken (printed letter (outcome (p .number) (p .value))) put-it ∙ text-is
     where
       taken : (bs : List ℕ) → PutDone bs before 0 bytes n → take n bytes ≡ bs
       taken bs d =
           let n-is : n ≡ length bs = d .position ∙ zero-add (length bs) in
           rw (n-is, d .bytes, put-front before bs) (take-append-seam bs (drop (length bs) before))
 
-  pub answer-room : length bytes ≡ 44
-  answer-room =
+  room-is : length bytes ≡ 44
+  room-is =
       let n-is : n ≡ 0 + length (printed letter (outcome (p .number) (p .value))) = put-it .position in
       put-done-length _ _ _ _ _ (omega arith) put-it ∙ room
+
+  pub answer-is : (worldOf (p .site) ≡ lineDone (reading w l false) .next)
+      × ((p .last ≡ lineDone (reading w l false) .last)
+      × ((take n bytes ≡ linePrinted (reading w l false)) × (n ≤ 44) × (length bytes ≡ 44)))
+  answer-is = (ap (λ (d : Done). d .next) done-is, (ap (λ (d : Done). d .last) done-is, (bytes-are, end, room-is)))

@@ -4,44 +4,16 @@ use Rattle.script.proofs.PrintLaws.{printed-put}
 use Rattle.script.proofs.printing.print.Statement.{statement}
 use Rattle.script.proofs.printing.print.Tie as tie
 
-put-byte-requires : tie.Need-put-byte-requires
-put-byte-requires c κs = search needs
-
-put-byte-requires-2 : tie.Need-put-byte-requires-2
-put-byte-requires-2 c κs = search needs
-
-put-number-requires : tie.Need-put-number-requires
-put-number-requires c κs = search needs
-
-put-byte-requires-3 : tie.Need-put-byte-requires-3
-put-byte-requires-3 c κs = search needs
-
-put-number-requires-2 : tie.Need-put-number-requires-2
-put-number-requires-2 c κs = search needs
-
-put-byte-requires-4 : tie.Need-put-byte-requires-4
-put-byte-requires-4 c κs = search needs
-
-same-length : tie.Need-same-length
-same-length c = search needs
-
 returns : tie.Need-returns
 returns c =
-    let start = c .before .before .before .before .before .before .before .before .before .before .before .before .before .before .before .before .before .before .before .before .before .before .before .before .before in
-    let d = c .before .before .before .before .before .before .before .before .before .before .before .before .before .before .put-number in
-    let e = c .before .before .before .before .before .before .put-number2 in
-    printed-put _ _ _ _ _ _ _ _ _ _ _ _ _ _ _ _ _ (start .pre) (d .ensures .1 .1) (e .ensures .1 .1)
-    (c .before .before .before .before .before .before .before .before .before .before .before .before .before .before .before .before .before .before .before .before .before .before .put-byte .ensures) (c .before .before .before .before .before .before .before .before .before .before .before .before .before .before .before .before .before .before .put-byte2 .ensures) (d .ensures .0) (c .before .before .before .before .before .before .before .before .before .before .put-byte3 .ensures) (e .ensures .0) (c .before .before .put-byte4 .ensures)
+    let f = c .before .before in
+    let e = f .before .before .before .before in
+    let d = e .before .before .before .before in
+    let n = d .before .before .before .before in
+    let b = n .before .before .before .before in
+    let a = b .before .before .before .before in
+    printed-put _ _ _ _ _ _ _ _ _ _ _ _ _ _ _ _ _ (a .before .before .before .pre) (n .put-number .ensures .1 .1) (e .put-number2 .ensures .1 .1)
+    (a .put-byte .ensures) (b .put-byte2 .ensures) (n .put-number .ensures .0) (d .put-byte3 .ensures) (e .put-number2 .ensures .0) (f .put-byte4 .ensures)
 
 pub print-spec : {M : Type 1} → statement M
-print-spec =
-    tie.close
-    (tie.spec
-    put-byte-requires
-    put-byte-requires-2
-    put-number-requires
-    put-byte-requires-3
-    put-number-requires-2
-    put-byte-requires-4
-    same-length
-    returns)
+print-spec = tie.close (tie.spec (search needs) (search needs) (search needs) (search needs) (search needs) (search needs) (search needs) returns)

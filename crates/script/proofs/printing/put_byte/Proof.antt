@@ -5,17 +5,8 @@ use Rattle.lists.proofs.ArrayLaws.{set-put}
 use Rattle.script.proofs.printing.put_byte.Statement.{statement}
 use Rattle.script.proofs.printing.put_byte.Tie as tie
 
-slice-write-out : tie.Need-slice-write-out
-slice-write-out c = search needs
-
-add-result : tie.Need-add-result
-add-result c = search needs
-
-same-length : tie.Need-same-length
-same-length c = search needs
-
 returns : tie.Need-returns
 returns c = record { bytes = set-put _ _ _ (c .pre); position = omega arith }
 
 pub put-byte-spec : {M : Type 1} → statement M
-put-byte-spec = tie.close (tie.spec slice-write-out add-result same-length returns)
+put-byte-spec = tie.close (tie.spec (search needs) (search needs) (search needs) returns)
