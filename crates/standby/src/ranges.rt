@@ -47,7 +47,7 @@ fn detector_ok(d: Detector, watching: bool) -> bool
         & !(watching & (patience <= count))
 }
 
-// Whether the state is in its ranges.
+// Whether the state is in its ranges. The settings come first, by a return: with an S known to be at most 64 the slots' numbers are looked at where they lie, and not in a copy.
 pub fn standby_ok(s: Standby) -> bool
     ensures { λ r. ⌜ r ≡ standbyOk s ⌝ }
 {
@@ -55,8 +55,10 @@ pub fn standby_ok(s: Standby) -> bool
     let d = s.detector;
     let mode = s.mode;
     let k = s.slots;
-    settings::standby_settings_ok(g)
-        & staging::slots_ok(k, g.s, g.d)
+    if !settings::standby_settings_ok(g) {
+        return false;
+    }
+    staging::slots_ok(k, g.s, g.d)
         & (s.blocks <= g.b)
         & (s.pages <= g.m)
         & detector_ok(d, is_receiving(mode))
