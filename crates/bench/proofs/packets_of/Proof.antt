@@ -18,6 +18,9 @@ loop-holds c = search needs
 returns : tie.Need-returns Inv-loop μ-loop
 returns c = search needs
 
+cast-t8 : tie.Need-cast-t8 Inv-loop μ-loop
+cast-t8 c = search needs
+
 mul-packets : tie.Need-mul-packets Inv-loop μ-loop
 mul-packets c = search needs
 
@@ -44,6 +47,7 @@ packets-of-spec =
     μ-loop
     loop-holds
     returns
+    cast-t8
     mul-packets
     array-set-from-packets
     add-i

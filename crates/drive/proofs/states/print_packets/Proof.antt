@@ -25,6 +25,9 @@ cast-number c = search needs
 number-requires : tie.Need-number-requires Inv-loop μ-loop
 number-requires c κs = search needs
 
+cast-number-2 : tie.Need-cast-number-2 Inv-loop μ-loop
+cast-number-2 c = search needs
+
 number-requires-2 : tie.Need-number-requires-2 Inv-loop μ-loop
 number-requires-2 c κs = search needs
 
@@ -51,6 +54,7 @@ print-packets-spec =
     array-copy-out-p
     cast-number
     number-requires
+    cast-number-2
     number-requires-2
     add-i
     loop-less
