@@ -75,6 +75,16 @@ fn batch(calls: u64, f: Timed, case: &mut dyn Case) -> f64 {
     (clock::now() - began) as f64 / calls as f64
 }
 
+/// A batch on a stack that is a few hundred bytes deeper for each step, so that the steps go through a page: an array on the stack that lies across two pages takes longer to copy, and
+/// where the stack begins is chance.
+#[inline(never)]
+fn deeper(steps: usize, calls: u64, f: Timed, case: &mut dyn Case) -> f64 {
+    let room = black_box([0u8; 192]);
+    let time = if steps == 0 { batch(calls, f, case) } else { deeper(steps - 1, calls, f, case) };
+    black_box(room);
+    time
+}
+
 fn median(mut list: Vec<f64>) -> f64 {
     list.sort_by(f64::total_cmp);
     list[list.len() / 2]
@@ -87,9 +97,9 @@ fn times(case: &mut dyn Case) -> [f64; 4] {
         (BATCH / batch(3, f, case).max(1.0)).ceil() as u64
     });
     let mut lists = [const { Vec::new() }; 4];
-    for _ in 0..BATCHES {
+    for at in 0..BATCHES {
         for i in 0..4 {
-            lists[i].push(batch(calls[i], TIMED[i], case));
+            lists[i].push(deeper(at % 16, calls[i], TIMED[i], case));
         }
     }
     lists.map(median)

@@ -182,7 +182,7 @@ pub extern "C" fn bench_drain(
     last
 }
 
-// A packet in, then a packet out.
+// A packet in, then a packet out: refused where either was.
 fn packet_and_take(
     p: Primary,
     held: &mut [u8],
@@ -190,11 +190,12 @@ fn packet_and_take(
     destination: &mut [u8],
 ) -> PrimaryReply {
     let r = packet(p, held, one);
-    if r.number != 0 {
-        return r;
+    let number = r.number;
+    let mut t = take(r.state, held, destination);
+    if number != 0 {
+        t.number = number;
     }
-    let next = r.state;
-    take(next, held, destination)
+    t
 }
 
 // A packet in and a packet out, rounds times, on a primary that is alone and holds kept packets of one length: the length of the last one handed out.
