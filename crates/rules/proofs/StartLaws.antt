@@ -84,23 +84,6 @@ module _ (g : Settings) (l : StartLent) where
         area-is = eqb-true _ _ (area .1);
       }
 
-  pub start-lent-of : StartLentFacts g l → startLentOk g l ≡ true
-  unfolding startLentOk
-  start-lent-of f =
-      rw (
-        eq-eqb _ _ (f .memory-is),
-        eq-eqb _ _ (f .disk-is),
-        eq-eqb _ _ (f .dirty-is),
-        eq-eqb _ _ (f .held-is),
-        eq-eqb _ _ (f .stream-is),
-        eq-eqb _ _ (f .standby-memory-is),
-        eq-eqb _ _ (f .standby-disk-is),
-        eq-eqb _ _ (f .pages-is),
-        eq-eqb _ _ (f .marks-is),
-        eq-eqb _ _ (f .blocks-is),
-        eq-eqb _ _ (f .area-is),
-      )
-
 -- ---- what acceptance says
 pub record StartFacts (g : Settings) (l : StartLent) : Type 0 where
   pub inRange : settingsOk g ≡ true
