@@ -3,10 +3,8 @@ use Prim.Native.Nat.{ℕ, _+_}
 use mathlib.Core.Bool.{Bool, true, _&&_}
 use mathlib.Core.List.{List, [], _∷_}
 use lib.Dec.{leb, eqb}
-use lib.ListN.{take}
 use Rattle.settings.specs.Range.{mostPackets, packetLengthOk}
 use Rattle.queue.specs.declared.Packet.{Packet}
-use Rattle.queue.specs.declared.Queue.{Queue}
 use Rattle.queue.specs.declared.Seen.{Seen}
 
 abbrev pub noneSeen : Seen
@@ -20,6 +18,6 @@ unfoldable pub seenFrom : Seen → List Packet → Seen
 seenFrom s [] = s
 seenFrom s (p ∷ ps) = seenFrom (seenWith s (p .epoch) (p .length)) ps
 
--- all of the range test that needs no packet
+-- whether a queue of this count and these bytes is in range, by what was seen of all its packets
 unfoldable pub seenOk : Seen → ℕ → ℕ → ℕ → ℕ → Bool
 seenOk s count bytes epoch q = leb count mostPackets && s .ok && eqb (s .bytes) bytes && leb bytes q && leb (s .epoch) epoch

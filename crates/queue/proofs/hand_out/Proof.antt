@@ -2,7 +2,6 @@
 use borrow.Author.Needs.{needs}
 use mathlib.Core.Path.{_∙_}
 use native.Mathlib.Omega.{arith}
-use lib.ListN.{length}
 use denote.Ref.{now}
 use Rattle.lists.proofs.PartLaws.{length-part, part-zero}
 use Rattle.queue.proofs.hand_out.Statement.{statement}
