@@ -7,7 +7,7 @@ ghost use Rattle.records.specs.Kind.{PAGE, recordLength};
 ghost use Rattle.records.specs.Write.{stateRecord, commitRecord};
 ghost use Rattle.marks.specs.Mark.{countMarks};
 ghost use Rattle.pages.specs.Dirty.{dirtyRecords};
-ghost use Rattle.rules.specs.PrimaryState.{withEpoch};
+ghost use Rattle.rules.specs.PrimaryState.{withEpochBlocksWaiting};
 ghost use Rattle.rules.specs.Checkpoint.{dirtyCount, checkpointBytes, checkpointRefusal, checkpointNumber, checkpointReply, checkpointDirty, checkpointStream};
 use crate::ranges::memory_ok;
 use rules::Primary;
@@ -100,12 +100,12 @@ fn append_checkpoint(
     append_commit(stream, commit, epoch, pages, blocks)
 }
 
-fn with_epoch(p: Primary, epoch: u32, waiting: usize) -> Primary
-    ensures { λ r. ⌜ r ≡ withEpoch p epoch waiting ⌝ }
+fn with_epoch_blocks_waiting(p: Primary, epoch: u32, blocks: usize, waiting: usize) -> Primary
+    ensures { λ r. ⌜ r ≡ withEpochBlocksWaiting p epoch blocks waiting ⌝ }
 {
     let mut next = p;
     next.epoch = epoch;
-    next.blocks = 0;
+    next.blocks = blocks;
     next.waiting = waiting;
     next
 }
@@ -137,7 +137,7 @@ pub fn checkpoint(
     }
     let waiting = append_checkpoint(p, memory, dirty, stream, pages, processor);
     marks::clear(dirty, m);
-    let state = with_epoch(p, epoch + 1, waiting);
+    let state = with_epoch_blocks_waiting(p, epoch + 1, 0, waiting);
     PrimaryReply {
         state: state,
         number: 0,

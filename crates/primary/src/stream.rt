@@ -1,16 +1,12 @@
 // What leaves the primary on the link, and what comes back: drain and ACK.
 ghost use mathlib.Core.Path.{_≡_};
-ghost use mathlib.Core.Bool.{_&&_};
-ghost use mathlib.Core.List.{[], _∷_};
-ghost use lib.Dec.{ltb};
 ghost use Prim.Native.Nat.{_≤_, min};
 ghost use lib.ListN.{length, take};
 ghost use Rattle.lists.specs.Part.{put, removed};
-ghost use Rattle.lists.specs.Refusal.{test, refusal};
-ghost use Rattle.records.specs.Number.{badAck};
-ghost use Rattle.rules.specs.PrimaryState.{withWaiting, withAcknowledged};
+ghost use Rattle.lists.specs.Refusal.{refusal};
+ghost use Rattle.rules.specs.PrimaryState.{withWaiting, withAcknowledgedDetector};
 ghost use Rattle.rules.specs.Reply.{answerOf};
-ghost use Rattle.rules.specs.Stream.{drainRefusal, drainReply, drainStream, drainDestination, ackRefusal, ackJudged, ackState, ackReply};
+ghost use Rattle.rules.specs.Stream.{drainRefusal, drainReply, drainStream, drainDestination, ackTests, ackRefusal, ackJudged, ackState, ackReply};
 use crate::ranges::numbers_ok;
 use crate::ranges::primary_ok;
 use detector::Detector;
@@ -102,7 +98,7 @@ pub fn drain(p: Primary, stream: &mut [u8], n: usize, destination: &mut [u8]) ->
 
 // What an ACK of this epoch is refused with: 11.
 fn epoch_refusal(p: Primary, epoch: u32) -> u64
-    ensures { λ r. ⌜ r ≡ refusal (test badAck (ltb (p .acknowledged) epoch && ltb epoch (p .epoch)) ∷ []) ⌝ }
+    ensures { λ r. ⌜ r ≡ refusal (ackTests p epoch) ⌝ }
 {
     let acknowledged = p.acknowledged;
     let last = p.epoch;
@@ -164,8 +160,8 @@ fn ack_judged(p: Primary, bytes: &[u8]) -> Record
     r
 }
 
-fn with_acknowledged(p: Primary, acknowledged: u32, d: Detector) -> Primary
-    ensures { λ r. ⌜ r ≡ withAcknowledged p acknowledged d ⌝ }
+fn with_acknowledged_detector(p: Primary, acknowledged: u32, d: Detector) -> Primary
+    ensures { λ r. ⌜ r ≡ withAcknowledgedDetector p acknowledged d ⌝ }
 {
     let mut next = p;
     next.acknowledged = acknowledged;
@@ -196,7 +192,7 @@ fn ack_state(p: Primary, r: Record) -> Primary
             blocks: _,
             at: _,
         } => p,
-        Record::Ack { epoch, at: _ } => with_acknowledged(p, epoch, d),
+        Record::Ack { epoch, at: _ } => with_acknowledged_detector(p, epoch, d),
         Record::Short => p,
         Record::Refused { number: _ } => p,
     }

@@ -1,6 +1,6 @@
 // The primary's tick.
 ghost use mathlib.Core.Path.{_≡_};
-ghost use Rattle.rules.specs.PrimaryState.{withDetector};
+ghost use Rattle.rules.specs.PrimaryState.{withDetectorAloneWaiting};
 ghost use Rattle.rules.specs.PrimaryTick.{primaryTickRefusal, outstanding, aloneAt, primaryTickState, primaryTickReply};
 use crate::ranges::primary_ok;
 use detector::Detector;
@@ -26,8 +26,8 @@ fn outstanding(p: Primary) -> bool
     acknowledged + 1 < epoch
 }
 
-fn with_detector(p: Primary, d: Detector, alone: bool, waiting: usize) -> Primary
-    ensures { λ r. ⌜ r ≡ withDetector p d alone waiting ⌝ }
+fn with_detector_alone_waiting(p: Primary, d: Detector, alone: bool, waiting: usize) -> Primary
+    ensures { λ r. ⌜ r ≡ withDetectorAloneWaiting p d alone waiting ⌝ }
 {
     let mut next = p;
     next.detector = d;
@@ -42,9 +42,9 @@ fn alone_at(p: Primary, d: Detector) -> Primary
 {
     let waiting = p.waiting;
     if detector::expired(d) {
-        return with_detector(p, d, true, 0);
+        return with_detector_alone_waiting(p, d, true, 0);
     }
-    with_detector(p, d, false, waiting)
+    with_detector_alone_waiting(p, d, false, waiting)
 }
 
 // Once alone, a tick changes nothing.

@@ -7,7 +7,7 @@ ghost use Rattle.lists.specs.Part.{put};
 ghost use Rattle.lists.specs.Page.{withPage};
 ghost use Rattle.records.specs.Write.{blockRecord};
 ghost use Rattle.rules.specs.Common.{written};
-ghost use Rattle.rules.specs.PrimaryState.{primaryOk, withBlocks};
+ghost use Rattle.rules.specs.PrimaryState.{primaryOk, withBlocksWaiting};
 ghost use Rattle.rules.specs.PrimaryWrites.{memoryWriteRefusal, memoryWriteReply, memoryWriteMemory, memoryWriteDirty, diskWriteRefusal, diskWriteState, diskWriteReply, diskWriteDisk, diskWriteStream};
 use crate::ranges::memory_ok;
 use crate::ranges::primary_ok;
@@ -154,8 +154,8 @@ fn append_block(
     records::writing::write_block(&mut stream[waiting..], epoch, block, bytes);
 }
 
-fn with_blocks(p: Primary, blocks: usize, waiting: usize) -> Primary
-    ensures { λ r. ⌜ r ≡ withBlocks p blocks waiting ⌝ }
+fn with_blocks_waiting(p: Primary, blocks: usize, waiting: usize) -> Primary
+    ensures { λ r. ⌜ r ≡ withBlocksWaiting p blocks waiting ⌝ }
 {
     let mut next = p;
     next.blocks = blocks;
@@ -176,7 +176,7 @@ fn disk_write_state(p: Primary) -> Primary
     if alone {
         return p;
     }
-    with_blocks(p, blocks + 1, waiting + (u + 10))
+    with_blocks_waiting(p, blocks + 1, waiting + (u + 10))
 }
 
 // Stores U bytes as a block of the disk and appends a BLOCK to the stream.

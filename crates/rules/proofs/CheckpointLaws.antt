@@ -1,17 +1,15 @@
 -- Laws of the checkpoint: what acceptance says and what it needs, how many bytes are appended, and that the ranges are kept. Assumes nothing.
 use mathlib.Core.Path.{_≡_, refl, _∙_}
 use mathlib.Core.Bool.{true, _&&_}
-use mathlib.Core.List.{List, [], _∷_, _++_}
+use mathlib.Core.List.{List, _++_}
 use Prim.Native.Nat.{ℕ, _+_, _≤_, _<_}
 use native.Mathlib.Omega.{arith}
-use lib.Dec.{leb, ltb, eqb}
+use lib.Dec.{eqb}
 use lib.ListN.{length, length-append}
 use borrow.Author.Tests.{leb-true, le-leb, ltb-true, lt-ltb, eqb-true, eq-eqb}
-use Rattle.lists.specs.Refusal.{Test, test}
 use Rattle.lists.proofs.TestLaws.{both, join, accepted, accepts}
 use Rattle.records.specs.Kind.{processorBytes}
 use Rattle.records.specs.Write.{stateRecord, commitRecord}
-use Rattle.records.specs.Number.{outOfRange, wrongMode, streamFull, lastEpoch}
 use Rattle.records.proofs.FrameLaws.{length-state, length-commit}
 use Rattle.settings.specs.Range.{mostEpoch}
 use Rattle.settings.proofs.RangeLaws.{state-commit-records}
@@ -20,7 +18,7 @@ use Rattle.pages.proofs.DirtyLaws.{length-dirty}
 use Rattle.queue.proofs.QueueLaws.{queue-later}
 use Rattle.rules.specs.declared.Primary.{Primary}
 use Rattle.rules.specs.PrimaryState.{primaryOk, protected, memoryLength, marksLength}
-use Rattle.rules.specs.Checkpoint.{dirtyCount, checkpointLength, checkpointBytes, checkpointRefusal, checkpointState, checkpointReply}
+use Rattle.rules.specs.Checkpoint.{checkpointTests, dirtyCount, checkpointLength, checkpointBytes, checkpointRefusal, checkpointState, checkpointReply}
 use Rattle.rules.specs.Reached.{PrimaryReached}
 use Rattle.rules.proofs.PrimaryFacts.{primary-facts, primary-of}
 use Rattle.rules.proofs.ReplyLaws.{pick-cases}
@@ -35,18 +33,10 @@ pub record CheckpointRoom (p : Primary) (memory dirty stream pages : ℕ) : Type
   pub next : p .epoch < mostEpoch
 
 module _ (p : Primary) (memory dirty stream pages : ℕ) where
-  abbrev checkpointTests : List Test
-  checkpointTests =
-      test outOfRange (primaryOk p && eqb memory (memoryLength p) && eqb dirty (marksLength p) && eqb stream (p .settings .l))
-      ∷ test wrongMode (protected p)
-      ∷ test streamFull (leb (p .waiting + checkpointLength (p .settings .u) pages) (p .settings .l))
-      ∷ test lastEpoch (ltb (p .epoch) mostEpoch)
-      ∷ []
-
   pub checkpoint-accepted : checkpointRefusal p memory dirty stream pages ≡ 0 → CheckpointRoom p memory dirty stream pages
   unfolding checkpointRefusal
   checkpoint-accepted e =
-      let h = accepted checkpointTests refl e in
+      let h = accepted (checkpointTests p memory dirty stream pages) refl e in
       let s = both (primaryOk p && eqb memory (memoryLength p) && eqb dirty (marksLength p)) (eqb stream (p .settings .l)) (h .0) in
       let d = both (primaryOk p && eqb memory (memoryLength p)) (eqb dirty (marksLength p)) (s .0) in
       let m = both (primaryOk p) (eqb memory (memoryLength p)) (d .0) in
@@ -64,7 +54,7 @@ module _ (p : Primary) (memory dirty stream pages : ℕ) where
     pub checkpoint-accepts : checkpointRefusal p memory dirty stream pages ≡ 0
     unfolding checkpointRefusal
     checkpoint-accepts =
-        accepts checkpointTests (
+        accepts (checkpointTests p memory dirty stream pages) (
           join _ _
               (join _ _ (join _ _ (f .ok) (eq-eqb memory (memoryLength p) (f .memory-is))) (eq-eqb dirty (marksLength p) (f .dirty-is)))
               (eq-eqb stream (p .settings .l) (f .stream-is)),

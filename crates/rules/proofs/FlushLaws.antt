@@ -16,7 +16,7 @@ use Rattle.staging.specs.Fits.{FlushFits}
 use Rattle.staging.proofs.SlotLaws.{array-flushed, slots-flushed}
 use Rattle.staging.proofs.StoreLaws.{flush-fits}
 use Rattle.rules.specs.declared.Standby.{Standby}
-use Rattle.rules.specs.StandbyState.{standbyOk, diskLength, slotsLength, withSlots}
+use Rattle.rules.specs.StandbyState.{standbyOk, diskLength, slotsLength, withSlotsBlocks}
 use Rattle.rules.specs.Flush.{flushRefusal, flushReply}
 use Rattle.rules.specs.Reached.{StandbyReached}
 use Rattle.rules.proofs.StandbyFacts.{standby-tests, standby-facts, reached-slots}
@@ -56,7 +56,7 @@ flushed-counts : (s : Standby) (count : ℕ) → (flushed (s .slots) count .stag
 unfolding flushed
 flushed-counts s count = (refl, refl)
 
-pub flushed-reached : (s : Standby) (count : ℕ) → count ≤ s .slots .due → StandbyReached s → StandbyReached (withSlots s (flushed (s .slots) count) (s .blocks))
+pub flushed-reached : (s : Standby) (count : ℕ) → count ≤ s .slots .due → StandbyReached s → StandbyReached (withSlotsBlocks s (flushed (s .slots) count) (s .blocks))
 flushed-reached s count low r =
     let t = standby-tests s (r .inRange) in
     let f = standby-facts s (r .inRange) in
@@ -69,5 +69,5 @@ flushed-reached s count low r =
 pub flush-reached : (s : Standby) (slots disk n : ℕ) → StandbyReached s → StandbyReached (flushReply s slots disk n .state)
 unfolding flushReply
 flush-reached s slots disk n r =
-    pick-cases StandbyReached (flushRefusal s slots disk) (withSlots s (flushed (s .slots) (flushCount (s .slots) n)) (s .blocks)) s
+    pick-cases StandbyReached (flushRefusal s slots disk) (withSlotsBlocks s (flushed (s .slots) (flushCount (s .slots) n)) (s .blocks)) s
     (λ e. flushed-reached s (flushCount (s .slots) n) (omega arith) r) (λ e. r)

@@ -1,16 +1,15 @@
 -- What the record that a read judged has, by its kind: everything that its effects ask. Assumes nothing.
 use mathlib.Core.Path.{_≡_, refl}
 use mathlib.Core.Bool.{Bool, true, false, cond, _&&_, not}
-use mathlib.Core.List.{List, [], _∷_}
+use mathlib.Core.List.{List}
 use mathlib.Core.Logic.{⊎-elim}
 use Prim.Native.Nat.{ℕ, _+_, _≤_, _<_}
 use native.Mathlib.Omega.{arith}
-use lib.Dec.{leb, ltb, eqb}
+use lib.Dec.{leb, eqb}
 use borrow.Author.Tests.{not-true, leb-true, ltb-true, eqb-true, eq-eqb}
-use Rattle.lists.specs.Refusal.{test}
 use Rattle.lists.proofs.TestLaws.{both, join, and-false, accepted}
 use Rattle.records.specs.Kind.{PAGE, BLOCK, STATE, COMMIT, bodyLength, recordLength, processorBytes}
-use Rattle.records.specs.Number.{outOfRange, noSuchUnit, noRoom, badEpoch, outOfOrder, badCounts, wrongMode, allowanceUsed, slotsFull}
+use Rattle.records.specs.Number.{outOfRange, wrongMode}
 use Rattle.records.specs.Read.{readRecord}
 use Rattle.records.specs.declared.Cursor.{Cursor}
 use Rattle.records.specs.declared.Record.{Record}
@@ -22,7 +21,7 @@ use Rattle.rules.specs.declared.Standby.{Standby}
 use Rattle.rules.specs.declared.ReadLent.{ReadLent}
 use Rattle.rules.specs.StandbyState.{isReceiving, standbyOk, memoryLength, marksLength, slotsLength}
 use Rattle.rules.specs.Reply.{unlessRefused}
-use Rattle.rules.specs.Judge.{readLentOk, isNext, pageRefusal, blockRefusal, stateRefusal, commitRefusal, recordRefusal, judged}
+use Rattle.rules.specs.Judge.{pageTests, blockTests, stateTests, commitTests, readLentOk, pageRefusal, blockRefusal, stateRefusal, commitRefusal, recordRefusal, judged}
 use Rattle.rules.proofs.ReplyLaws.{unless-cases}
 
 -- ---- "Lent lengths are exact"
@@ -53,12 +52,14 @@ pub record PageTests (s : Standby) (e p : ℕ) : Type 0 where
   pub page-low : p < s .settings .m
   pub epoch-next : e ≡ s .received + 1
   pub rising : s .next ≤ p
+  pub not-below : s .pages ≤ p
   pub before-state : s .seen ≡ false
 
 pub record BlockTests (s : Standby) (e n : ℕ) : Type 0 where
   pub block-low : n < s .settings .d
   pub epoch-next : e ≡ s .received + 1
   pub before-pages : s .next ≡ 0
+  pub no-pages : s .pages ≡ 0
   pub before-state : s .seen ≡ false
   pub allowed : s .blocks < s .settings .b
   pub slot-free : 0 < freeSlots (s .slots) (s .settings .s)
@@ -78,28 +79,22 @@ module _ (s : Standby) where
   pub page-accepted : (e p : ℕ) → pageRefusal s e p ≡ 0 → PageTests s e p
   unfolding pageRefusal
   page-accepted e p z =
-      let a = accepted
-      (test noSuchUnit (ltb p (s .settings .m)) ∷ test badEpoch (isNext s e) ∷ test outOfOrder (leb (s .next) p && not (s .seen)) ∷ [])
-      refl z in
-      let o = both (leb (s .next) p) (not (s .seen)) (a .1 .1 .0) in
-      record { page-low = ltb-true _ _ (a .0); epoch-next = eqb-true _ _ (a .1 .0); rising = leb-true _ _ (o .0); before-state = not-true (s .seen) (o .1) }
+      let a = accepted (pageTests s e p) refl z in
+      let o = both (leb (s .next) p && leb (s .pages) p) (not (s .seen)) (a .1 .1 .0) in
+      let r = both (leb (s .next) p) (leb (s .pages) p) (o .0) in
+      record { page-low = ltb-true _ _ (a .0); epoch-next = eqb-true _ _ (a .1 .0); rising = leb-true _ _ (r .0); not-below = leb-true _ _ (r .1); before-state = not-true (s .seen) (o .1) }
 
   pub block-accepted : (e n : ℕ) → blockRefusal s e n ≡ 0 → BlockTests s e n
   unfolding blockRefusal
   block-accepted e n z =
-      let a = accepted
-      (test noSuchUnit (ltb n (s .settings .d))
-      ∷ test badEpoch (isNext s e)
-      ∷ test outOfOrder (eqb (s .next) 0 && not (s .seen))
-      ∷ test allowanceUsed (ltb (s .blocks) (s .settings .b))
-      ∷ test slotsFull (ltb 0 (freeSlots (s .slots) (s .settings .s)))
-      ∷ [])
-      refl z in
-      let o = both (eqb (s .next) 0) (not (s .seen)) (a .1 .1 .0) in
+      let a = accepted (blockTests s e n) refl z in
+      let o = both (eqb (s .next) 0 && eqb (s .pages) 0) (not (s .seen)) (a .1 .1 .0) in
+      let r = both (eqb (s .next) 0) (eqb (s .pages) 0) (o .0) in
       record {
         block-low = ltb-true _ _ (a .0);
         epoch-next = eqb-true _ _ (a .1 .0);
-        before-pages = eqb-true _ _ (o .0);
+        before-pages = eqb-true _ _ (r .0);
+        no-pages = eqb-true _ _ (r .1);
         before-state = not-true (s .seen) (o .1);
         allowed = ltb-true _ _ (a .1 .1 .1 .0);
         slot-free = ltb-true _ _ (a .1 .1 .1 .1 .0);
@@ -108,15 +103,13 @@ module _ (s : Standby) where
   pub state-accepted : (e : ℕ) → stateRefusal s e ≡ 0 → StateTests s e
   unfolding stateRefusal
   state-accepted e z =
-      let a = accepted (test badEpoch (isNext s e) ∷ test outOfOrder (not (s .seen)) ∷ []) refl z in
+      let a = accepted (stateTests s e) refl z in
       record { epoch-next = eqb-true _ _ (a .0); first = not-true (s .seen) (a .1 .0) }
 
   pub commit-accepted : (reply e p b : ℕ) → commitRefusal s reply e p b ≡ 0 → CommitTests s reply e p b
   unfolding commitRefusal recordLength bodyLength
   commit-accepted reply e p b z =
-      let a = accepted
-      (test noRoom (leb 8 reply) ∷ test badEpoch (isNext s e) ∷ test outOfOrder (s .seen) ∷ test badCounts (eqb p (s .pages) && eqb b (s .blocks)) ∷ [])
-      refl z in
+      let a = accepted (commitTests s reply e p b) refl z in
       let n = both (eqb p (s .pages)) (eqb b (s .blocks)) (a .1 .1 .1 .0) in
       record {
         room = leb-true _ _ (a .0);

@@ -1,22 +1,20 @@
 -- Laws of packet and take: what acceptance says, the release rule, and that the ranges are kept. Assumes nothing.
 use mathlib.Core.Path.{_≡_, refl, sym}
-use mathlib.Core.Bool.{Bool, true, false, _&&_, _||_}
+use mathlib.Core.Bool.{Bool, true, false, _||_}
 use mathlib.Core.Logic.{_⊎_, inl, inr, ⊎-elim}
-use mathlib.Core.List.{List, [], _∷_}
 use Prim.Native.Nat.{ℕ, _+_, _≤_, _<_}
 use lib.Dec.{leb, ltb, eqb}
 use lib.ListN.{length}
 use borrow.Author.Tests.{leb-true, ltb-true, eqb-true, le-leb, lt-ltb, eq-eqb}
-use Rattle.lists.specs.Refusal.{Test, test}
 use Rattle.lists.proofs.TestLaws.{both, join, refuted, within-facts, within-of, accepted, accepts}
-use Rattle.records.specs.Number.{outOfRange, badPacket, noRoom, queueFull, nothingFree}
-use Rattle.settings.specs.Range.{mostPackets, mostPacketBytes, packetLengthOk}
+use Rattle.records.specs.Number.{nothingFree}
+use Rattle.settings.specs.Range.{mostPackets, mostPacketBytes}
 use Rattle.queue.specs.declared.Queue.{Queue}
-use Rattle.queue.specs.Held.{oldest, queueOk, hasSpace, added, withoutOldest}
+use Rattle.queue.specs.Held.{oldest, queueOk, added, withoutOldest}
 use Rattle.queue.proofs.QueueLaws.{space-facts, space-of, array-added, queue-added, array-removed, queue-removed}
 use Rattle.rules.specs.declared.Primary.{Primary}
 use Rattle.rules.specs.PrimaryState.{primaryOk, withQueue}
-use Rattle.rules.specs.Packets.{packetRefusal, packetReply, mayLeave, takeRefusal, takeReply}
+use Rattle.rules.specs.Packets.{packetTests, takeTests, packetRefusal, packetReply, mayLeave, takeRefusal, takeReply}
 use Rattle.rules.specs.Reached.{PrimaryReached}
 use Rattle.rules.proofs.PrimaryFacts.{primary-facts, primary-of}
 use Rattle.rules.proofs.ReplyLaws.{pick-cases}
@@ -31,13 +29,10 @@ pub record PacketFacts (p : Primary) (held n : ℕ) : Type 0 where
   pub bytes-fit : p .queue .bytes + n ≤ p .settings .q
 
 module _ (p : Primary) (held n : ℕ) where
-  abbrev packetTests : List Test
-  packetTests = test outOfRange (primaryOk p && eqb held (p .settings .q)) ∷ test badPacket (packetLengthOk n) ∷ test queueFull (hasSpace (p .queue) (p .settings .q) n) ∷ []
-
   pub packet-accepted : packetRefusal p held n ≡ 0 → PacketFacts p held n
   unfolding packetRefusal
   packet-accepted e =
-      let h = accepted packetTests refl e in
+      let h = accepted (packetTests p held n) refl e in
       let r = both (primaryOk p) (eqb held (p .settings .q)) (h .0) in
       let l = within-facts 1 mostPacketBytes n (h .1 .0) in
       let s = space-facts (p .queue) (p .settings .q) n (h .1 .1 .0) in
@@ -46,7 +41,7 @@ module _ (p : Primary) (held n : ℕ) where
   pub packet-accepts : PacketFacts p held n → packetRefusal p held n ≡ 0
   unfolding packetRefusal
   packet-accepts f =
-      accepts packetTests (
+      accepts (packetTests p held n) (
         join (primaryOk p) (eqb held (p .settings .q)) (f .ok) (eq-eqb held (p .settings .q) (f .held-is)),
         (within-of 1 mostPacketBytes n (f .length-low) (f .length-high), (space-of (p .queue) (p .settings .q) n (f .count-low) (f .bytes-fit), tt)),
       )
@@ -92,13 +87,10 @@ module _ (p : Primary) where
       (⊎-elim (λ a. left-or (p .alone) t a) (λ a. right-or (p .alone) t (le-leb (oldest (p .queue) .epoch) (p .acknowledged) a)) (f .free))
 
 module _ (p : Primary) (held destination : ℕ) where
-  abbrev takeTests : List Test
-  takeTests = test outOfRange (primaryOk p && eqb held (p .settings .q)) ∷ test nothingFree (mayLeave p) ∷ test noRoom (leb (oldest (p .queue) .length) destination) ∷ []
-
   pub take-accepted : takeRefusal p held destination ≡ 0 → TakeFacts p held destination
   unfolding takeRefusal
   take-accepted e =
-      let h = accepted takeTests refl e in
+      let h = accepted (takeTests p held destination) refl e in
       let r = both (primaryOk p) (eqb held (p .settings .q)) (h .0) in
       record {
         ok = r .0;
@@ -110,7 +102,7 @@ module _ (p : Primary) (held destination : ℕ) where
   pub take-accepts : TakeFacts p held destination → takeRefusal p held destination ≡ 0
   unfolding takeRefusal
   take-accepts f =
-      accepts takeTests (
+      accepts (takeTests p held destination) (
         join (primaryOk p) (eqb held (p .settings .q)) (f .ok) (eq-eqb held (p .settings .q) (f .held-is)),
         (may-leave-of p (f .released), (le-leb (oldest (p .queue) .length) destination (f .room), tt)),
       )

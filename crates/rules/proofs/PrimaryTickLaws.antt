@@ -8,7 +8,7 @@ use borrow.Author.Tests.{not-true, le-leb, lt-leb}
 use Rattle.detector.specs.Tick.{withCount, reset, expired, ticked}
 use Rattle.detector.proofs.TickLaws.{ticked-counts, ticked-rests}
 use Rattle.rules.specs.declared.Primary.{Primary}
-use Rattle.rules.specs.PrimaryState.{protected, withDetector}
+use Rattle.rules.specs.PrimaryState.{protected, withDetectorAloneWaiting}
 use Rattle.rules.specs.PrimaryTick.{primaryTickRefusal, outstanding, aloneAt, primaryTickState, primaryTickReply}
 use Rattle.rules.specs.Reached.{PrimaryReached}
 use Rattle.rules.proofs.DetectorFacts.{ticked-facts}
@@ -31,21 +31,21 @@ module _ (p : Primary) where
     not-expired = lt-leb (p .detector .patience) (p .detector .count) below
 
     -- "and while nothing is outstanding": the count is 0
-    pub tick-rests : outstanding p ≡ false → primaryTickState p ≡ withDetector p (reset (p .detector)) false (p .waiting)
+    pub tick-rests : outstanding p ≡ false → primaryTickState p ≡ withDetectorAloneWaiting p (reset (p .detector)) false (p .waiting)
     tick-rests o =
         tick-protected on
         ∙ rw (o, ticked-rests (p .detector) not-expired, lt-leb (p .detector .patience) 0 (omega arith))
 
     -- "counts while a closed epoch is unacknowledged"
     pub tick-counts : outstanding p ≡ true → p .detector .count + 1 < p .detector .patience
-        → primaryTickState p ≡ withDetector p (withCount (p .detector) (p .detector .count + 1)) false (p .waiting)
+        → primaryTickState p ≡ withDetectorAloneWaiting p (withCount (p .detector) (p .detector .count + 1)) false (p .waiting)
     tick-counts o h =
         tick-protected on
         ∙ rw (o, ticked-counts (p .detector) not-expired, lt-leb (p .detector .patience) (p .detector .count + 1) h)
 
     -- "At T the primary is alone: the waiting stream is dropped"
     pub tick-leaves : outstanding p ≡ true → p .detector .patience ≤ p .detector .count + 1
-        → primaryTickState p ≡ withDetector p (withCount (p .detector) (p .detector .count + 1)) true 0
+        → primaryTickState p ≡ withDetectorAloneWaiting p (withCount (p .detector) (p .detector .count + 1)) true 0
     tick-leaves o h =
         tick-protected on
         ∙ rw (o, ticked-counts (p .detector) not-expired, le-leb (p .detector .patience) (p .detector .count + 1) h)
@@ -53,11 +53,11 @@ module _ (p : Primary) where
 -- ---- what a tick leaves is reached
 module _ (p : Primary) (r : PrimaryReached p) where
   watched-reached : (alone : Bool) (waiting : ℕ) → waiting ≤ p .waiting → (alone ≡ false → expired (ticked (p .detector) (outstanding p)) ≡ false)
-      → PrimaryReached (withDetector p (ticked (p .detector) (outstanding p)) alone waiting)
+      → PrimaryReached (withDetectorAloneWaiting p (ticked (p .detector) (outstanding p)) alone waiting)
   watched-reached alone waiting h below =
       let f = primary-facts p (r .inRange) in
       record {
-        inRange = primary-of (withDetector p (ticked (p .detector) (outstanding p)) alone waiting)
+        inRange = primary-of (withDetectorAloneWaiting p (ticked (p .detector) (outstanding p)) alone waiting)
             (record {
               settings = f .settings;
               queue = f .queue;
@@ -74,7 +74,7 @@ module _ (p : Primary) (r : PrimaryReached p) where
   tick-state-reached = go (p .alone) (expired (ticked (p .detector) (outstanding p))) refl
     where
       go : (a x : Bool) → expired (ticked (p .detector) (outstanding p)) ≡ x
-          → PrimaryReached (cond a p (cond x (withDetector p (ticked (p .detector) (outstanding p)) true 0) (withDetector p (ticked (p .detector) (outstanding p)) false (p .waiting))))
+          → PrimaryReached (cond a p (cond x (withDetectorAloneWaiting p (ticked (p .detector) (outstanding p)) true 0) (withDetectorAloneWaiting p (ticked (p .detector) (outstanding p)) false (p .waiting))))
       go true x e = r
       go false true e = watched-reached true 0 (omega arith) (λ w. absurd (true≢false w))
       go false false e = watched-reached false (p .waiting) (le-refl (p .waiting)) (λ w. e)

@@ -17,7 +17,7 @@ use Rattle.staging.proofs.SlotLaws.{array-with-block, slots-with-block, slots-a
 use Rattle.detector.specs.Tick.{reset}
 use Rattle.rules.specs.declared.Standby.{Standby}
 use Rattle.rules.specs.declared.ReadLent.{ReadLent}
-use Rattle.rules.specs.StandbyState.{isReceiving, withPages, withSlots, withState, withDetector}
+use Rattle.rules.specs.StandbyState.{isReceiving, withPagesNext, withSlotsBlocks, withPendingSeen, withDetector}
 use Rattle.rules.specs.Reply.{numberOf, valueOf, usedOf, answerOf}
 use Rattle.rules.specs.Judge.{judged}
 use Rattle.rules.specs.Read.{bytesAt, sealedState, installedState, readState, memoryAfter, stagedPagesAfter, stagedMarksAfter, stagedBlocksAfter, replyAfter, readReply}
@@ -34,14 +34,14 @@ bytes-length c bytes size span inside =
 
 -- ---- the state stays reached, by the record that is accepted
 module _ (s : Standby) (h : StandbyReached s) where
-  pub page-reached : (e p : ℕ) → PageTests s e p → StandbyReached (withPages s (s .pages + 1) (p + 1))
+  pub page-reached : (e p : ℕ) → PageTests s e p → StandbyReached (withPagesNext s (s .pages + 1) (p + 1))
   page-reached e p f =
       let t = standby-tests s (h .inRange) in
       let a = f .rising in
       let b = f .page-low in
       let k = h .pagesBelow in
       record {
-        inRange = standby-tested (withPages s (s .pages + 1) (p + 1))
+        inRange = standby-tested (withPagesNext s (s .pages + 1) (p + 1))
             (record { settings-ok = t .settings-ok; slots-ok = t .slots-ok; blocks-high = t .blocks-high; pages-high = omega arith; detector-ok = t .detector-ok });
         numbers = h .numbers;
         stagedProcessor = h .stagedProcessor;
@@ -51,7 +51,7 @@ module _ (s : Standby) (h : StandbyReached s) where
         notDue = h .notDue;
       }
 
-  pub block-reached : (e n : ℕ) → BlockTests s e n → StandbyReached (withSlots s (withBlock (s .slots) n) (s .blocks + 1))
+  pub block-reached : (e n : ℕ) → BlockTests s e n → StandbyReached (withSlotsBlocks s (withBlock (s .slots) n) (s .blocks + 1))
   unfolding withBlock
   block-reached e n f =
       let t = standby-tests s (h .inRange) in
@@ -63,11 +63,11 @@ module _ (s : Standby) (h : StandbyReached s) where
       (slots-with-block (s .slots) (s .settings .s) (s .settings .d) (h .numbers) (g .settings .slots .s-high) n (t .slots-ok) (f .slot-free) (f .block-low))
       (array-with-block (s .slots) (h .numbers) n) (omega arith) (omega arith)
 
-  pub state-reached : (processor : List ℕ) → length processor ≡ processorBytes → StandbyReached (withState s processor)
+  pub state-reached : (processor : List ℕ) → length processor ≡ processorBytes → StandbyReached (withPendingSeen s processor)
   state-reached processor size =
       let t = standby-tests s (h .inRange) in
       record {
-        inRange = standby-tested (withState s processor)
+        inRange = standby-tested (withPendingSeen s processor)
             (record { settings-ok = t .settings-ok; slots-ok = t .slots-ok; blocks-high = t .blocks-high; pages-high = t .pages-high; detector-ok = t .detector-ok });
         numbers = h .numbers;
         stagedProcessor = size;

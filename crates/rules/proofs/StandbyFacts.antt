@@ -13,7 +13,7 @@ use Rattle.staging.specs.Slot.{slotsOk}
 use Rattle.staging.proofs.SlotLaws.{SlotsTests, slots-tests}
 use Rattle.rules.specs.declared.Standby.{Standby}
 use Rattle.rules.specs.Common.{detectorOk}
-use Rattle.rules.specs.StandbyState.{isReceiving, standbyOk, withSlots}
+use Rattle.rules.specs.StandbyState.{isReceiving, standbyOk, withSlotsBlocks}
 use Rattle.rules.specs.Reached.{StandbyReached}
 use Rattle.rules.proofs.DetectorFacts.{DetectorFacts, detector-facts}
 
@@ -71,11 +71,11 @@ module _ (s : Standby) where
 
 -- ---- the staged blocks and the epoch's count of them replaced: the state stays reached
 pub reached-slots : (s : Standby) → StandbyReached s → (slots : Slots) (blocks : ℕ) → slotsOk slots (s .settings .s) (s .settings .d) ≡ true → length (slots .numbers) ≡ mostSlots
-    → blocks ≤ s .settings .b → blocks ≡ slots .staged - slots .due → StandbyReached (withSlots s slots blocks)
+    → blocks ≤ s .settings .b → blocks ≡ slots .staged - slots .due → StandbyReached (withSlotsBlocks s slots blocks)
 reached-slots s r slots blocks ok array high e =
     let f = standby-tests s (r .inRange) in
     record {
-      inRange = standby-tested (withSlots s slots blocks)
+      inRange = standby-tested (withSlotsBlocks s slots blocks)
           (record { settings-ok = f .settings-ok; slots-ok = ok; blocks-high = high; pages-high = f .pages-high; detector-ok = f .detector-ok });
       numbers = array;
       stagedProcessor = r .stagedProcessor;

@@ -1,14 +1,13 @@
 -- Laws of start: what acceptance says, by name, and back; an accepted start gives states that are reached, and on those that a
 -- refused one gives every call is refused with 1. Assumes nothing.
 use mathlib.Core.Path.{_≡_, refl, sym, _∙_}
-use mathlib.Core.Bool.{true, false, _&&_}
-use mathlib.Core.List.{List, [], _∷_}
+use mathlib.Core.Bool.{true, false}
+use mathlib.Core.List.{List}
 use Prim.Native.Nat.{ℕ, _*_}
 use native.Mathlib.Omega.{arith}
 use lib.Dec.{eqb}
 use lib.ListN.{length}
 use borrow.Author.Tests.{eqb-true, ne-eqb}
-use Rattle.lists.specs.Refusal.{test}
 use Rattle.lists.proofs.TestLaws.{both, accepted}
 use Rattle.records.specs.Kind.{processorBytes, unitOk}
 use Rattle.records.specs.Number.{outOfRange}
@@ -25,7 +24,7 @@ use Rattle.rules.specs.declared.StartLent.{StartLent}
 use Rattle.rules.specs.PrimaryState.{primaryOk}
 use Rattle.rules.specs.StandbyState.{standbyOk}
 use Rattle.rules.specs.Reached.{PrimaryReached, StandbyReached}
-use Rattle.rules.specs.Start.{startLentOk, startRefusal, openedPrimary, openedStandby, noPrimary, noStandby, started}
+use Rattle.rules.specs.Start.{startTests, startLentOk, startRefusal, openedPrimary, openedStandby, noPrimary, noStandby, started}
 use Rattle.rules.specs.PrimaryWrites.{memoryWriteRefusal, memoryWriteReply, diskWriteRefusal, diskWriteReply}
 use Rattle.rules.specs.Packets.{packetRefusal, packetReply, takeRefusal, takeReply}
 use Rattle.rules.specs.Checkpoint.{checkpointRefusal, checkpointReply}
@@ -92,7 +91,7 @@ pub record StartFacts (g : Settings) (l : StartLent) : Type 0 where
 pub start-accepted : (g : Settings) (l : StartLent) → startRefusal g l ≡ 0 → StartFacts g l
 unfolding startRefusal
 start-accepted g l e =
-    let h = accepted (test outOfRange (settingsOk g && startLentOk g l) ∷ []) refl e in
+    let h = accepted (startTests g l) refl e in
     let r = both (settingsOk g) (startLentOk g l) (h .0) in
     record { inRange = r .0; lent = start-lent-facts g l (r .1) }
 

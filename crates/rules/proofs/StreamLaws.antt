@@ -1,24 +1,23 @@
 -- Laws of drain and ACK: what acceptance says, each answer of the judged ACK, and that the ranges are kept. Assumes nothing.
 use mathlib.Core.Path.{_≡_, refl}
-use mathlib.Core.Bool.{Bool, true, false, cond, _&&_}
-use mathlib.Core.List.{List, [], _∷_}
+use mathlib.Core.Bool.{Bool, true, false, cond}
+use mathlib.Core.List.{List}
 use Prim.Native.Nat.{ℕ, _-_, _<_}
 use native.Mathlib.Omega.{arith}
 use lib.Dec.{ltb, eqb}
 use borrow.Author.Tests.{ltb-true, eqb-true}
-use Rattle.lists.specs.Refusal.{test}
 use Rattle.lists.proofs.TestLaws.{both, accepted}
 use Rattle.records.specs.declared.Cursor.{Cursor}
 use Rattle.records.specs.declared.Record.{Record}
 use Rattle.records.specs.declared.Record.the-variants.{Page, Block, State, Commit, Ack, Short, Refused}
 use Rattle.records.specs.declared.Reader.the-variants as reader
 use Rattle.records.specs.Read.{readRecord}
-use Rattle.records.specs.Number.{outOfRange, wrongMode, badAck}
+use Rattle.records.specs.Number.{outOfRange, wrongMode}
 use Rattle.detector.specs.Tick.{reset}
 use Rattle.rules.specs.declared.Primary.{Primary}
-use Rattle.rules.specs.PrimaryState.{primaryOk, protected, withWaiting, withAcknowledged}
+use Rattle.rules.specs.PrimaryState.{primaryOk, protected, withWaiting, withAcknowledgedDetector}
 use Rattle.rules.specs.Reply.{unlessRefused}
-use Rattle.rules.specs.Stream.{drainRefusal, drainCount, drainReply, ackRefusal, ackJudged, ackState, ackReply}
+use Rattle.rules.specs.Stream.{drainTests, ackTests, drainRefusal, drainCount, drainReply, ackRefusal, ackJudged, ackState, ackReply}
 use Rattle.rules.specs.Reached.{PrimaryReached}
 use Rattle.rules.proofs.DetectorFacts.{reset-facts}
 use Rattle.rules.proofs.PrimaryFacts.{primary-facts, primary-of}
@@ -33,7 +32,7 @@ module _ (p : Primary) (stream : ℕ) where
   pub drain-accepted : drainRefusal p stream ≡ 0 → DrainFacts p stream
   unfolding drainRefusal
   drain-accepted e =
-      let h = accepted (test outOfRange (primaryOk p && eqb stream (p .settings .l)) ∷ []) refl e in
+      let h = accepted (drainTests p stream) refl e in
       let r = both (primaryOk p) (eqb stream (p .settings .l)) (h .0) in
       record { ok = r .0; stream-is = eqb-true stream (p .settings .l) (r .1) }
 
@@ -60,7 +59,7 @@ module _ (p : Primary) where
   -- an ACK's own refusal
   pub ack-epochs : (e : ℕ) (c : Cursor) → ackRefusal p (Ack e c) ≡ 0 → (p .acknowledged < e) × (e < p .epoch)
   ack-epochs e c z =
-      let h = accepted (test badAck (ltb (p .acknowledged) e && ltb e (p .epoch)) ∷ []) refl z in
+      let h = accepted (ackTests p e) refl z in
       let b = both (ltb (p .acknowledged) e) (ltb e (p .epoch)) (h .0) in
       (ltb-true (p .acknowledged) e (b .0), ltb-true e (p .epoch) (b .1))
 
@@ -122,11 +121,11 @@ module _ (p : Primary) where
   drain-reached stream n destination r =
       pick-cases PrimaryReached (drainRefusal p stream) (withWaiting p (p .waiting - drainCount p n destination)) p (λ e. drain-state-reached n destination r) (λ e. r)
 
-  pub ack-state-reached : (e : ℕ) → AckFacts p e → PrimaryReached p → PrimaryReached (withAcknowledged p e (reset (p .detector)))
+  pub ack-state-reached : (e : ℕ) → AckFacts p e → PrimaryReached p → PrimaryReached (withAcknowledgedDetector p e (reset (p .detector)))
   ack-state-reached e a r =
       let f = primary-facts p (a .ok) in
       record {
-        inRange = primary-of (withAcknowledged p e (reset (p .detector)))
+        inRange = primary-of (withAcknowledgedDetector p e (reset (p .detector)))
             (record {
               settings = f .settings;
               queue = f .queue;

@@ -1,17 +1,14 @@
 -- Laws of the standby's tick, of activation and of the guest's writes: what acceptance says, the tick by cases, and that what holds of a state reached
 -- holds after each of them. Assumes nothing.
 use mathlib.Core.Path.{_≡_, refl, ap, _∙_}
-use mathlib.Core.Bool.{Bool, true, false, _&&_, cond, false≢true}
-use mathlib.Core.List.{List, [], _∷_}
+use mathlib.Core.Bool.{Bool, true, false, cond, false≢true}
 use Prim.Native.Nat.{ℕ, _+_, _≤_, _<_}
 use native.Mathlib.Omega.{arith}
-use lib.Dec.{leb, ltb, eqb}
+use lib.Dec.{leb, eqb}
 use lib.ListN.{length}
 use borrow.Author.Tests.{eqb-true, eq-eqb, ltb-true, leb-true}
-use Rattle.lists.specs.Refusal.{Test, test}
 use Rattle.lists.proofs.TestLaws.{both, join, accepted, accepts}
 use Rattle.records.specs.Area.{areaLength}
-use Rattle.records.specs.Number.{outOfRange, noSuchUnit, badSize, wrongMode, blocksDue}
 use Rattle.staging.specs.Slot.{onlyDue}
 use Rattle.staging.proofs.SlotLaws.{numbers-only-due, slots-only-due}
 use Rattle.detector.specs.declared.Detector.{Detector}
@@ -21,7 +18,7 @@ use Rattle.rules.specs.declared.Mode.the-variants.{TakingOver, Active}
 use Rattle.rules.specs.declared.Standby.{Standby}
 use Rattle.rules.specs.Common.{detectorOk, insidePage}
 use Rattle.rules.specs.StandbyState.{standbyOk, isReceiving, isTakingOver, isActive, memoryLength, diskLength, marksLength, withDetector, withMode}
-use Rattle.rules.specs.Takeover.{standbyTickRefusal, dropped, takesOver, standbyTickState, standbyTickReply, activationRefusal, activationReply, activeMemoryWriteRefusal, activeMemoryWriteReply, activeDiskWriteRefusal, activeDiskWriteReply}
+use Rattle.rules.specs.Takeover.{standbyTickTests, activationTests, activeWriteTests, standbyTickRefusal, dropped, takesOver, standbyTickState, standbyTickReply, activationRefusal, activationReply, activeMemoryWriteRefusal, activeMemoryWriteReply, activeDiskWriteRefusal, activeDiskWriteReply}
 use Rattle.rules.specs.Reached.{StandbyReached}
 use Rattle.rules.proofs.DetectorFacts.{detector-of, ticked-facts}
 use Rattle.rules.proofs.StandbyFacts.{standby-tests, standby-tested, standby-facts}
@@ -35,7 +32,7 @@ pub record TickAccepted (s : Standby) (marks : ℕ) : Type 0 where
 pub tick-accepts : (s : Standby) (marks : ℕ) → TickAccepted s marks → standbyTickRefusal s marks ≡ 0
 unfolding standbyTickRefusal
 tick-accepts s marks f =
-    accepts (test outOfRange (standbyOk s && eqb marks (marksLength s)) ∷ []) (join _ _ (f .inRange) (eq-eqb marks (marksLength s) (f .marksLent)), tt)
+    accepts (standbyTickTests s marks) (join _ _ (f .inRange) (eq-eqb marks (marksLength s) (f .marksLent)), tt)
 
 pub record ActivationAccepted (s : Standby) (area : ℕ) : Type 0 where
   pub inRange : standbyOk s ≡ true
@@ -44,20 +41,17 @@ pub record ActivationAccepted (s : Standby) (area : ℕ) : Type 0 where
   pub noneDue : s .slots .due ≡ 0
 
 module _ (s : Standby) (area : ℕ) where
-  abbrev activationTests : List Test
-  activationTests = test outOfRange (standbyOk s && eqb area areaLength) ∷ test wrongMode (isTakingOver (s .mode)) ∷ test blocksDue (eqb (s .slots .due) 0) ∷ []
-
   pub activation-accepted : activationRefusal s area ≡ 0 → ActivationAccepted s area
   unfolding activationRefusal
   activation-accepted e =
-      let t = accepted activationTests refl e in
+      let t = accepted (activationTests s area) refl e in
       let k = both (standbyOk s) (eqb area areaLength) (t .0) in
       record { inRange = k .0; areaLent = eqb-true area areaLength (k .1); takingOver = t .1 .0; noneDue = eqb-true (s .slots .due) 0 (t .1 .1 .0) }
 
   pub activation-accepts : ActivationAccepted s area → activationRefusal s area ≡ 0
   unfolding activationRefusal
   activation-accepts f =
-      accepts activationTests (join _ _ (f .inRange) (eq-eqb area areaLength (f .areaLent)), (f .takingOver, (eq-eqb (s .slots .due) 0 (f .noneDue), tt)))
+      accepts (activationTests s area) (join _ _ (f .inRange) (eq-eqb area areaLength (f .areaLent)), (f .takingOver, (eq-eqb (s .slots .due) 0 (f .noneDue), tt)))
 
 pub record ActiveMemoryWriteAccepted (s : Standby) (memory page offset n : ℕ) : Type 0 where
   pub inRange : standbyOk s ≡ true
@@ -70,13 +64,7 @@ pub record ActiveMemoryWriteAccepted (s : Standby) (memory page offset n : ℕ) 
 pub active-memory-write-accepted : (s : Standby) (memory page offset n : ℕ) → activeMemoryWriteRefusal s memory page offset n ≡ 0 → ActiveMemoryWriteAccepted s memory page offset n
 unfolding activeMemoryWriteRefusal
 active-memory-write-accepted s memory page offset n e =
-    let t = accepted
-    (test outOfRange (standbyOk s && eqb memory (memoryLength s))
-    ∷ test wrongMode (isActive (s .mode))
-    ∷ test noSuchUnit (ltb page (s .settings .m))
-    ∷ test badSize (insidePage (s .settings .u) offset n)
-    ∷ [])
-    refl e in
+    let t = accepted (activeWriteTests s memory (s .settings .m) page (insidePage (s .settings .u) offset n)) refl e in
     let k = both (standbyOk s) (eqb memory (memoryLength s)) (t .0) in
     let i = both (leb 1 n) (leb (offset + n) (s .settings .u)) (t .1 .1 .1 .0) in
     record {
@@ -98,13 +86,7 @@ pub record ActiveDiskWriteAccepted (s : Standby) (disk block n : ℕ) : Type 0 w
 pub active-disk-write-accepted : (s : Standby) (disk block n : ℕ) → activeDiskWriteRefusal s disk block n ≡ 0 → ActiveDiskWriteAccepted s disk block n
 unfolding activeDiskWriteRefusal
 active-disk-write-accepted s disk block n e =
-    let t = accepted
-    (test outOfRange (standbyOk s && eqb disk (diskLength s))
-    ∷ test wrongMode (isActive (s .mode))
-    ∷ test noSuchUnit (ltb block (s .settings .d))
-    ∷ test badSize (eqb n (s .settings .u))
-    ∷ [])
-    refl e in
+    let t = accepted (activeWriteTests s disk (s .settings .d) block (eqb n (s .settings .u))) refl e in
     let k = both (standbyOk s) (eqb disk (diskLength s)) (t .0) in
     record {
       inRange = k .0;

@@ -1,20 +1,17 @@
 -- Laws of the guest's writes at the primary: what acceptance says, what a disk write needs, and that the ranges are kept. Assumes nothing.
 use mathlib.Core.Path.{_≡_, refl}
 use mathlib.Core.Bool.{Bool, true, false, cond, _&&_, _||_, true≢false}
-use mathlib.Core.List.{List, [], _∷_}
 use Prim.Native.Nat.{ℕ, _+_, _*_, _≤_, _<_}
 use native.Mathlib.Omega.{arith}
-use lib.Dec.{leb, ltb, eqb}
+use lib.Dec.{leb, eqb}
 use borrow.Author.Tests.{leb-true, le-leb, ltb-true, lt-ltb, eqb-true, eq-eqb}
-use Rattle.lists.specs.Refusal.{Test, test}
+use Rattle.lists.specs.Refusal.{test}
 use Rattle.lists.proofs.TestLaws.{both, join, accepted, accepts}
 use Rattle.lists.proofs.PageLaws.{page-end}
 use Rattle.records.specs.Kind.{BLOCK, recordLength}
-use Rattle.records.specs.Number.{outOfRange, noSuchUnit, badSize, allowanceUsed, streamFull}
 use Rattle.rules.specs.declared.Primary.{Primary}
-use Rattle.rules.specs.Common.{insidePage}
-use Rattle.rules.specs.PrimaryState.{primaryOk, memoryLength, diskLength, marksLength, withBlocks}
-use Rattle.rules.specs.PrimaryWrites.{memoryWriteRefusal, memoryWriteReply, diskWriteRefusal, diskWriteState, diskWriteReply}
+use Rattle.rules.specs.PrimaryState.{primaryOk, memoryLength, diskLength, marksLength, withBlocksWaiting}
+use Rattle.rules.specs.PrimaryWrites.{memoryWriteTests, diskWriteTests, memoryWriteRefusal, memoryWriteReply, diskWriteRefusal, diskWriteState, diskWriteReply}
 use Rattle.rules.specs.Reached.{PrimaryReached}
 use Rattle.rules.proofs.PrimaryFacts.{primary-facts, primary-of}
 use Rattle.rules.proofs.ReplyLaws.{pick-cases}
@@ -29,17 +26,10 @@ pub record MemoryWriteRoom (p : Primary) (memory dirty page offset n : ℕ) : Ty
   pub inside : offset + n ≤ p .settings .u
 
 module _ (p : Primary) (memory dirty page offset n : ℕ) where
-  abbrev memoryWriteTests : List Test
-  memoryWriteTests =
-      test outOfRange (primaryOk p && eqb memory (memoryLength p) && eqb dirty (marksLength p))
-      ∷ test noSuchUnit (ltb page (p .settings .m))
-      ∷ test badSize (insidePage (p .settings .u) offset n)
-      ∷ []
-
   pub memory-write-accepted : memoryWriteRefusal p memory dirty page offset n ≡ 0 → MemoryWriteRoom p memory dirty page offset n
   unfolding memoryWriteRefusal
   memory-write-accepted e =
-      let h = accepted memoryWriteTests refl e in
+      let h = accepted (memoryWriteTests p memory dirty page offset n) refl e in
       let d = both (primaryOk p && eqb memory (memoryLength p)) (eqb dirty (marksLength p)) (h .0) in
       let m = both (primaryOk p) (eqb memory (memoryLength p)) (d .0) in
       let s = both (leb 1 n) (leb (offset + n) (p .settings .u)) (h .1 .1 .0) in
@@ -81,19 +71,10 @@ or-alone true b f = refl
 or-alone false b f = f refl
 
 module _ (p : Primary) (disk stream block n : ℕ) where
-  abbrev diskWriteTests : List Test
-  diskWriteTests =
-      test outOfRange (primaryOk p && eqb disk (diskLength p) && eqb stream (p .settings .l))
-      ∷ test noSuchUnit (ltb block (p .settings .d))
-      ∷ test badSize (eqb n (p .settings .u))
-      ∷ test allowanceUsed (p .alone || ltb (p .blocks) (p .settings .b))
-      ∷ test streamFull (p .alone || leb (p .waiting + recordLength (p .settings .u) BLOCK) (p .settings .l))
-      ∷ []
-
   pub disk-write-accepted : diskWriteRefusal p disk stream block n ≡ 0 → DiskWriteRoom p disk stream block n
   unfolding diskWriteRefusal
   disk-write-accepted e =
-      let h = accepted diskWriteTests refl e in
+      let h = accepted (diskWriteTests p disk stream block n) refl e in
       let s = both (primaryOk p && eqb disk (diskLength p)) (eqb stream (p .settings .l)) (h .0) in
       let d = both (primaryOk p) (eqb disk (diskLength p)) (s .0) in
       record {
@@ -110,7 +91,7 @@ module _ (p : Primary) (disk stream block n : ℕ) where
     pub disk-write-accepts : diskWriteRefusal p disk stream block n ≡ 0
     unfolding diskWriteRefusal
     disk-write-accepts =
-        accepts diskWriteTests (
+        accepts (diskWriteTests p disk stream block n) (
           join _ _ (join _ _ (f .ok) (eq-eqb disk (diskLength p) (f .disk-is))) (eq-eqb stream (p .settings .l) (f .stream-is)),
           (
             lt-ltb block (p .settings .d) (f .below),
@@ -129,7 +110,7 @@ module _ (p : Primary) (disk stream block n : ℕ) where
     disk-write-end = omega (arith, page-end block (p .settings .d) (p .settings .u) (f .below), f .disk-is, f .size)
 
     -- a BLOCK appended
-    pub appended-reached : p .alone ≡ false → PrimaryReached p → PrimaryReached (withBlocks p (p .blocks + 1) (p .waiting + recordLength (p .settings .u) BLOCK))
+    pub appended-reached : p .alone ≡ false → PrimaryReached p → PrimaryReached (withBlocksWaiting p (p .blocks + 1) (p .waiting + recordLength (p .settings .u) BLOCK))
     appended-reached a r =
         let g = primary-facts p (f .ok) in
         let h = f .allowance a in
@@ -149,7 +130,7 @@ module _ (p : Primary) (disk stream block n : ℕ) where
     unfolding diskWriteState
     disk-write-state-reached r = go (p .alone) refl
       where
-        go : (a : Bool) → p .alone ≡ a → PrimaryReached (cond a p (withBlocks p (p .blocks + 1) (p .waiting + recordLength (p .settings .u) BLOCK)))
+        go : (a : Bool) → p .alone ≡ a → PrimaryReached (cond a p (withBlocksWaiting p (p .blocks + 1) (p .waiting + recordLength (p .settings .u) BLOCK)))
         go true e = r
         go false e = appended-reached e r
 

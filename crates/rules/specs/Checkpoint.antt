@@ -4,7 +4,7 @@ use mathlib.Core.Bool.{_&&_}
 use mathlib.Core.List.{List, [], _∷_, _++_}
 use lib.Dec.{leb, ltb, eqb}
 use lib.ListN.{length}
-use Rattle.lists.specs.Refusal.{test, refusal, pick}
+use Rattle.lists.specs.Refusal.{Test, test, refusal, pick}
 use Rattle.lists.specs.Part.{put}
 use Rattle.records.specs.Kind.{PAGE, STATE, COMMIT, recordLength}
 use Rattle.records.specs.Write.{stateRecord, commitRecord}
@@ -14,7 +14,7 @@ use Rattle.marks.specs.Mark.{countMarks, cleared}
 use Rattle.pages.specs.Dirty.{dirtyRecords}
 use Rattle.rules.specs.declared.Primary.{Primary}
 use Rattle.rules.specs.declared.PrimaryReply.{PrimaryReply}
-use Rattle.rules.specs.PrimaryState.{primaryOk, protected, memoryLength, marksLength, withEpoch}
+use Rattle.rules.specs.PrimaryState.{primaryOk, protected, memoryLength, marksLength, withEpochBlocksWaiting}
 use Rattle.rules.specs.Reply.{primaryReply}
 
 -- the dirty pages of the memory
@@ -32,17 +32,19 @@ checkpointBytes p memory dirty processor =
     ++ (stateRecord (p .epoch) processor ++ commitRecord (p .epoch) (dirtyCount p dirty) (p .blocks))
 
 -- 1 13 15 19; pages is the count of dirty pages
-unfoldable pub checkpointRefusal : Primary → ℕ → ℕ → ℕ → ℕ → ℕ
-checkpointRefusal p memory dirty stream pages =
-    refusal
-    (test outOfRange (primaryOk p && eqb memory (memoryLength p) && eqb dirty (marksLength p) && eqb stream (p .settings .l))
+abbrev pub checkpointTests : Primary → ℕ → ℕ → ℕ → ℕ → List Test
+checkpointTests p memory dirty stream pages =
+    test outOfRange (primaryOk p && eqb memory (memoryLength p) && eqb dirty (marksLength p) && eqb stream (p .settings .l))
     ∷ test wrongMode (protected p)
     ∷ test streamFull (leb (p .waiting + checkpointLength (p .settings .u) pages) (p .settings .l))
     ∷ test lastEpoch (ltb (p .epoch) mostEpoch)
-    ∷ [])
+    ∷ []
+
+unfoldable pub checkpointRefusal : Primary → ℕ → ℕ → ℕ → ℕ → ℕ
+checkpointRefusal p memory dirty stream pages = refusal (checkpointTests p memory dirty stream pages)
 
 unfoldable pub checkpointState : Primary → ℕ → Primary
-checkpointState p pages = withEpoch p (p .epoch + 1) (p .waiting + checkpointLength (p .settings .u) pages)
+checkpointState p pages = withEpochBlocksWaiting p (p .epoch + 1) 0 (p .waiting + checkpointLength (p .settings .u) pages)
 
 unfoldable pub checkpointReply : Primary → ℕ → ℕ → ℕ → ℕ → PrimaryReply
 checkpointReply p memory dirty stream pages =

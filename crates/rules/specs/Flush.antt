@@ -4,22 +4,25 @@ use mathlib.Core.Bool.{_&&_}
 use mathlib.Core.List.{List, [], _∷_}
 use lib.Dec.{eqb}
 use lib.ListN.{length}
-use Rattle.lists.specs.Refusal.{test, refusal, pick}
+use Rattle.lists.specs.Refusal.{Test, test, refusal, pick}
 use Rattle.records.specs.Number.{outOfRange}
 use Rattle.staging.specs.Slot.{flushCount, flushed, flushedBytes, stored}
 use Rattle.rules.specs.declared.Standby.{Standby}
 use Rattle.rules.specs.declared.StandbyReply.{StandbyReply}
-use Rattle.rules.specs.StandbyState.{standbyOk, diskLength, slotsLength, withSlots}
+use Rattle.rules.specs.StandbyState.{standbyOk, diskLength, slotsLength, withSlotsBlocks}
 use Rattle.rules.specs.Reply.{standbyReply}
 
 -- 1
+abbrev pub flushTests : Standby → ℕ → ℕ → List Test
+flushTests s slots disk = test outOfRange (standbyOk s && eqb slots (slotsLength s) && eqb disk (diskLength s)) ∷ []
+
 unfoldable pub flushRefusal : Standby → ℕ → ℕ → ℕ
-flushRefusal s slots disk = refusal (test outOfRange (standbyOk s && eqb slots (slotsLength s) && eqb disk (diskLength s)) ∷ [])
+flushRefusal s slots disk = refusal (flushTests s slots disk)
 
 unfoldable pub flushReply : Standby → ℕ → ℕ → ℕ → StandbyReply
 flushReply s slots disk n =
     let count = flushCount (s .slots) n in
-    standbyReply (flushRefusal s slots disk) s (withSlots s (flushed (s .slots) count) (s .blocks)) count
+    standbyReply (flushRefusal s slots disk) s (withSlotsBlocks s (flushed (s .slots) count) (s .blocks)) count
 
 unfoldable pub flushStagedBlocks : Standby → List ℕ → List ℕ → ℕ → List ℕ
 flushStagedBlocks s slots disk n =

@@ -3,7 +3,7 @@ use Prim.Native.Nat.{ℕ, _+_}
 use mathlib.Core.Bool.{Bool, cond, _&&_, not}
 use mathlib.Core.List.{List, [], _∷_}
 use lib.Dec.{leb, ltb, eqb}
-use Rattle.lists.specs.Refusal.{test, refusal}
+use Rattle.lists.specs.Refusal.{Test, test, refusal}
 use Rattle.records.specs.declared.Record.{Record}
 use Rattle.records.specs.declared.Record.the-variants.{Page, Block, State, Commit, Ack, Short, Refused}
 use Rattle.records.specs.declared.Reader.the-variants as reader
@@ -28,39 +28,49 @@ readLentOk s l =
 abbrev pub isNext : Standby → ℕ → Bool
 isNext s epoch = eqb epoch (s .received + 1)
 
--- PAGE: 2 8 9 ("PAGE not above the last or after STATE")
-unfoldable pub pageRefusal : Standby → ℕ → ℕ → ℕ
-pageRefusal s epoch page =
-    refusal
-    (test noSuchUnit (ltb page (s .settings .m))
+-- PAGE: 2 8 9 ("PAGE not above the last or after STATE"). Of pages that came in rising order the last is at least their count less 1, so that one
+-- below their count is not above the last: with it every accepted PAGE leaves at most M pages, also where the next page is no run's
+abbrev pub pageTests : Standby → ℕ → ℕ → List Test
+pageTests s epoch page =
+    test noSuchUnit (ltb page (s .settings .m))
     ∷ test badEpoch (isNext s epoch)
-    ∷ test outOfOrder (leb (s .next) page && not (s .seen))
-    ∷ [])
+    ∷ test outOfOrder (leb (s .next) page && leb (s .pages) page && not (s .seen))
+    ∷ []
 
--- BLOCK: 2 8 9 ("BLOCK after PAGE or STATE") 14 17
-unfoldable pub blockRefusal : Standby → ℕ → ℕ → ℕ
-blockRefusal s epoch block =
-    refusal
-    (test noSuchUnit (ltb block (s .settings .d))
+unfoldable pub pageRefusal : Standby → ℕ → ℕ → ℕ
+pageRefusal s epoch page = refusal (pageTests s epoch page)
+
+-- BLOCK: 2 8 9 ("BLOCK after PAGE or STATE": a page came where the next page is not 0 or pages are counted) 14 17
+abbrev pub blockTests : Standby → ℕ → ℕ → List Test
+blockTests s epoch block =
+    test noSuchUnit (ltb block (s .settings .d))
     ∷ test badEpoch (isNext s epoch)
-    ∷ test outOfOrder (eqb (s .next) 0 && not (s .seen))
+    ∷ test outOfOrder (eqb (s .next) 0 && eqb (s .pages) 0 && not (s .seen))
     ∷ test allowanceUsed (ltb (s .blocks) (s .settings .b))
     ∷ test slotsFull (ltb 0 (freeSlots (s .slots) (s .settings .s)))
-    ∷ [])
+    ∷ []
+
+unfoldable pub blockRefusal : Standby → ℕ → ℕ → ℕ
+blockRefusal s epoch block = refusal (blockTests s epoch block)
 
 -- STATE: 8 9 ("second STATE")
+abbrev pub stateTests : Standby → ℕ → List Test
+stateTests s epoch = test badEpoch (isNext s epoch) ∷ test outOfOrder (not (s .seen)) ∷ []
+
 unfoldable pub stateRefusal : Standby → ℕ → ℕ
-stateRefusal s epoch = refusal (test badEpoch (isNext s epoch) ∷ test outOfOrder (not (s .seen)) ∷ [])
+stateRefusal s epoch = refusal (stateTests s epoch)
 
 -- COMMIT: 5 8 9 ("COMMIT without STATE") 10
-unfoldable pub commitRefusal : Standby → ℕ → ℕ → ℕ → ℕ → ℕ
-commitRefusal s reply epoch pages blocks =
-    refusal
-    (test noRoom (leb (recordLength (s .settings .u) ACK) reply)
+abbrev pub commitTests : Standby → ℕ → ℕ → ℕ → ℕ → List Test
+commitTests s reply epoch pages blocks =
+    test noRoom (leb (recordLength (s .settings .u) ACK) reply)
     ∷ test badEpoch (isNext s epoch)
     ∷ test outOfOrder (s .seen)
     ∷ test badCounts (eqb pages (s .pages) && eqb blocks (s .blocks))
-    ∷ [])
+    ∷ []
+
+unfoldable pub commitRefusal : Standby → ℕ → ℕ → ℕ → ℕ → ℕ
+commitRefusal s reply epoch pages blocks = refusal (commitTests s reply epoch pages blocks)
 
 -- what is cut short has nothing more to be refused for, and stays so
 abbrev pub recordRefusal : Standby → ℕ → Record → ℕ

@@ -4,7 +4,7 @@ use mathlib.Core.Bool.{Bool, _&&_, _||_}
 use mathlib.Core.List.{List, [], _∷_}
 use lib.Dec.{leb, ltb, eqb}
 use lib.ListN.{length}
-use Rattle.lists.specs.Refusal.{test, refusal, pick}
+use Rattle.lists.specs.Refusal.{Test, test, refusal, pick}
 use Rattle.lists.specs.Part.{put}
 use Rattle.records.specs.Number.{outOfRange, badPacket, noRoom, queueFull, nothingFree}
 use Rattle.settings.specs.Range.{packetLengthOk}
@@ -15,13 +15,15 @@ use Rattle.rules.specs.PrimaryState.{primaryOk, withQueue}
 use Rattle.rules.specs.Reply.{primaryReply}
 
 -- ---- packet: 1 4 16
-unfoldable pub packetRefusal : Primary → ℕ → ℕ → ℕ
-packetRefusal p held n =
-    refusal
-    (test outOfRange (primaryOk p && eqb held (p .settings .q))
+abbrev pub packetTests : Primary → ℕ → ℕ → List Test
+packetTests p held n =
+    test outOfRange (primaryOk p && eqb held (p .settings .q))
     ∷ test badPacket (packetLengthOk n)
     ∷ test queueFull (hasSpace (p .queue) (p .settings .q) n)
-    ∷ [])
+    ∷ []
+
+unfoldable pub packetRefusal : Primary → ℕ → ℕ → ℕ
+packetRefusal p held n = refusal (packetTests p held n)
 
 unfoldable pub packetReply : Primary → ℕ → ℕ → PrimaryReply
 packetReply p held n =
@@ -37,13 +39,15 @@ packetHeld p held packet = pick (packetRefusal p (length held) (length packet)) 
 abbrev pub mayLeave : Primary → Bool
 mayLeave p = ltb 0 (p .queue .count) && (p .alone || leb (oldest (p .queue) .epoch) (p .acknowledged))
 
-unfoldable pub takeRefusal : Primary → ℕ → ℕ → ℕ
-takeRefusal p held destination =
-    refusal
-    (test outOfRange (primaryOk p && eqb held (p .settings .q))
+abbrev pub takeTests : Primary → ℕ → ℕ → List Test
+takeTests p held destination =
+    test outOfRange (primaryOk p && eqb held (p .settings .q))
     ∷ test nothingFree (mayLeave p)
     ∷ test noRoom (leb (oldest (p .queue) .length) destination)
-    ∷ [])
+    ∷ []
+
+unfoldable pub takeRefusal : Primary → ℕ → ℕ → ℕ
+takeRefusal p held destination = refusal (takeTests p held destination)
 
 unfoldable pub takeReply : Primary → ℕ → ℕ → PrimaryReply
 takeReply p held destination =

@@ -35,26 +35,26 @@ abbrev pub marksLength : Primary → ℕ
 marksLength p = wordsFor (p .settings .m)
 
 -- ---- the parts replaced
-abbrev pub withBlocks : Primary → ℕ → ℕ → Primary
-withBlocks p blocks waiting =
+abbrev pub withBlocksWaiting : Primary → ℕ → ℕ → Primary
+withBlocksWaiting p blocks waiting =
     record { settings = p .settings; detector = p .detector; epoch = p .epoch; acknowledged = p .acknowledged; alone = p .alone; blocks = blocks; waiting = waiting; queue = p .queue }
 
 abbrev pub withQueue : Primary → Queue → Primary
 withQueue p queue =
     record { settings = p .settings; detector = p .detector; epoch = p .epoch; acknowledged = p .acknowledged; alone = p .alone; blocks = p .blocks; waiting = p .waiting; queue = queue }
 
-abbrev pub withEpoch : Primary → ℕ → ℕ → Primary
-withEpoch p epoch waiting =
-    record { settings = p .settings; detector = p .detector; epoch = epoch; acknowledged = p .acknowledged; alone = p .alone; blocks = 0; waiting = waiting; queue = p .queue }
+abbrev pub withEpochBlocksWaiting : Primary → ℕ → ℕ → ℕ → Primary
+withEpochBlocksWaiting p epoch blocks waiting =
+    record { settings = p .settings; detector = p .detector; epoch = epoch; acknowledged = p .acknowledged; alone = p .alone; blocks = blocks; waiting = waiting; queue = p .queue }
 
 abbrev pub withWaiting : Primary → ℕ → Primary
 withWaiting p waiting =
     record { settings = p .settings; detector = p .detector; epoch = p .epoch; acknowledged = p .acknowledged; alone = p .alone; blocks = p .blocks; waiting = waiting; queue = p .queue }
 
-abbrev pub withAcknowledged : Primary → ℕ → Detector → Primary
-withAcknowledged p acknowledged detector =
+abbrev pub withAcknowledgedDetector : Primary → ℕ → Detector → Primary
+withAcknowledgedDetector p acknowledged detector =
     record { settings = p .settings; detector = detector; epoch = p .epoch; acknowledged = acknowledged; alone = p .alone; blocks = p .blocks; waiting = p .waiting; queue = p .queue }
 
-abbrev pub withDetector : Primary → Detector → Bool → ℕ → Primary
-withDetector p detector alone waiting =
+abbrev pub withDetectorAloneWaiting : Primary → Detector → Bool → ℕ → Primary
+withDetectorAloneWaiting p detector alone waiting =
     record { settings = p .settings; detector = detector; epoch = p .epoch; acknowledged = p .acknowledged; alone = alone; blocks = p .blocks; waiting = waiting; queue = p .queue }

@@ -1,20 +1,23 @@
 -- The primary's tick. Assumes nothing.
 use Prim.Native.Nat.{ℕ, _+_}
 use mathlib.Core.Bool.{Bool, true, false, cond}
-use mathlib.Core.List.{[], _∷_}
+use mathlib.Core.List.{List, [], _∷_}
 use lib.Dec.{ltb}
-use Rattle.lists.specs.Refusal.{test, refusal}
+use Rattle.lists.specs.Refusal.{Test, test, refusal}
 use Rattle.records.specs.Number.{outOfRange}
 use Rattle.detector.specs.declared.Detector.{Detector}
 use Rattle.detector.specs.Tick.{ticked, expired}
 use Rattle.rules.specs.declared.Primary.{Primary}
 use Rattle.rules.specs.declared.PrimaryReply.{PrimaryReply}
-use Rattle.rules.specs.PrimaryState.{primaryOk, withDetector}
+use Rattle.rules.specs.PrimaryState.{primaryOk, withDetectorAloneWaiting}
 use Rattle.rules.specs.Reply.{primaryReply}
 
 -- 1
+abbrev pub primaryTickTests : Primary → List Test
+primaryTickTests p = test outOfRange (primaryOk p) ∷ []
+
 unfoldable pub primaryTickRefusal : Primary → ℕ
-primaryTickRefusal p = refusal (test outOfRange (primaryOk p) ∷ [])
+primaryTickRefusal p = refusal (primaryTickTests p)
 
 -- "a closed epoch is unacknowledged"
 abbrev pub outstanding : Primary → Bool
@@ -22,7 +25,7 @@ outstanding p = ltb (p .acknowledged + 1) (p .epoch)
 
 -- "At T the primary is alone: the waiting stream is dropped"
 abbrev pub aloneAt : Primary → Detector → Primary
-aloneAt p d = cond (expired d) (withDetector p d true 0) (withDetector p d false (p .waiting))
+aloneAt p d = cond (expired d) (withDetectorAloneWaiting p d true 0) (withDetectorAloneWaiting p d false (p .waiting))
 
 -- "Once alone, a tick changes nothing"
 unfoldable pub primaryTickState : Primary → Primary

@@ -4,7 +4,7 @@ use mathlib.Core.Bool.{cond, _&&_, _||_}
 use mathlib.Core.List.{List, [], _∷_}
 use lib.Dec.{leb, ltb, eqb}
 use lib.ListN.{length}
-use Rattle.lists.specs.Refusal.{test, refusal, pick}
+use Rattle.lists.specs.Refusal.{Test, test, refusal, pick}
 use Rattle.lists.specs.Part.{put}
 use Rattle.lists.specs.Page.{withPage}
 use Rattle.records.specs.Kind.{BLOCK, recordLength}
@@ -14,17 +14,19 @@ use Rattle.marks.specs.Mark.{withMark}
 use Rattle.rules.specs.declared.Primary.{Primary}
 use Rattle.rules.specs.declared.PrimaryReply.{PrimaryReply}
 use Rattle.rules.specs.Common.{insidePage, written}
-use Rattle.rules.specs.PrimaryState.{primaryOk, memoryLength, diskLength, marksLength, withBlocks}
+use Rattle.rules.specs.PrimaryState.{primaryOk, memoryLength, diskLength, marksLength, withBlocksWaiting}
 use Rattle.rules.specs.Reply.{primaryReply}
 
 -- ---- memory write: 1 2 3
-unfoldable pub memoryWriteRefusal : Primary → ℕ → ℕ → ℕ → ℕ → ℕ → ℕ
-memoryWriteRefusal p memory dirty page offset n =
-    refusal
-    (test outOfRange (primaryOk p && eqb memory (memoryLength p) && eqb dirty (marksLength p))
+abbrev pub memoryWriteTests : Primary → ℕ → ℕ → ℕ → ℕ → ℕ → List Test
+memoryWriteTests p memory dirty page offset n =
+    test outOfRange (primaryOk p && eqb memory (memoryLength p) && eqb dirty (marksLength p))
     ∷ test noSuchUnit (ltb page (p .settings .m))
     ∷ test badSize (insidePage (p .settings .u) offset n)
-    ∷ [])
+    ∷ []
+
+unfoldable pub memoryWriteRefusal : Primary → ℕ → ℕ → ℕ → ℕ → ℕ → ℕ
+memoryWriteRefusal p memory dirty page offset n = refusal (memoryWriteTests p memory dirty page offset n)
 
 unfoldable pub memoryWriteReply : Primary → ℕ → ℕ → ℕ → ℕ → ℕ → PrimaryReply
 memoryWriteReply p memory dirty page offset n = primaryReply (memoryWriteRefusal p memory dirty page offset n) p p (p .epoch)
@@ -39,18 +41,20 @@ memoryWriteDirty p memory dirty page offset bytes =
     pick (memoryWriteRefusal p (length memory) (length dirty) page offset (length bytes)) (withMark dirty page) dirty
 
 -- ---- disk write: 1 2 3 14 15; alone "disk writes append nothing and take no allowance, so 14 and 15 aren't given"
-unfoldable pub diskWriteRefusal : Primary → ℕ → ℕ → ℕ → ℕ → ℕ
-diskWriteRefusal p disk stream block n =
-    refusal
-    (test outOfRange (primaryOk p && eqb disk (diskLength p) && eqb stream (p .settings .l))
+abbrev pub diskWriteTests : Primary → ℕ → ℕ → ℕ → ℕ → List Test
+diskWriteTests p disk stream block n =
+    test outOfRange (primaryOk p && eqb disk (diskLength p) && eqb stream (p .settings .l))
     ∷ test noSuchUnit (ltb block (p .settings .d))
     ∷ test badSize (eqb n (p .settings .u))
     ∷ test allowanceUsed (p .alone || ltb (p .blocks) (p .settings .b))
     ∷ test streamFull (p .alone || leb (p .waiting + recordLength (p .settings .u) BLOCK) (p .settings .l))
-    ∷ [])
+    ∷ []
+
+unfoldable pub diskWriteRefusal : Primary → ℕ → ℕ → ℕ → ℕ → ℕ
+diskWriteRefusal p disk stream block n = refusal (diskWriteTests p disk stream block n)
 
 unfoldable pub diskWriteState : Primary → Primary
-diskWriteState p = cond (p .alone) p (withBlocks p (p .blocks + 1) (p .waiting + recordLength (p .settings .u) BLOCK))
+diskWriteState p = cond (p .alone) p (withBlocksWaiting p (p .blocks + 1) (p .waiting + recordLength (p .settings .u) BLOCK))
 
 unfoldable pub diskWriteReply : Primary → ℕ → ℕ → ℕ → ℕ → PrimaryReply
 diskWriteReply p disk stream block n = primaryReply (diskWriteRefusal p disk stream block n) p (diskWriteState p) (p .epoch)

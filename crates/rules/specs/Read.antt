@@ -20,7 +20,7 @@ use Rattle.detector.specs.Tick.{reset}
 use Rattle.rules.specs.declared.Standby.{Standby}
 use Rattle.rules.specs.declared.ReadLent.{ReadLent}
 use Rattle.rules.specs.declared.StandbyAnswer.{StandbyAnswer}
-use Rattle.rules.specs.StandbyState.{withPages, withSlots, withState, withNoRecords, withReceived, withDetector}
+use Rattle.rules.specs.StandbyState.{withPagesNext, withSlotsBlocks, withPendingSeen, withNoRecords, withReceivedSlotsProcessor, withDetector}
 use Rattle.rules.specs.Reply.{answerOf}
 use Rattle.rules.specs.Judge.{judged}
 
@@ -41,13 +41,13 @@ sealedState s = withNoRecords s
 
 -- and it is installed: "keeps the processor state, makes the epoch's staged blocks due"; its epoch is the last received
 abbrev pub installedState : Standby → ℕ → Standby
-installedState s epoch = withReceived s epoch (allDue (s .slots)) (s .pending)
+installedState s epoch = withReceivedSlotsProcessor s epoch (allDue (s .slots)) (s .pending)
 
 -- the state after a record is accepted, but for the detector
 abbrev pub afterRecord : Standby → List ℕ → Record → Standby
-afterRecord s bytes (Page e p c) = withPages s (s .pages + 1) (p + 1)
-afterRecord s bytes (Block e n c) = withSlots s (withBlock (s .slots) n) (s .blocks + 1)
-afterRecord s bytes (State e c) = withState s (bytesAt c bytes)
+afterRecord s bytes (Page e p c) = withPagesNext s (s .pages + 1) (p + 1)
+afterRecord s bytes (Block e n c) = withSlotsBlocks s (withBlock (s .slots) n) (s .blocks + 1)
+afterRecord s bytes (State e c) = withPendingSeen s (bytesAt c bytes)
 afterRecord s bytes (Commit e p b c) = installedState (sealedState s) e
 afterRecord s bytes (Ack e c) = s
 afterRecord s bytes Short = s

@@ -51,16 +51,16 @@ abbrev pub marksLength : Standby → ℕ
 marksLength s = wordsFor (s .settings .m)
 
 -- ---- the parts replaced
-abbrev pub withPages : Standby → ℕ → ℕ → Standby
-withPages s pages next =
+abbrev pub withPagesNext : Standby → ℕ → ℕ → Standby
+withPagesNext s pages next =
     record { settings = s .settings; detector = s .detector; mode = s .mode; received = s .received; slots = s .slots; blocks = s .blocks; pages = pages; next = next; seen = s .seen; pending = s .pending; processor = s .processor }
 
-abbrev pub withSlots : Standby → Slots → ℕ → Standby
-withSlots s slots blocks =
+abbrev pub withSlotsBlocks : Standby → Slots → ℕ → Standby
+withSlotsBlocks s slots blocks =
     record { settings = s .settings; detector = s .detector; mode = s .mode; received = s .received; slots = slots; blocks = blocks; pages = s .pages; next = s .next; seen = s .seen; pending = s .pending; processor = s .processor }
 
-abbrev pub withState : Standby → List ℕ → Standby
-withState s processor =
+abbrev pub withPendingSeen : Standby → List ℕ → Standby
+withPendingSeen s processor =
     record { settings = s .settings; detector = s .detector; mode = s .mode; received = s .received; slots = s .slots; blocks = s .blocks; pages = s .pages; next = s .next; seen = true; pending = processor; processor = s .processor }
 
 -- the epoch's counts, next page and STATE seen, as they are before its first record
@@ -68,8 +68,8 @@ abbrev pub withNoRecords : Standby → Standby
 withNoRecords s =
     record { settings = s .settings; detector = s .detector; mode = s .mode; received = s .received; slots = s .slots; blocks = 0; pages = 0; next = 0; seen = false; pending = s .pending; processor = s .processor }
 
-abbrev pub withReceived : Standby → ℕ → Slots → List ℕ → Standby
-withReceived s received slots processor =
+abbrev pub withReceivedSlotsProcessor : Standby → ℕ → Slots → List ℕ → Standby
+withReceivedSlotsProcessor s received slots processor =
     record { settings = s .settings; detector = s .detector; mode = s .mode; received = received; slots = slots; blocks = s .blocks; pages = s .pages; next = s .next; seen = s .seen; pending = s .pending; processor = processor }
 
 abbrev pub withDetector : Standby → Detector → Standby

@@ -4,7 +4,7 @@ use mathlib.Core.Bool.{Bool, false, _&&_}
 use mathlib.Core.List.{List, [], _∷_}
 use lib.Dec.{eqb}
 use lib.ListN.{replicate}
-use Rattle.lists.specs.Refusal.{test, refusal, pick}
+use Rattle.lists.specs.Refusal.{Test, test, refusal, pick}
 use Rattle.records.specs.Kind.{processorBytes}
 use Rattle.records.specs.Area.{areaLength}
 use Rattle.settings.specs.declared.Settings.{Settings}
@@ -31,8 +31,11 @@ startLentOk g l =
     && eqb (s .area) areaLength
 
 -- 1
+abbrev pub startTests : Settings → StartLent → List Test
+startTests g l = test outOfRange (settingsOk g && startLentOk g l) ∷ []
+
 unfoldable pub startRefusal : Settings → StartLent → ℕ
-startRefusal g l = refusal (test outOfRange (settingsOk g && startLentOk g l) ∷ [])
+startRefusal g l = refusal (startTests g l)
 
 -- "opens epoch 1; this is checkpoint 0, already received and acknowledged"
 abbrev pub openedPrimary : Settings → Primary

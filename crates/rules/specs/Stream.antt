@@ -4,7 +4,7 @@ use mathlib.Core.Bool.{cond, _&&_}
 use mathlib.Core.List.{List, [], _∷_}
 use lib.Dec.{ltb, eqb}
 use lib.ListN.{length, take}
-use Rattle.lists.specs.Refusal.{test, refusal, pick}
+use Rattle.lists.specs.Refusal.{Test, test, refusal, pick}
 use Rattle.lists.specs.Part.{put, removed}
 use Rattle.records.specs.declared.Record.{Record}
 use Rattle.records.specs.declared.Record.the-variants.{Page, Block, State, Commit, Ack, Short, Refused}
@@ -15,12 +15,15 @@ use Rattle.detector.specs.Tick.{reset}
 use Rattle.rules.specs.declared.Primary.{Primary}
 use Rattle.rules.specs.declared.PrimaryReply.{PrimaryReply}
 use Rattle.rules.specs.declared.PrimaryAnswer.{PrimaryAnswer}
-use Rattle.rules.specs.PrimaryState.{primaryOk, protected, withWaiting, withAcknowledged}
+use Rattle.rules.specs.PrimaryState.{primaryOk, protected, withWaiting, withAcknowledgedDetector}
 use Rattle.rules.specs.Reply.{primaryReply, unlessRefused, answerOf}
 
 -- ---- drain: 1
+abbrev pub drainTests : Primary → ℕ → List Test
+drainTests p stream = test outOfRange (primaryOk p && eqb stream (p .settings .l)) ∷ []
+
 unfoldable pub drainRefusal : Primary → ℕ → ℕ
-drainRefusal p stream = refusal (test outOfRange (primaryOk p && eqb stream (p .settings .l)) ∷ [])
+drainRefusal p stream = refusal (drainTests p stream)
 
 -- "the first min(n, waiting, destination length) bytes"
 abbrev pub drainCount : Primary → ℕ → ℕ → ℕ
@@ -40,13 +43,17 @@ drainDestination p stream n destination =
 
 -- ---- ACK: 1 13 header 6 7 body 11
 
--- "not above the acknowledged epoch or not below the open one"; what is cut short stays so
+-- not: "not above the acknowledged epoch or not below the open one"
+abbrev pub ackTests : Primary → ℕ → List Test
+ackTests p epoch = test badAck (ltb (p .acknowledged) epoch && ltb epoch (p .epoch)) ∷ []
+
+-- what is cut short has nothing more to be refused for, and stays so
 abbrev pub ackRefusal : Primary → Record → ℕ
 ackRefusal p (Page e n c) = badKind
 ackRefusal p (Block e n c) = badKind
 ackRefusal p (State e c) = badKind
 ackRefusal p (Commit e n b c) = badKind
-ackRefusal p (Ack e c) = refusal (test badAck (ltb (p .acknowledged) e && ltb e (p .epoch)) ∷ [])
+ackRefusal p (Ack e c) = refusal (ackTests p e)
 ackRefusal p Short = 0
 ackRefusal p (Refused n) = n
 
@@ -64,7 +71,7 @@ ackState p (Page e n c) = p
 ackState p (Block e n c) = p
 ackState p (State e c) = p
 ackState p (Commit e n b c) = p
-ackState p (Ack e c) = withAcknowledged p e (reset (p .detector))
+ackState p (Ack e c) = withAcknowledgedDetector p e (reset (p .detector))
 ackState p Short = p
 ackState p (Refused n) = p
 

@@ -20,7 +20,7 @@ use Rattle.settings.specs.declared.Settings.{Settings}
 use Rattle.settings.proofs.RangeLaws.{shared-unit}
 use Rattle.detector.specs.Tick.{reset}
 use Rattle.rules.specs.declared.Primary.{Primary}
-use Rattle.rules.specs.PrimaryState.{protected, withAcknowledged}
+use Rattle.rules.specs.PrimaryState.{protected, withAcknowledgedDetector}
 use Rattle.rules.specs.Reply.{answerOf, numberOf, unlessRefused}
 use Rattle.rules.specs.Stream.{ackRefusal}
 use Rattle.rules.specs.World as call
@@ -49,7 +49,7 @@ after e used b =
     let p = w .primary in
     record {
       world = record {
-        primary = record { state = withAcknowledged (p .state) e (reset (p .state .detector)); memory = p .memory; disk = p .disk; dirty = p .dirty; held = p .held; stream = p .stream };
+        primary = record { state = withAcknowledgedDetector (p .state) e (reset (p .state .detector)); memory = p .memory; disk = p .disk; dirty = p .dirty; held = p .held; stream = p .stream };
         standby = w .standby;
         link = w .link;
         acks = drop used (w .acks);

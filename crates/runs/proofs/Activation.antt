@@ -23,7 +23,7 @@ use Rattle.rules.specs.Takeover.{activationReply, activationArea}
 use Rattle.rules.specs.World as call
 use Rattle.rules.specs.Step.{atStandby, step}
 use Rattle.rules.proofs.TakeoverLaws.{ActivationAccepted, activation-accepted, activated-reached}
-use Rattle.runs.specs.Plain.{Checkpoint, receivedCheckpoint, withStandbyImages, plainAccepted, plainStep}
+use Rattle.runs.specs.Plain.{Checkpoint, receivedCheckpoint, withActivatedStandbyImages, plainAccepted, plainStep}
 use Rattle.runs.specs.Run.{Both, steps, runCall}
 use Rattle.runs.proofs.Invariant.{Inv}
 use Rattle.runs.proofs.Conclusions.{received-is, received-exists}
@@ -44,7 +44,7 @@ after b =
         stagedBlocks = e .stagedBlocks;
         area = put (e .area) 0 (activationRecord (e .state .received));
       });
-      plain = withStandbyImages (b .plain) true (receivedCheckpoint (b .plain) .memory) (receivedCheckpoint (b .plain) .disk);
+      plain = withActivatedStandbyImages (b .plain) true (receivedCheckpoint (b .plain) .memory) (receivedCheckpoint (b .plain) .disk);
     }
 
 after-is : (u : ℕ) (b : Both) → Accepted b call.activation → runCall steps u b call.activation ≡ after b

@@ -17,7 +17,7 @@ use Rattle.rules.specs.Takeover.{activeMemoryWriteReply, activeMemoryWriteMemor
 use Rattle.rules.specs.World as call
 use Rattle.rules.specs.Step.{atStandby, step}
 use Rattle.rules.proofs.TakeoverLaws.{ActiveMemoryWriteAccepted, active-memory-write-accepted, ActiveDiskWriteAccepted, active-disk-write-accepted}
-use Rattle.runs.specs.Plain.{withStandbyImages, plainAccepted, plainStep}
+use Rattle.runs.specs.Plain.{withActivatedStandbyImages, plainAccepted, plainStep}
 use Rattle.runs.specs.Run.{Both, steps, runCall}
 use Rattle.runs.proofs.Invariant.{Inv}
 use Rattle.runs.proofs.KeptLaws.{standby-u, standby-m, standby-d, standby-inv}
@@ -30,7 +30,7 @@ after memory disk memory′ disk′ b =
     let e = b .world .standby in
     record {
       world = atStandby (b .world) (record { state = e .state; memory = memory; disk = disk; stagedPages = e .stagedPages; stagedMarks = e .stagedMarks; stagedBlocks = e .stagedBlocks; area = e .area });
-      plain = withStandbyImages (b .plain) (b .plain .activated) memory′ disk′;
+      plain = withActivatedStandbyImages (b .plain) (b .plain .activated) memory′ disk′;
     }
 
 images-inv : (g : Settings) (b : Both) (memory disk memory′ disk′ : List ℕ) → isActive (b .world .standby .state .mode) ≡ true → memory ≡ memory′ → disk ≡ disk′

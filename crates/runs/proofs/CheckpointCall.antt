@@ -24,7 +24,7 @@ use Rattle.pages.specs.Dirty.{dirtyRecords}
 use Rattle.pages.specs.DirtyMessages.{dirtyMessages}
 use Rattle.pages.proofs.DirtyMessagesLaws.{dirty-encode, messages-fit}
 use Rattle.pages.proofs.CleanLaws.{clean-clear}
-use Rattle.rules.specs.PrimaryState.{withEpoch}
+use Rattle.rules.specs.PrimaryState.{withEpochBlocksWaiting}
 use Rattle.rules.specs.Checkpoint.{dirtyCount, checkpointLength, checkpointBytes, checkpointState, checkpointReply, checkpointDirty, checkpointStream}
 use Rattle.rules.specs.Reached.{PrimaryReached}
 use Rattle.rules.specs.World.{Processor}
@@ -63,7 +63,7 @@ module _ (processor : Processor) where
       let p = b .world .primary in
       record {
         world = atPrimary (b .world) (record {
-          state = withEpoch (p .state) (p .state .epoch + 1) (p .state .waiting + checkpointLength (x .u) (countMarks (p .dirty) (x .m)));
+          state = withEpochBlocksWaiting (p .state) (p .state .epoch + 1) 0 (p .state .waiting + checkpointLength (x .u) (countMarks (p .dirty) (x .m)));
           memory = p .memory;
           disk = p .disk;
           dirty = cleared (p .dirty) (x .m);
@@ -143,12 +143,12 @@ module _ (processor : Processor) where
         let p = b .world .primary in
         subst (λ (x : PrimarySettings). p .state .waiting + checkpointLength (x .u) (countMarks (p .dirty) (x .m)) ≤ x .l) (i .holds .primaryKept .settings) (f .room)
 
-    reached : PrimaryReached (withEpoch (b .world .primary .state) (b .world .primary .state .epoch + 1) (b .world .primary .state .waiting + checkpointLength (g .u) count))
+    reached : PrimaryReached (withEpochBlocksWaiting (b .world .primary .state) (b .world .primary .state .epoch + 1) 0 (b .world .primary .state .waiting + checkpointLength (g .u) count))
     unfolding checkpointState
     reached =
         let p = b .world .primary in
         let k = i .holds .primaryKept in
-        subst (λ (x : PrimarySettings). PrimaryReached (withEpoch (p .state) (p .state .epoch + 1) (p .state .waiting + checkpointLength (x .u) (countMarks (p .dirty) (x .m))))) (k .settings)
+        subst (λ (x : PrimarySettings). PrimaryReached (withEpochBlocksWaiting (p .state) (p .state .epoch + 1) 0 (p .state .waiting + checkpointLength (x .u) (countMarks (p .dirty) (x .m))))) (k .settings)
         (checkpoint-state-reached (p .state) (length (p .memory)) (length (p .dirty)) (length (p .stream)) (dirtyCount (p .state) (p .dirty)) f (k .reached))
 
     readable : All (Readable (g .u)) (closing ++ (commit ∷ []))

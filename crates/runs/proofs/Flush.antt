@@ -13,7 +13,7 @@ use Rattle.staging.specs.Fits.{FlushFits}
 use Rattle.staging.proofs.StoreLaws.{stored-none, length-stored, store-of-flush}
 use Rattle.staging.proofs.ListLaws.{take-due-list, length-bytes, list-flushed, due-flushed}
 use Rattle.staging.proofs.FlushLaws.{store-all-append, stored-slots}
-use Rattle.rules.specs.StandbyState.{withSlots}
+use Rattle.rules.specs.StandbyState.{withSlotsBlocks}
 use Rattle.rules.specs.Flush.{flushReply, flushStagedBlocks, flushDisk}
 use Rattle.rules.specs.World as call
 use Rattle.rules.specs.Step.{atStandby, step}
@@ -37,7 +37,7 @@ module _ (n : ℕ) where
       let c = flushCount k n in
       record {
         world = atStandby (b .world) (record {
-          state = withSlots (e .state) (flushed k c) (e .state .blocks);
+          state = withSlotsBlocks (e .state) (flushed k c) (e .state .blocks);
           memory = e .memory;
           disk = stored v (k .numbers) (e .stagedBlocks) (e .disk) c;
           stagedPages = e .stagedPages;

@@ -18,7 +18,7 @@ use Rattle.rules.specs.Step.{atStandby}
 use Rattle.rules.proofs.PrimaryFacts.{primary-facts}
 use Rattle.rules.proofs.StandbyFacts.{standby-facts}
 use Rattle.rules.proofs.FlushLaws.{flush-room}
-use Rattle.runs.specs.Plain.{withStandbyImages}
+use Rattle.runs.specs.Plain.{withActivatedStandbyImages}
 use Rattle.runs.specs.Run.{Both}
 use Rattle.runs.proofs.Invariant.{Taker, PrimaryKept, StandbyKept, Inv}
 
@@ -79,7 +79,7 @@ module _ (g : Settings) (s : StandbyEnd) (k : StandbyKept g s) where
 -- ---- a call that changes only the standby, and the plain standby with it: of the invariant the two groups about it are to be shown
 pub standby-inv : (g : Settings) (b : Both) (i : Inv g b) (s : StandbyEnd) (activated : Bool) (memory disk : List ℕ)
     → Taker (g .u) (g .m) s activated memory disk (i .ghost .base) (i .ghost .consumed) (b .plain .r) → StandbyKept g s
-    → Inv g (record { world = atStandby (b .world) s; plain = withStandbyImages (b .plain) activated memory disk })
+    → Inv g (record { world = atStandby (b .world) s; plain = withActivatedStandbyImages (b .plain) activated memory disk })
 standby-inv g b i s activated memory disk t k =
     let v = i .holds in
     record {

@@ -12,7 +12,7 @@ use Rattle.lists.proofs.TestLaws.{by-test, lt-or-ge, eq-or-ne}
 use Rattle.settings.specs.declared.Settings.{Settings}
 use Rattle.detector.specs.Tick.{withCount}
 use Rattle.rules.specs.declared.Primary.{Primary}
-use Rattle.rules.specs.PrimaryState.{withDetector}
+use Rattle.rules.specs.PrimaryState.{withDetectorAloneWaiting}
 use Rattle.rules.specs.PrimaryTick.{outstanding, primaryTickState, primaryTickReply}
 use Rattle.rules.specs.Reached.{PrimaryReached}
 use Rattle.rules.specs.World as call
@@ -65,8 +65,8 @@ module _ (g : Settings) (b : Both) (i : Inv g b) where
       (aloneIs : alone ≡ leb (g .t) n)
       (countIs : alone ≡ false → c ≡ n)
       (quiet : b .plain .a + 1 ≡ length (b .plain .checkpoints) → n ≡ 0)
-      (reached : PrimaryReached (withDetector (b .world .primary .state) (withCount (b .world .primary .state .detector) c) alone waiting)) where
-    tick-inv : Inv g (after (withDetector (b .world .primary .state) (withCount (b .world .primary .state .detector) c) alone waiting) n b)
+      (reached : PrimaryReached (withDetectorAloneWaiting (b .world .primary .state) (withCount (b .world .primary .state .detector) c) alone waiting)) where
+    tick-inv : Inv g (after (withDetectorAloneWaiting (b .world .primary .state) (withCount (b .world .primary .state .detector) c) alone waiting) n b)
     tick-inv =
         let v = i .holds in
         let h = i .ghost in
@@ -125,15 +125,15 @@ module _ (g : Settings) (b : Both) (i : Inv g b) where
 
   -- protected, and still so after the tick
   watched-inv : state .alone ≡ false → (n : ℕ) → n < g .t → (b .plain .a + 1 ≡ length (b .plain .checkpoints) → n ≡ 0)
-      → PrimaryReached (withDetector (b .world .primary .state) (withCount (b .world .primary .state .detector) n) false (b .world .primary .state .waiting))
-      → Inv g (after (withDetector (b .world .primary .state) (withCount (b .world .primary .state .detector) n) false (b .world .primary .state .waiting)) n b)
+      → PrimaryReached (withDetectorAloneWaiting (b .world .primary .state) (withCount (b .world .primary .state .detector) n) false (b .world .primary .state .waiting))
+      → Inv g (after (withDetectorAloneWaiting (b .world .primary .state) (withCount (b .world .primary .state .detector) n) false (b .world .primary .state .waiting)) n b)
   watched-inv a n l q r =
       tick-inv n n (b .world .primary .state .waiting) false (i .ghost .lost) refl (λ z. i .holds .link .lossless a) (λ z. a) (sym (lt-leb (g .t) n l)) (λ z. refl) q r
 
   -- the tick at which the primary becomes alone: what waits is lost
   full-inv : (n : ℕ) → n ≡ g .t → (b .plain .a + 1 ≡ length (b .plain .checkpoints) → n ≡ 0)
-      → PrimaryReached (withDetector (b .world .primary .state) (withCount (b .world .primary .state .detector) n) true 0)
-      → Inv g (after (withDetector (b .world .primary .state) (withCount (b .world .primary .state .detector) n) true 0) n b)
+      → PrimaryReached (withDetectorAloneWaiting (b .world .primary .state) (withCount (b .world .primary .state .detector) n) true 0)
+      → Inv g (after (withDetectorAloneWaiting (b .world .primary .state) (withCount (b .world .primary .state .detector) n) true 0) n b)
   full-inv n l q r =
       tick-inv n n 0 true (take (b .world .primary .state .waiting) (b .world .primary .stream) ++ i .ghost .lost) refl
       (λ z. absurd (true≢false z)) (λ z. absurd (true≢false z)) (sym (le-leb (g .t) n (omega arith))) (λ z. absurd (true≢false z)) q r
@@ -164,12 +164,12 @@ module _ (g : Settings) (b : Both) (i : Inv g b) where
       let low : p .detector .count < p .detector .patience = primary-facts p (i .holds .primaryKept .reached .inRange) .detector .below (ap not a) in
       ⊎-elim
       (λ (h : p .detector .count + 1 < p .detector .patience).
-      by-state (withDetector p (withCount (p .detector) n) false (p .waiting)) n
-      (tick-counts p a low o h ∙ ap (λ (x : ℕ). withDetector p (withCount (p .detector) x) false (p .waiting)) same)
+      by-state (withDetectorAloneWaiting p (withCount (p .detector) n) false (p .waiting)) n
+      (tick-counts p a low o h ∙ ap (λ (x : ℕ). withDetectorAloneWaiting p (withCount (p .detector) x) false (p .waiting)) same)
       (watched-inv a n (omega arith) quiet))
       (λ (h : p .detector .patience ≤ p .detector .count + 1).
-      by-state (withDetector p (withCount (p .detector) n) true 0) n
-      (tick-leaves p a low o h ∙ ap (λ (x : ℕ). withDetector p (withCount (p .detector) x) true 0) same)
+      by-state (withDetectorAloneWaiting p (withCount (p .detector) n) true 0) n
+      (tick-leaves p a low o h ∙ ap (λ (x : ℕ). withDetectorAloneWaiting p (withCount (p .detector) x) true 0) same)
       (full-inv n (omega arith) quiet))
       (lt-or-ge (p .detector .count + 1) (p .detector .patience))
   by-watched a false e =
@@ -178,8 +178,8 @@ module _ (g : Settings) (b : Both) (i : Inv g b) where
       let t = i .holds .primaryKept .patience in
       let d = primary-facts p (i .holds .primaryKept .reached .inRange) .detector in
       let none : n ≡ 0 = i .holds .detector .quiet (eqb-true (b .plain .a + 1) (length (b .plain .checkpoints)) (not-false _ e)) in
-      by-state (withDetector p (withCount (p .detector) n) false (p .waiting)) n
-      (tick-rests p a (d .below (ap not a)) (outstanding-is ∙ e) ∙ ap (λ (x : ℕ). withDetector p (withCount (p .detector) x) false (p .waiting)) (sym none))
+      by-state (withDetectorAloneWaiting p (withCount (p .detector) n) false (p .waiting)) n
+      (tick-rests p a (d .below (ap not a)) (outstanding-is ∙ e) ∙ ap (λ (x : ℕ). withDetectorAloneWaiting p (withCount (p .detector) x) false (p .waiting)) (sym none))
       (watched-inv a n (omega (arith, d .t-low)) (λ z. none))
 
 pub primary-tick-keeps : (g : Settings) → KeepsAccepted g call.primaryTick

@@ -19,7 +19,7 @@ use Rattle.staging.specs.SlotList.{Staged, slotList, storeAll}
 use Rattle.staging.proofs.ListLaws.{list-with-block, due-with-block}
 use Rattle.staging.proofs.FlushLaws.{store-all-append}
 use Rattle.rules.specs.declared.Standby.{Standby}
-use Rattle.rules.specs.StandbyState.{isReceiving, withPages, withSlots, withState}
+use Rattle.rules.specs.StandbyState.{isReceiving, withPagesNext, withSlotsBlocks, withPendingSeen}
 use Rattle.rules.specs.World.{StandbyEnd}
 use Rattle.rules.proofs.JudgeLaws.{PageTests, BlockTests}
 use Rattle.rules.proofs.ReadLaws.{page-reached, block-reached, state-reached}
@@ -96,7 +96,7 @@ module _ (g : Settings) (b : Both) (i : Inv g b) where
   abbrev pub pageEnd : ℕ → ℕ → List ℕ → StandbyEnd
   pageEnd v p bs =
       let e = b .world .standby in
-      stagedEnd e (withPages (e .state) (e .state .pages + 1) (p + 1)) (withPage v (e .stagedPages) p bs) (withMark (e .stagedMarks) p) (e .stagedBlocks)
+      stagedEnd e (withPagesNext (e .state) (e .state .pages + 1) (p + 1)) (withPage v (e .stagedPages) p bs) (withMark (e .stagedMarks) p) (e .stagedBlocks)
 
   pub page-inv : (epoch p : ℕ) (bs : List ℕ) (xs : List Message) → Next g b i (message.page epoch p bs) xs → PageTests (b .world .standby .state) epoch p
       → Inv g (stagedAfter b (pageEnd (g .u) p bs) (length (encode (message.page epoch p bs))))
@@ -144,7 +144,7 @@ module _ (g : Settings) (b : Both) (i : Inv g b) where
   abbrev pub blockEnd : ℕ → ℕ → List ℕ → StandbyEnd
   blockEnd v n bs =
       let e = b .world .standby in
-      stagedEnd e (withSlots (e .state) (withBlock (e .state .slots) n) (e .state .blocks + 1)) (e .stagedPages) (e .stagedMarks) (withBlockBytes v (e .state .slots) (e .stagedBlocks) bs)
+      stagedEnd e (withSlotsBlocks (e .state) (withBlock (e .state .slots) n) (e .state .blocks + 1)) (e .stagedPages) (e .stagedMarks) (withBlockBytes v (e .state .slots) (e .stagedBlocks) bs)
 
   pub block-inv : (epoch m : ℕ) (bs : List ℕ) (xs : List Message) → Next g b i (message.block epoch m bs) xs → BlockTests (b .world .standby .state) epoch m
       → Inv g (stagedAfter b (blockEnd (g .u) m bs) (length (encode (message.block epoch m bs))))
@@ -197,7 +197,7 @@ module _ (g : Settings) (b : Both) (i : Inv g b) where
 
   -- ---- STATE
   abbrev pub stateEnd : List ℕ → StandbyEnd
-  stateEnd bs = let e = b .world .standby in stagedEnd e (withState (e .state) bs) (e .stagedPages) (e .stagedMarks) (e .stagedBlocks)
+  stateEnd bs = let e = b .world .standby in stagedEnd e (withPendingSeen (e .state) bs) (e .stagedPages) (e .stagedMarks) (e .stagedBlocks)
 
   pub state-inv : (epoch : ℕ) (bs : List ℕ) (xs : List Message) → Next g b i (message.state epoch bs) xs
       → Inv g (stagedAfter b (stateEnd bs) (length (encode (message.state epoch bs))))

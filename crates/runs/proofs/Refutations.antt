@@ -9,7 +9,7 @@ use lib.ListN.{getD}
 use Rattle.records.specs.Kind.{COMMIT}
 use Rattle.marks.specs.Mark.{cleared}
 use Rattle.staging.specs.Slot.{onlyDue}
-use Rattle.rules.specs.StandbyState.{withReceived}
+use Rattle.rules.specs.StandbyState.{withReceivedSlotsProcessor}
 use Rattle.rules.specs.World.{World, Call}
 use Rattle.rules.specs.World as call
 use Rattle.rules.specs.Step.{Stepped, step}
@@ -25,7 +25,7 @@ installsNothing w c s =
     let old = w .standby in
     let new = s .next .standby .state in
     cond (acceptsKind s COMMIT)
-    (leaving s (standbyWith (s .next) (withReceived new (new .received) (onlyDue (old .state .slots)) (old .state .processor)) (old .memory) (old .disk)))
+    (leaving s (standbyWith (s .next) (withReceivedSlotsProcessor new (new .received) (onlyDue (old .state .slots)) (old .state .processor)) (old .memory) (old .disk)))
     s
 
 pub refutes-checkpoint-0 : Demand3Of (wrongly (insteadOf (call.read 0 []) installsNothing)) → ⊥

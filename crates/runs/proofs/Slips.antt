@@ -12,8 +12,8 @@ use Rattle.records.specs.Kind.{BLOCK, STATE}
 use Rattle.records.specs.Write.{ackRecord}
 use Rattle.marks.specs.Mark.{cleared}
 use Rattle.staging.specs.Slot.{emptySlots, allDue}
-use Rattle.rules.specs.PrimaryState.{withDetector}
-use Rattle.rules.specs.StandbyState.{withSlots}
+use Rattle.rules.specs.PrimaryState.{withDetectorAloneWaiting}
+use Rattle.rules.specs.StandbyState.{withSlotsBlocks}
 use Rattle.rules.specs.World.{World, Call}
 use Rattle.rules.specs.World as call
 use Rattle.rules.specs.Step.{Outcome, Stepped, step}
@@ -40,8 +40,8 @@ refutes-ack-at-state d =
 abbrev pub releasesOpen : World → Call → Stepped → Stepped
 releasesOpen w c s =
     let p = w .primary in
-    let t = step (primaryWith w (withDetector (p .state) (p .state .detector) true (p .state .waiting)) (p .dirty) (p .stream)) c in
-    leaving t (primaryWith (t .next) (withDetector (t .next .primary .state) (p .state .detector) (p .state .alone) (p .state .waiting)) (p .dirty) (p .stream))
+    let t = step (primaryWith w (withDetectorAloneWaiting (p .state) (p .state .detector) true (p .state .waiting)) (p .dirty) (p .stream)) c in
+    leaving t (primaryWith (t .next) (withDetectorAloneWaiting (t .next .primary .state) (p .state .detector) (p .state .alone) (p .state .waiting)) (p .dirty) (p .stream))
 
 pub refutes-release-open : Demand3Of (wrongly (insteadOf (call.take []) releasesOpen)) → ⊥
 unfolding allSteps
@@ -70,7 +70,7 @@ refutes-stored-on-arrival d =
 abbrev pub dueOnArrival : World → Call → Stepped → Stepped
 dueOnArrival w c s =
     let n = s .next .standby in
-    cond (acceptsKind s BLOCK) (leaving s (standbyWith (s .next) (withSlots (n .state) (allDue (n .state .slots)) (n .state .blocks)) (n .memory) (n .disk))) s
+    cond (acceptsKind s BLOCK) (leaving s (standbyWith (s .next) (withSlotsBlocks (n .state) (allDue (n .state .slots)) (n .state .blocks)) (n .memory) (n .disk))) s
 
 pub refutes-due-on-arrival : Demand3Of (wrongly (insteadOf (call.read 0 []) dueOnArrival)) → ⊥
 unfolding allSteps
@@ -83,9 +83,9 @@ refutes-due-on-arrival d =
 abbrev pub activatesDue : World → Call → Stepped → Stepped
 activatesDue w c s =
     let o = w .standby in
-    let t = step (standbyWith w (withSlots (o .state) emptySlots (o .state .blocks)) (o .memory) (o .disk)) c in
+    let t = step (standbyWith w (withSlotsBlocks (o .state) emptySlots (o .state .blocks)) (o .memory) (o .disk)) c in
     let n = t .next .standby in
-    leaving t (standbyWith (t .next) (withSlots (n .state) (o .state .slots) (o .state .blocks)) (n .memory) (n .disk))
+    leaving t (standbyWith (t .next) (withSlotsBlocks (n .state) (o .state .slots) (o .state .blocks)) (n .memory) (n .disk))
 
 pub refutes-activation-with-due : Demand3Of (wrongly (insteadOf call.activation activatesDue)) → ⊥
 unfolding allSteps

@@ -72,8 +72,8 @@ abbrev pub withImages : Plain → List ℕ → List ℕ → Plain
 withImages p memory disk =
     record { memory = memory; disk = disk; standbyMemory = p .standbyMemory; standbyDisk = p .standbyDisk; activated = p .activated; accepted = p .accepted; taken = p .taken; checkpoints = p .checkpoints; r = p .r; a = p .a; count = p .count }
 
-abbrev pub withStandbyImages : Plain → Bool → List ℕ → List ℕ → Plain
-withStandbyImages p activated memory disk =
+abbrev pub withActivatedStandbyImages : Plain → Bool → List ℕ → List ℕ → Plain
+withActivatedStandbyImages p activated memory disk =
     record { memory = p .memory; disk = p .disk; standbyMemory = memory; standbyDisk = disk; activated = activated; accepted = p .accepted; taken = p .taken; checkpoints = p .checkpoints; r = p .r; a = p .a; count = p .count }
 
 abbrev pub withPackets : Plain → List (List ℕ) → ℕ → Plain
@@ -106,11 +106,11 @@ plainAccepted u call.primaryTick value p = withCounts p (p .r) (p .a) (cond (una
 plainAccepted u (call.read n reply) value p = withCounts p (cond (eqb value COMMIT) (p .r + 1) (p .r)) (p .a) (p .count)
 plainAccepted u (call.flush n) value p = p
 plainAccepted u call.standbyTick value p = p
-plainAccepted u call.activation value p = withStandbyImages p true (receivedCheckpoint p .memory) (receivedCheckpoint p .disk)
+plainAccepted u call.activation value p = withActivatedStandbyImages p true (receivedCheckpoint p .memory) (receivedCheckpoint p .disk)
 plainAccepted u (call.activeMemoryWrite page offset bytes) value p =
-    withStandbyImages p (p .activated) (written u (p .standbyMemory) page offset bytes) (p .standbyDisk)
+    withActivatedStandbyImages p (p .activated) (written u (p .standbyMemory) page offset bytes) (p .standbyDisk)
 plainAccepted u (call.activeDiskWrite block bytes) value p =
-    withStandbyImages p (p .activated) (p .standbyMemory) (withPage u (p .standbyDisk) block bytes)
+    withActivatedStandbyImages p (p .activated) (p .standbyMemory) (withPage u (p .standbyDisk) block bytes)
 
 -- "or one refused or cut short: nothing changes"
 unfoldable pub plainStep : ℕ → Call → Outcome → Plain → Plain

@@ -10,7 +10,7 @@ ghost use Rattle.settings.specs.Range.{mostSlots};
 ghost use Rattle.marks.specs.Mark.{withMark, cleared};
 ghost use Rattle.pages.specs.Dirty.{installed};
 ghost use Rattle.staging.specs.Slot.{withBlock, withBlockBytes};
-ghost use Rattle.rules.specs.StandbyState.{withPages, withSlots};
+ghost use Rattle.rules.specs.StandbyState.{withPagesNext, withSlotsBlocks};
 ghost use Rattle.rules.specs.Reply.{answerOf};
 ghost use Rattle.rules.specs.Read.{bytesAt, detectorAfter, installedState, afterRecord, readState, memoryAfter, stagedPagesAfter, stagedMarksAfter, stagedBlocksAfter, replyAfter, readLent};
 ghost use Rattle.standby.specs.Fits.{FieldFits, StateFits, BuffersFit};
@@ -46,21 +46,21 @@ fn processor(bytes: &[u8], at: Cursor) -> [u8; 64]
 // One page more of the epoch.
 fn with_page(s: Standby, page: usize) -> Standby
     requires { ⌜ (s .pages + 1 < 2 ^ 64) × (page + 1 < 2 ^ 64) ⌝ }
-    ensures { λ r. ⌜ r ≡ withPages s (s .pages + 1) (page + 1) ⌝ }
+    ensures { λ r. ⌜ r ≡ withPagesNext s (s .pages + 1) (page + 1) ⌝ }
 {
     let pages = s.pages;
-    parts::with_pages(s, pages + 1, page + 1)
+    parts::with_pages_next(s, pages + 1, page + 1)
 }
 
 // One block more of the epoch, staged and not due.
 fn with_block(s: Standby, block: usize) -> Standby
     requires { ⌜ (s .slots .staged < mostSlots) × (s .blocks + 1 < 2 ^ 64) ⌝ }
-    ensures { λ r. ⌜ r ≡ withSlots s (withBlock (s .slots) block) (s .blocks + 1) ⌝ }
+    ensures { λ r. ⌜ r ≡ withSlotsBlocks s (withBlock (s .slots) block) (s .blocks + 1) ⌝ }
 {
     let k = s.slots;
     let blocks = s.blocks;
     let slots = staging::with_block(k, block);
-    parts::with_slots(s, slots, blocks + 1)
+    parts::with_slots_blocks(s, slots, blocks + 1)
 }
 
 // A checkpoint is installed: "keeps the processor state, makes the epoch's staged blocks due"; its epoch is the last received.
@@ -70,7 +70,7 @@ fn installed_state(s: Standby, epoch: u32) -> Standby
     let k = s.slots;
     let pending = s.pending;
     let due = staging::all_due(k);
-    parts::with_received(s, epoch, due, pending)
+    parts::with_received_slots_processor(s, epoch, due, pending)
 }
 
 // The state after a record, but for the detector.
@@ -89,7 +89,7 @@ fn after_record(s: Standby, bytes: &[u8], r: Record) -> Standby
             block,
             at: _,
         } => with_block(s, block),
-        Record::State { epoch: _, at } => parts::with_state(s, processor(bytes, at)),
+        Record::State { epoch: _, at } => parts::with_pending_seen(s, processor(bytes, at)),
         Record::Commit {
             epoch,
             pages: _,

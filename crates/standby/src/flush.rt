@@ -2,7 +2,7 @@
 ghost use mathlib.Core.Path.{_≡_};
 ghost use lib.ListN.{length};
 ghost use Rattle.rules.specs.Flush.{flushRefusal, flushReply, flushStagedBlocks, flushDisk};
-use crate::parts::with_slots;
+use crate::parts::with_slots_blocks;
 use crate::ranges::standby_ok;
 use rules::Standby;
 use rules::StandbyReply;
@@ -46,7 +46,7 @@ pub fn flush(s: Standby, slots: &mut [u8], disk: &mut [u8], n: usize) -> Standby
         };
     }
     let count = staging::flush(slots, disk, k, u, n);
-    let state = with_slots(s, staging::flushed(k, count), blocks);
+    let state = with_slots_blocks(s, staging::flushed(k, count), blocks);
     StandbyReply {
         state: state,
         number: 0,

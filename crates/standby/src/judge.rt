@@ -17,6 +17,7 @@ fn page_refusal(s: Standby, epoch: u32, page: usize) -> u64
     let m = g.m;
     let received = s.received as u64;
     let next = s.next;
+    let pages = s.pages;
     let seen = s.seen;
     if m <= page {
         return 2;
@@ -25,6 +26,9 @@ fn page_refusal(s: Standby, epoch: u32, page: usize) -> u64
         return 8;
     }
     if page < next {
+        return 9;
+    }
+    if page < pages {
         return 9;
     }
     if seen {
@@ -44,6 +48,7 @@ fn block_refusal(s: Standby, epoch: u32, block: usize) -> u64
     let slots = s.slots;
     let received = s.received as u64;
     let next = s.next;
+    let pages = s.pages;
     let seen = s.seen;
     let blocks = s.blocks;
     let free = staging::free_slots(slots, room);
@@ -54,6 +59,9 @@ fn block_refusal(s: Standby, epoch: u32, block: usize) -> u64
         return 8;
     }
     if next != 0 {
+        return 9;
+    }
+    if pages != 0 {
         return 9;
     }
     if seen {

@@ -1,13 +1,13 @@
 // The standby's state with parts of it replaced.
 ghost use mathlib.Core.Path.{_≡_};
-ghost use Rattle.rules.specs.StandbyState.{withPages, withSlots, withState, withNoRecords, withReceived, withDetector, withMode};
+ghost use Rattle.rules.specs.StandbyState.{withPagesNext, withSlotsBlocks, withPendingSeen, withNoRecords, withReceivedSlotsProcessor, withDetector, withMode};
 use detector::Detector;
 use rules::Mode;
 use rules::Standby;
 use staging::Slots;
 
-pub fn with_pages(s: Standby, pages: usize, next: usize) -> Standby
-    ensures { λ r. ⌜ r ≡ withPages s pages next ⌝ }
+pub fn with_pages_next(s: Standby, pages: usize, next: usize) -> Standby
+    ensures { λ r. ⌜ r ≡ withPagesNext s pages next ⌝ }
 {
     let mut t = s;
     t.pages = pages;
@@ -15,8 +15,8 @@ pub fn with_pages(s: Standby, pages: usize, next: usize) -> Standby
     t
 }
 
-pub fn with_slots(s: Standby, slots: Slots, blocks: usize) -> Standby
-    ensures { λ r. ⌜ r ≡ withSlots s slots blocks ⌝ }
+pub fn with_slots_blocks(s: Standby, slots: Slots, blocks: usize) -> Standby
+    ensures { λ r. ⌜ r ≡ withSlotsBlocks s slots blocks ⌝ }
 {
     let mut t = s;
     t.slots = slots;
@@ -24,8 +24,8 @@ pub fn with_slots(s: Standby, slots: Slots, blocks: usize) -> Standby
     t
 }
 
-pub fn with_state(s: Standby, processor: [u8; 64]) -> Standby
-    ensures { λ r. ⌜ r ≡ withState s processor ⌝ }
+pub fn with_pending_seen(s: Standby, processor: [u8; 64]) -> Standby
+    ensures { λ r. ⌜ r ≡ withPendingSeen s processor ⌝ }
 {
     let mut t = s;
     t.seen = true;
@@ -45,8 +45,13 @@ pub fn with_no_records(s: Standby) -> Standby
     t
 }
 
-pub fn with_received(s: Standby, received: u32, slots: Slots, processor: [u8; 64]) -> Standby
-    ensures { λ r. ⌜ r ≡ withReceived s received slots processor ⌝ }
+pub fn with_received_slots_processor(
+    s: Standby,
+    received: u32,
+    slots: Slots,
+    processor: [u8; 64],
+) -> Standby
+    ensures { λ r. ⌜ r ≡ withReceivedSlotsProcessor s received slots processor ⌝ }
 {
     let mut t = s;
     t.received = received;

@@ -3,19 +3,18 @@ ghost use mathlib.Core.Path.{_≡_};
 ghost use mathlib.Core.Bool.{true, cond};
 ghost use Prim.Native.Nat.{_+_, _*_, _≤_};
 ghost use lib.ListN.{length};
-ghost use Rattle.lists.specs.Refusal.{pick};
+ghost use Rattle.lists.specs.Refusal.{refusal, pick};
 ghost use Rattle.marks.specs.Mark.{cleared};
 ghost use Rattle.detector.specs.Tick.{expired};
 ghost use Rattle.rules.specs.declared.Mode.the-variants.{TakingOver};
 ghost use Rattle.rules.specs.Common.{insidePage, written};
 ghost use Rattle.rules.specs.Reply.{standbyReply};
 ghost use Rattle.rules.specs.StandbyState.{standbyOk, withDetector, withMode};
-ghost use Rattle.rules.specs.Takeover.{dropped, standbyTickRefusal, standbyTickReply, standbyTickMarks, activationRefusal, activationReply, activationArea, activeMemoryWriteReply, activeMemoryWriteMemory, activeDiskWriteReply, activeDiskWriteDisk};
-ghost use Rattle.standby.specs.GuestWrite.{writeRefusal};
+ghost use Rattle.rules.specs.Takeover.{dropped, standbyTickRefusal, standbyTickReply, standbyTickMarks, activationRefusal, activationReply, activationArea, activeWriteTests, activeMemoryWriteReply, activeMemoryWriteMemory, activeDiskWriteReply, activeDiskWriteDisk};
 use crate::parts::with_detector;
 use crate::parts::with_mode;
 use crate::parts::with_no_records;
-use crate::parts::with_slots;
+use crate::parts::with_slots_blocks;
 use crate::ranges::is_active;
 use crate::ranges::is_receiving;
 use crate::ranges::is_taking_over;
@@ -45,7 +44,7 @@ fn drop_staged(s: Standby) -> Standby
     ensures { λ r. ⌜ r ≡ dropped s ⌝ }
 {
     let k = s.slots;
-    with_no_records(with_slots(s, staging::only_due(k), 0))
+    with_no_records(with_slots_blocks(s, staging::only_due(k), 0))
 }
 
 // The same for the staged marks, where the standby takes over.
@@ -161,7 +160,7 @@ fn inside_page(u: usize, offset: usize, n: usize) -> bool
 // What a guest's write is refused with, of a page or block, its number, and whether the bytes have their size: 1 13 2 3.
 fn write_refusal(s: Standby, lent: usize, units: usize, unit: usize, sized: bool) -> u64
     requires { ⌜ (standbyOk s ≡ true → units ≤ 4096) ⌝ }
-    ensures { λ r. ⌜ r ≡ writeRefusal s lent units unit sized ⌝ }
+    ensures { λ r. ⌜ r ≡ refusal (activeWriteTests s lent units unit sized) ⌝ }
 {
     let g = s.settings;
     let u = g.u;
@@ -196,8 +195,8 @@ fn write(
 ) -> StandbyReply
     requires { ⌜ (standbyOk s ≡ true → units ≤ 4096) ⌝ }
     requires { ⌜ (sized ≡ true → offset + length (now bytes) ≤ s .settings .u) ⌝ }
-    ensures { λ r. ⌜ r ≡ standbyReply (writeRefusal s (length (now (image .entry))) units unit sized) s s (s .received) ⌝ }
-    ensures { λ _. ⌜ now (image .exit) ≡ pick (writeRefusal s (length (now (image .entry))) units unit sized) (written (s .settings .u) (now (image .entry)) unit offset (now (bytes .entry))) (now (image .entry)) ⌝ }
+    ensures { λ r. ⌜ r ≡ standbyReply (refusal (activeWriteTests s (length (now (image .entry))) units unit sized)) s s (s .received) ⌝ }
+    ensures { λ _. ⌜ now (image .exit) ≡ pick (refusal (activeWriteTests s (length (now (image .entry))) units unit sized)) (written (s .settings .u) (now (image .entry)) unit offset (now (bytes .entry))) (now (image .entry)) ⌝ }
 {
     let g = s.settings;
     let u = g.u;
