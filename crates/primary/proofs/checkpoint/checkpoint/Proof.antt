@@ -56,11 +56,11 @@ append-checkpoint-requires c κs = (accepted (c .before .before), c .before .bef
 clear-requires : tie.Need-clear-requires
 clear-requires c κs = search needs
 
-add-with-epoch : tie.Need-add-with-epoch
-add-with-epoch c = omega (arith, facts (c .before .before .before .before .before .before .before .before .before) .next)
+add-with-epoch-blocks-waiting : tie.Need-add-with-epoch-blocks-waiting
+add-with-epoch-blocks-waiting c = omega (arith, facts (c .before .before .before .before .before .before .before .before .before) .next)
 
-with-epoch-requires : tie.Need-with-epoch-requires
-with-epoch-requires c κs = search needs
+with-epoch-blocks-waiting-requires : tie.Need-with-epoch-blocks-waiting-requires
+with-epoch-blocks-waiting-requires c κs = search needs
 
 same-length-2 : tie.Need-same-length-2
 same-length-2 c = search needs
@@ -76,7 +76,7 @@ returns-2 c =
     let done = c .before .before .before .before .before .before .before .append-checkpoint in
     let w : done .result ≡ a .p .waiting + checkpointLength (a .p .settings .u) (dirtyCount (a .p) (now (a .dirty))) =
     done .ensures .position ∙ ap (λ n. a .p .waiting + n) (length-checkpoint (a .p) (now (a .memory)) (now (a .dirty)) (a .processor) (facts (c .before .before .before .before .before .before .before .before .before .before) .memory-is) (size (c .before .before .before .before .before .before .before .before .before .before .before .before .before .before .before .before .before .before))) in (
-      rw (c .with-epoch .ensures, w) (primary-accepts _ _ _ _ _ (number (c .before .before .before .before .before .before .before .before .before .before .before)) (c .before .before .before .before .before .before .before .before .before .before .if1 .left)),
+      rw (c .with-epoch-blocks-waiting .ensures, w) (primary-accepts _ _ _ _ _ (number (c .before .before .before .before .before .before .before .before .before .before .before)) (c .before .before .before .before .before .before .before .before .before .before .if1 .left)),
       (c .before .before .before .clear .ensures ∙ sym (pick-accepted _ _ _ z), done .ensures .bytes ∙ sym (pick-accepted _ _ _ z)),
     )
 
@@ -91,8 +91,8 @@ checkpoint-spec =
     returns
     append-checkpoint-requires
     clear-requires
-    add-with-epoch
-    with-epoch-requires
+    add-with-epoch-blocks-waiting
+    with-epoch-blocks-waiting-requires
     same-length-2
     same-length-3
     returns-2)

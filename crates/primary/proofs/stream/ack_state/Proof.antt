@@ -16,7 +16,7 @@ returns-4 : tie.Need-returns-4
 returns-4 c = rw (c .enum-told4 .given .1)
 
 returns-5 : tie.Need-returns-5
-returns-5 c = rw (c .before .before .r .given .1) (rw (c .before .before .before .before .reset .ensures) at (c .with-acknowledged .ensures))
+returns-5 c = rw (c .before .before .r .given .1) (rw (c .before .before .before .before .reset .ensures) at (c .with-acknowledged-detector .ensures))
 
 returns-6 : tie.Need-returns-6
 returns-6 c = rw (c .enum-told5 .given .1)
@@ -42,8 +42,8 @@ enum-told-4 c = search needs
 enum-known-r : tie.Need-enum-known-r
 enum-known-r c = search needs
 
-with-acknowledged-requires : tie.Need-with-acknowledged-requires
-with-acknowledged-requires c κs = search needs
+with-acknowledged-detector-requires : tie.Need-with-acknowledged-detector-requires
+with-acknowledged-detector-requires c κs = search needs
 
 enum-told-5 : tie.Need-enum-told-5
 enum-told-5 c = search needs
@@ -52,4 +52,4 @@ enum-told-6 : tie.Need-enum-told-6
 enum-told-6 c = search needs
 
 pub ack-state-spec : {M : Type 1} → statement M
-ack-state-spec = tie.close (tie.spec reset-requires enum-told enum-told-2 enum-told-3 enum-told-4 enum-known-r with-acknowledged-requires enum-told-5 enum-told-6 returns returns-2 returns-3 returns-4 returns-5 returns-6 returns-7)
+ack-state-spec = tie.close (tie.spec reset-requires enum-told enum-told-2 enum-told-3 enum-told-4 enum-known-r with-acknowledged-detector-requires enum-told-5 enum-told-6 returns returns-2 returns-3 returns-4 returns-5 returns-6 returns-7)

@@ -21,8 +21,8 @@ enum-known-r-3 c = search needs
 processor-requires : tie.Need-processor-requires
 processor-requires c κs = rw (c .before .r3 .given .1) at (c .before .before .before .before .pre)
 
-with-state-requires : tie.Need-with-state-requires
-with-state-requires c κs = search needs
+with-pending-seen-requires : tie.Need-with-pending-seen-requires
+with-pending-seen-requires c κs = search needs
 
 enum-known-r-4 : tie.Need-enum-known-r-4
 enum-known-r-4 c = search needs
@@ -49,7 +49,7 @@ returns-2 : tie.Need-returns-2
 returns-2 c = rw (c .before .before .r2 .given .1) (c .with-block .ensures)
 
 returns-3 : tie.Need-returns-3
-returns-3 c = rw (c .before .before .before .r3 .given .1) (c .with-state .ensures ∙ rw (c .before .processor .ensures))
+returns-3 c = rw (c .before .before .before .r3 .given .1) (c .with-pending-seen .ensures ∙ rw (c .before .processor .ensures))
 
 returns-4 : tie.Need-returns-4
 returns-4 c = rw (c .before .before .before .r4 .given .1) (c .installed-state .ensures ∙ rw (c .before .with-no-records .ensures))
@@ -73,7 +73,7 @@ after-record-spec =
     with-block-requires
     enum-known-r-3
     processor-requires
-    with-state-requires
+    with-pending-seen-requires
     enum-known-r-4
     with-no-records-requires
     installed-state-requires

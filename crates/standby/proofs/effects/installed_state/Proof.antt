@@ -6,11 +6,11 @@ use Rattle.standby.proofs.effects.installed_state.Tie as tie
 all-due-requires : tie.Need-all-due-requires
 all-due-requires c κs = search needs
 
-with-received-requires : tie.Need-with-received-requires
-with-received-requires c κs = search needs
+with-received-slots-processor-requires : tie.Need-with-received-slots-processor-requires
+with-received-slots-processor-requires c κs = search needs
 
 returns : tie.Need-returns
-returns c = c .with-received .ensures ∙ rw (c .before .all-due .ensures)
+returns c = c .with-received-slots-processor .ensures ∙ rw (c .before .all-due .ensures)
 
 pub installed-state-spec : {M : Type 1} → statement M
-installed-state-spec = tie.close (tie.spec all-due-requires with-received-requires returns)
+installed-state-spec = tie.close (tie.spec all-due-requires with-received-slots-processor-requires returns)

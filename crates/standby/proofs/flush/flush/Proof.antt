@@ -47,8 +47,8 @@ flushed-requires c κs =
     let e = c .before .before .before .before .flush .ensures .0 in
     omega arith
 
-with-slots-requires : tie.Need-with-slots-requires
-with-slots-requires c κs = search needs
+with-slots-blocks-requires : tie.Need-with-slots-blocks-requires
+with-slots-blocks-requires c κs = search needs
 
 same-length : tie.Need-same-length
 same-length c = search needs
@@ -62,7 +62,7 @@ returns-2 c =
     let k = c .before .before .before .before .before .before .before .before .before .before .flush-refusal in
     let z = c .before .before .before .before .before .before .before .before .before .if1 .left in
     let e = c .before .before .before .before .before .before .flush .ensures in
-    (rw (c .with-slots .ensures, c .before .flushed .ensures, e .0) (standby-accepts _ _ _ _ _ (k .ensures) z), (e .1 .1 ∙ sym (pick-accepted _ _ _ (sym (k .ensures) ∙ z)), e .1 .0 ∙ sym (pick-accepted _ _ _ (sym (k .ensures) ∙ z))))
+    (rw (c .with-slots-blocks .ensures, c .before .flushed .ensures, e .0) (standby-accepts _ _ _ _ _ (k .ensures) z), (e .1 .1 ∙ sym (pick-accepted _ _ _ (sym (k .ensures) ∙ z)), e .1 .0 ∙ sym (pick-accepted _ _ _ (sym (k .ensures) ∙ z))))
 
 pub flush-spec : {M : Type 1} → statement M
 flush-spec =
@@ -72,7 +72,7 @@ flush-spec =
     returns
     flush-requires
     flushed-requires
-    with-slots-requires
+    with-slots-blocks-requires
     same-length
     same-length-2
     returns-2)

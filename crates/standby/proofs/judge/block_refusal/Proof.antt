@@ -30,23 +30,27 @@ returns-3 c = simp (lt-ltb _ _ (c .before .before .if1 .left), eq-eqb _ _ (c .be
 
 returns-4 : tie.Need-returns-4
 unfolding blockRefusal
-returns-4 c = simp (lt-ltb _ _ (c .before .before .before .if1 .left), eq-eqb _ _ (c .before .before .if2 .left), eq-eqb _ _ (c .before .if3 .left), c .if4 .taken)
+returns-4 c = simp (lt-ltb _ _ (c .before .before .before .if1 .left), eq-eqb _ _ (c .before .before .if2 .left), eq-eqb _ _ (c .before .if3 .left), ne-eqb _ _ (c .if4 .taken))
 
 returns-5 : tie.Need-returns-5
 unfolding blockRefusal
-returns-5 c = simp (lt-ltb _ _ (c .before .before .before .before .if1 .left), eq-eqb _ _ (c .before .before .before .if2 .left), eq-eqb _ _ (c .before .before .if3 .left), c .before .if4 .left, le-ltb _ _ (c .if5 .taken))
+returns-5 c = simp (lt-ltb _ _ (c .before .before .before .before .if1 .left), eq-eqb _ _ (c .before .before .before .if2 .left), eq-eqb _ _ (c .before .before .if3 .left), eq-eqb _ _ (c .before .if4 .left), c .if5 .taken)
 
 returns-6 : tie.Need-returns-6
 unfolding blockRefusal
-returns-6 c =
-    let h : freeSlots (c .before .before .before .before .before .before .before .before .before .before .args .s .slots) (c .before .before .before .before .before .before .before .before .before .before .args .s .settings .s) ≤ 0 = omega (arith, c .before .before .before .before .before .before .free-slots .ensures, c .if6 .taken) in
-    simp (lt-ltb _ _ (c .before .before .before .before .before .if1 .left), eq-eqb _ _ (c .before .before .before .before .if2 .left), eq-eqb _ _ (c .before .before .before .if3 .left), c .before .before .if4 .left, lt-ltb _ _ (c .before .if5 .left), le-ltb _ _ h)
+returns-6 c = simp (lt-ltb _ _ (c .before .before .before .before .before .if1 .left), eq-eqb _ _ (c .before .before .before .before .if2 .left), eq-eqb _ _ (c .before .before .before .if3 .left), eq-eqb _ _ (c .before .before .if4 .left), c .before .if5 .left, le-ltb _ _ (c .if6 .taken))
 
 returns-7 : tie.Need-returns-7
 unfolding blockRefusal
 returns-7 c =
-    let h : 0 < freeSlots (c .before .before .before .before .before .before .before .before .before .before .args .s .slots) (c .before .before .before .before .before .before .before .before .before .before .args .s .settings .s) = omega (arith, c .before .before .before .before .before .before .free-slots .ensures, c .if6 .left) in
-    simp (lt-ltb _ _ (c .before .before .before .before .before .if1 .left), eq-eqb _ _ (c .before .before .before .before .if2 .left), eq-eqb _ _ (c .before .before .before .if3 .left), c .before .before .if4 .left, lt-ltb _ _ (c .before .if5 .left), lt-ltb _ _ h)
+    let h : freeSlots (c .before .before .before .before .before .before .before .before .before .before .before .args .s .slots) (c .before .before .before .before .before .before .before .before .before .before .before .args .s .settings .s) ≤ 0 = omega (arith, c .before .before .before .before .before .before .before .free-slots .ensures, c .if7 .taken) in
+    simp (lt-ltb _ _ (c .before .before .before .before .before .before .if1 .left), eq-eqb _ _ (c .before .before .before .before .before .if2 .left), eq-eqb _ _ (c .before .before .before .before .if3 .left), eq-eqb _ _ (c .before .before .before .if4 .left), c .before .before .if5 .left, lt-ltb _ _ (c .before .if6 .left), le-ltb _ _ h)
+
+returns-8 : tie.Need-returns-8
+unfolding blockRefusal
+returns-8 c =
+    let h : 0 < freeSlots (c .before .before .before .before .before .before .before .before .before .before .before .args .s .slots) (c .before .before .before .before .before .before .before .before .before .before .before .args .s .settings .s) = omega (arith, c .before .before .before .before .before .before .before .free-slots .ensures, c .if7 .left) in
+    simp (lt-ltb _ _ (c .before .before .before .before .before .before .if1 .left), eq-eqb _ _ (c .before .before .before .before .before .if2 .left), eq-eqb _ _ (c .before .before .before .before .if3 .left), eq-eqb _ _ (c .before .before .before .if4 .left), c .before .before .if5 .left, lt-ltb _ _ (c .before .if6 .left), lt-ltb _ _ h)
 
 pub block-refusal-spec : {M : Type 1} → statement M
 block-refusal-spec =
@@ -61,4 +65,5 @@ block-refusal-spec =
     returns-4
     returns-5
     returns-6
-    returns-7)
+    returns-7
+    returns-8)

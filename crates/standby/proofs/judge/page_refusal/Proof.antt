@@ -24,12 +24,15 @@ returns-3 c = simp (lt-ltb _ _ (c .before .before .if1 .left), eq-eqb _ _ (c .be
 
 returns-4 : tie.Need-returns-4
 unfolding pageRefusal
-returns-4 c = simp (lt-ltb _ _ (c .before .before .before .if1 .left), eq-eqb _ _ (c .before .before .if2 .left), le-leb _ _ (c .before .if3 .left), c .if4 .taken)
+returns-4 c = simp (lt-ltb _ _ (c .before .before .before .if1 .left), eq-eqb _ _ (c .before .before .if2 .left), le-leb _ _ (c .before .if3 .left), lt-leb _ _ (c .if4 .taken))
 
 returns-5 : tie.Need-returns-5
 unfolding pageRefusal
-returns-5 c = simp (lt-ltb _ _ (c .before .before .before .if1 .left), eq-eqb _ _ (c .before .before .if2 .left), le-leb _ _ (c .before .if3 .left), c .if4 .left)
+returns-5 c = simp (lt-ltb _ _ (c .before .before .before .before .if1 .left), eq-eqb _ _ (c .before .before .before .if2 .left), le-leb _ _ (c .before .before .if3 .left), le-leb _ _ (c .before .if4 .left), c .if5 .taken)
+
+returns-6 : tie.Need-returns-6
+unfolding pageRefusal
+returns-6 c = simp (lt-ltb _ _ (c .before .before .before .before .if1 .left), eq-eqb _ _ (c .before .before .before .if2 .left), le-leb _ _ (c .before .before .if3 .left), le-leb _ _ (c .before .if4 .left), c .if5 .left)
 
 pub page-refusal-spec : {M : Type 1} → statement M
-page-refusal-spec =
-    tie.close (tie.spec cast-received returns add-if2 returns-2 returns-3 returns-4 returns-5)
+page-refusal-spec = tie.close (tie.spec cast-received returns add-if2 returns-2 returns-3 returns-4 returns-5 returns-6)

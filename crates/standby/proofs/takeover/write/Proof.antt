@@ -7,6 +7,7 @@ use Prim.Native.Nat.{ℕ, _+_, _*_, _≤_}
 use lib.Dec.{eqb}
 use lib.ListN.{length}
 use borrow.Author.Tests.{eqb-true, ltb-true}
+use Rattle.lists.specs.Refusal.{refusal}
 use Rattle.lists.proofs.TestLaws.{both, accepted, pick-accepted, pick-refused}
 use Rattle.lists.proofs.PageLaws.{page-end}
 use Rattle.rules.specs.Common.{written}
