@@ -1,5 +1,6 @@
 // The detector of each end: its patience, and the ticks that it has counted.
 ghost use mathlib.Core.Path.{_≡_};
+ghost use Rattle.detector.specs.Range.{detectorOk};
 ghost use Rattle.detector.specs.Tick.{withCount, expired, reset, ticked};
 
 pub struct Detector {
@@ -22,6 +23,15 @@ pub fn expired(d: Detector) -> bool
     ensures { λ r. ⌜ r ≡ expired d ⌝ }
 {
     d.count >= d.patience
+}
+
+// Whether a detector is in its ranges; watching is whether its ticks count.
+pub fn detector_ok(d: Detector, watching: bool) -> bool
+    ensures { λ r. ⌜ r ≡ detectorOk d watching ⌝ }
+{
+    let patience = d.patience;
+    let count = d.count;
+    settings::patience_ok(patience) & (count <= patience) & !(watching & (patience <= count))
 }
 
 // The count returns to 0.

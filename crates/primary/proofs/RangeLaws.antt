@@ -6,7 +6,7 @@ use Rattle.lists.proofs.TestLaws.{and-false}
 use Rattle.settings.specs.Range.{primarySettingsOk}
 use Rattle.queue.specs.Held.{queueOk}
 use Rattle.rules.specs.declared.Primary.{Primary}
-use Rattle.rules.specs.Common.{detectorOk}
+use Rattle.detector.specs.Range.{detectorOk}
 use Rattle.rules.specs.PrimaryState.{primaryOk}
 
 and-true : (x : Bool) → x ≡ (x && true)

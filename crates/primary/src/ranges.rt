@@ -3,35 +3,11 @@ ghost use mathlib.Core.Path.{_≡_};
 ghost use mathlib.Core.Bool.{_&&_, not};
 ghost use lib.Dec.{leb, ltb, eqb};
 ghost use Rattle.settings.specs.Range.{primarySettingsOk};
-ghost use Rattle.rules.specs.Common.{detectorOk};
+ghost use Rattle.detector.specs.Range.{detectorOk};
 ghost use Rattle.rules.specs.PrimaryState.{primaryOk, memoryLength, marksLength};
 use detector::Detector;
 use rules::Primary;
 use settings::PrimarySettings;
-
-// T's range, and a count that has not passed T, nor reached it while it is watching.
-fn detector_ok(d: Detector, watching: bool) -> bool
-    ensures { λ r. ⌜ r ≡ detectorOk d watching ⌝ }
-{
-    let patience = d.patience;
-    let count = d.count;
-    if patience < 1 {
-        return false;
-    }
-    if 60000 < patience {
-        return false;
-    }
-    if patience < count {
-        return false;
-    }
-    if !watching {
-        return true;
-    }
-    if patience <= count {
-        return false;
-    }
-    true
-}
 
 // Whether all of a state but its queue is in its ranges. Packet, take and drain ask this, and test the queue, apart: this takes numbers alone, where the whole state with its
 // packets would go by value.
@@ -60,7 +36,7 @@ pub(crate) fn numbers_ok(
     if b < blocks {
         return false;
     }
-    if !detector_ok(d, !alone) {
+    if !detector::detector_ok(d, !alone) {
         return false;
     }
     true

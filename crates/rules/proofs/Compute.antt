@@ -13,7 +13,8 @@ use Rattle.pages.specs.Dirty.{dirtyRecord, dirtyRecords, installedPage, install
 use Rattle.queue.specs.Held.{lengthsOk, sumLengths, epochsOk, queueOk, added, addedBytes, withoutOldest, withoutOldestBytes, oldestBytes}
 use Rattle.staging.specs.Slot.{numbersOk, slotsOk, withBlock, withBlockBytes, allDue, onlyDue, stored, flushed, flushedBytes}
 use Rattle.detector.specs.Tick.{ticked}
-use Rattle.rules.specs.Common.{detectorOk, written}
+use Rattle.detector.specs.Range.{detectorOk}
+use Rattle.rules.specs.Common.{written}
 use Rattle.rules.specs.PrimaryState.{primaryOk}
 use Rattle.rules.specs.StandbyState.{standbyOk}
 use Rattle.rules.specs.PrimaryWrites.{memoryWriteRefusal, memoryWriteReply, memoryWriteMemory, memoryWriteDirty, diskWriteRefusal, diskWriteState, diskWriteReply, diskWriteDisk, diskWriteStream}

@@ -10,7 +10,7 @@ use Rattle.settings.specs.Range.{patienceOk}
 use Rattle.detector.specs.declared.Detector.{Detector}
 use Rattle.detector.specs.Tick.{reset, expired, ticked}
 use Rattle.detector.proofs.TickLaws.{ticked-patience, ticked-le}
-use Rattle.rules.specs.Common.{detectorOk}
+use Rattle.detector.specs.Range.{detectorOk}
 
 pub record DetectorFacts (d : Detector) (watching : Bool) : Type 0 where
   pub t-low : 1 ≤ d .patience

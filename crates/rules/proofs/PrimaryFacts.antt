@@ -8,7 +8,7 @@ use Rattle.lists.proofs.TestLaws.{both}
 use Rattle.settings.proofs.RangeLaws.{PrimarySettingsFacts, primary-settings-facts, primary-settings-of}
 use Rattle.queue.specs.Held.{queueOk}
 use Rattle.rules.specs.declared.Primary.{Primary}
-use Rattle.rules.specs.Common.{detectorOk}
+use Rattle.detector.specs.Range.{detectorOk}
 use Rattle.rules.specs.PrimaryState.{primaryOk, protected}
 use Rattle.rules.proofs.DetectorFacts.{DetectorFacts, detector-facts, detector-of}
 

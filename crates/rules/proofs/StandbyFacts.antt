@@ -12,7 +12,7 @@ use Rattle.staging.specs.declared.Slots.{Slots}
 use Rattle.staging.specs.Slot.{slotsOk}
 use Rattle.staging.proofs.SlotLaws.{SlotsTests, slots-tests}
 use Rattle.rules.specs.declared.Standby.{Standby}
-use Rattle.rules.specs.Common.{detectorOk}
+use Rattle.detector.specs.Range.{detectorOk}
 use Rattle.rules.specs.StandbyState.{isReceiving, standbyOk, withSlotsBlocks}
 use Rattle.rules.specs.Reached.{StandbyReached}
 use Rattle.rules.proofs.DetectorFacts.{DetectorFacts, detector-facts}

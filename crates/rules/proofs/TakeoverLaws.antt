@@ -16,7 +16,8 @@ use Rattle.detector.specs.Tick.{ticked, expired}
 use Rattle.rules.specs.declared.Mode.{Mode}
 use Rattle.rules.specs.declared.Mode.the-variants.{TakingOver, Active}
 use Rattle.rules.specs.declared.Standby.{Standby}
-use Rattle.rules.specs.Common.{detectorOk, insidePage}
+use Rattle.detector.specs.Range.{detectorOk}
+use Rattle.rules.specs.Common.{insidePage}
 use Rattle.rules.specs.StandbyState.{standbyOk, isReceiving, isTakingOver, isActive, memoryLength, diskLength, marksLength, withDetector, withMode}
 use Rattle.rules.specs.Takeover.{standbyTickTests, activationTests, activeWriteTests, standbyTickRefusal, dropped, takesOver, standbyTickState, standbyTickReply, activationRefusal, activationReply, activeMemoryWriteRefusal, activeMemoryWriteReply, activeDiskWriteRefusal, activeDiskWriteReply}
 use Rattle.rules.specs.Reached.{StandbyReached}

@@ -8,7 +8,7 @@ use Rattle.queue.specs.Held.{queueOk}
 use Rattle.marks.specs.Mark.{wordsFor}
 use Rattle.detector.specs.declared.Detector.{Detector}
 use Rattle.rules.specs.declared.Primary.{Primary}
-use Rattle.rules.specs.Common.{detectorOk}
+use Rattle.detector.specs.Range.{detectorOk}
 
 -- protection is on: the primary is not alone
 abbrev pub protected : Primary → Bool

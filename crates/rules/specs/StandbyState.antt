@@ -11,7 +11,7 @@ use Rattle.detector.specs.declared.Detector.{Detector}
 use Rattle.rules.specs.declared.Mode.{Mode}
 use Rattle.rules.specs.declared.Mode.the-variants.{Receiving, TakingOver, Active}
 use Rattle.rules.specs.declared.Standby.{Standby}
-use Rattle.rules.specs.Common.{detectorOk}
+use Rattle.detector.specs.Range.{detectorOk}
 
 abbrev pub isReceiving : Mode → Bool
 isReceiving Receiving = true

@@ -1,6 +1,5 @@
 // Number 1: whether the standby's state is in its ranges, and its mode.
 ghost use mathlib.Core.Path.{_≡_};
-ghost use Rattle.rules.specs.Common.{detectorOk};
 ghost use Rattle.rules.specs.StandbyState.{isReceiving, isTakingOver, isActive, standbyOk};
 use detector::Detector;
 use rules::Mode;
@@ -36,17 +35,6 @@ pub fn is_active(mode: Mode) -> bool
     }
 }
 
-// Whether the detector is in its ranges; watching is whether its ticks count.
-fn detector_ok(d: Detector, watching: bool) -> bool
-    ensures { λ r. ⌜ r ≡ detectorOk d watching ⌝ }
-{
-    let patience = d.patience;
-    let count = d.count;
-    ((1 <= patience) & (patience <= 60000))
-        & (count <= patience)
-        & !(watching & (patience <= count))
-}
-
 // Whether the state is in its ranges. The settings come first, by a return: with an S known to be at most 64 the slots' numbers are looked at where they lie, and not in a copy.
 pub fn standby_ok(s: Standby) -> bool
     ensures { λ r. ⌜ r ≡ standbyOk s ⌝ }
@@ -61,5 +49,5 @@ pub fn standby_ok(s: Standby) -> bool
     staging::slots_ok(k, g.s, g.d)
         & (s.blocks <= g.b)
         & (s.pages <= g.m)
-        & detector_ok(d, is_receiving(mode))
+        & detector::detector_ok(d, is_receiving(mode))
 }
