@@ -5,6 +5,7 @@ use Rattle.records.specs.declared.Record.the-variants.{Page, Block, State, Comm
 use Rattle.records.specs.Read.{numberOf, kindOf, usedOf}
 use Rattle.rules.specs.declared.Choice.{Choice}
 use Rattle.rules.specs.declared.Choice.the-variants as choice-of
+use Rattle.rules.specs.Choose.{choiceNumber}
 
 -- the number in the low 8 bits, the kind in the next 8, the bytes used above them
 abbrev pub wordOf : Record → ℕ
@@ -20,8 +21,12 @@ testWord (Ack e c) = wordOf (Ack e c)
 testWord Short = 0
 testWord (Refused n) = wordOf (Refused n)
 
--- the primary's disk, the standby's, or the number
+-- the disk: 1 the primary's, 2 the standby's, 0 where there is none
+abbrev pub diskOf : Choice → ℕ
+diskOf choice-of.PrimaryDisk = 1
+diskOf choice-of.StandbyDisk = 2
+diskOf (choice-of.Refused n) = 0
+
+-- the number in the low 8 bits, the disk above them
 abbrev pub choiceWord : Choice → ℕ
-choiceWord choice-of.PrimaryDisk = 256
-choiceWord choice-of.StandbyDisk = 512
-choiceWord (choice-of.Refused n) = n
+choiceWord c = choiceNumber c + 256 * diskOf c

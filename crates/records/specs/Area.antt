@@ -8,7 +8,7 @@ use Rattle.lists.specs.LittleEndian.{leAt}
 use Rattle.records.specs.declared.Area.{Area}
 use Rattle.records.specs.declared.Area.the-variants.{Zero, Activation, Neither}
 use Rattle.records.specs.Number.{badArea}
-use Rattle.records.specs.Kind.{ACTIVATION}
+use Rattle.records.specs.Kind.{ACTIVATION, epochBody}
 
 -- "record area 8"
 abbrev pub areaLength : ℕ
@@ -24,7 +24,7 @@ unfoldable pub areaOf : List ℕ → Area
 areaOf s =
     cond (eqb (length s) areaLength)
     (cond (allZero s) Zero
-    (cond (eqb (leAt 2 s 0) 4 && eqb (leAt 2 s 2) ACTIVATION) (Activation (leAt 4 s 4)) Neither))
+    (cond (eqb (leAt 2 s 0) epochBody && eqb (leAt 2 s 2) ACTIVATION) (Activation (leAt 4 s 4)) Neither))
     Neither
 
 -- the paper's number of each case: 12, "record area neither zero nor a record"
@@ -32,3 +32,9 @@ abbrev pub areaNumber : Area → ℕ
 areaNumber Zero = 0
 areaNumber (Activation epoch) = 0
 areaNumber Neither = badArea
+
+-- and its value: the activation's epoch; "Every refusal's value is 0"
+abbrev pub areaValue : Area → ℕ
+areaValue Zero = 0
+areaValue (Activation epoch) = epoch
+areaValue Neither = 0

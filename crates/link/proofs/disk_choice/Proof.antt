@@ -1,4 +1,5 @@
 use mathlib.Core.Path.{sym, _∙_}
+use native.Mathlib.Nat.{add-zero}
 use borrow.Author.Needs.{needs}
 use Rattle.link.proofs.disk_choice.Statement.{statement}
 use Rattle.link.proofs.disk_choice.Tie as tie
@@ -22,7 +23,7 @@ returns-2 : tie.Need-returns-2
 returns-2 c = rw (sym (c .before .before .decide .ensures) ∙ c .enum-told2 .given .1)
 
 returns-3 : tie.Need-returns-3
-returns-3 c = rw (sym (c .before .before .before .decide .ensures) ∙ c .before .number .given .1)
+returns-3 c = rw (sym (c .before .before .before .decide .ensures) ∙ c .before .number .given .1, add-zero)
 
 pub disk-choice-spec : {M : Type 1} → statement M
 disk-choice-spec =
