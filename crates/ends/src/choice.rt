@@ -3,8 +3,10 @@ ghost use mathlib.Core.Path.{_≡_};
 ghost use lib.ListN.{length};
 ghost use denote.Ref.{ptr};
 ghost use Rattle.rules.specs.Choose.{choiceNumber, choiceOf, chosen, chosenDisk};
+use records::AREA_LENGTH;
 use records::Area;
 use records::disk_area::read_area;
+use records::number;
 use rules::Choice;
 
 // From the lengths of the two disks and the record area: 1 where the disks differ in length or the area is not 8 bytes, else what the area says.
@@ -12,15 +14,21 @@ pub fn decide(primary: usize, standby: usize, area: &[u8]) -> Choice
     ensures { λ r. ⌜ r ≡ choiceOf primary standby (now (area .entry)) ⌝ }
 {
     if primary != standby {
-        return Choice::Refused { number: 1 };
+        return Choice::Refused {
+            number: number::OUT_OF_RANGE,
+        };
     }
-    if area.len() != 8 {
-        return Choice::Refused { number: 1 };
+    if area.len() != AREA_LENGTH {
+        return Choice::Refused {
+            number: number::OUT_OF_RANGE,
+        };
     }
     match read_area(area) {
         Area::Zero => Choice::PrimaryDisk,
         Area::Activation { epoch: _ } => Choice::StandbyDisk,
-        Area::Neither => Choice::Refused { number: 12 },
+        Area::Neither => Choice::Refused {
+            number: number::BAD_AREA,
+        },
     }
 }
 

@@ -11,6 +11,8 @@ ghost use Rattle.ends.specs.Lent.{startLens};
 use detector::Detector;
 use queue::Packet;
 use queue::Queue;
+use records::AREA_LENGTH;
+use records::number;
 use rules::Mode;
 use rules::Primary;
 use rules::PrimaryLent;
@@ -18,6 +20,8 @@ use rules::Standby;
 use rules::StandbyLent;
 use rules::StartLent;
 use rules::Started;
+use settings::MOST_PACKETS;
+use settings::MOST_SLOTS;
 use settings::PrimarySettings;
 use settings::Settings;
 use settings::StandbySettings;
@@ -44,7 +48,7 @@ fn lent_ok(g: Settings, l: StartLent) -> bool
         & (s.pages == memory)
         & (s.marks == words)
         & (s.blocks == blocks)
-        & (s.area == 8)
+        & (s.area == AREA_LENGTH)
 }
 
 // The refusal of start, from the lengths of the lent buffers.
@@ -52,10 +56,10 @@ fn start_refusal(g: Settings, l: StartLent) -> u64
     ensures { λ r. ⌜ r ≡ startRefusal g l ⌝ }
 {
     if !settings::settings_ok(g) {
-        return 1;
+        return number::OUT_OF_RANGE;
     }
     if !lent_ok(g, l) {
-        return 1;
+        return number::OUT_OF_RANGE;
     }
     0
 }
@@ -71,7 +75,7 @@ fn empty_queue() -> Queue
     Queue {
         count: 0,
         bytes: 0,
-        packets: [none; 64],
+        packets: [none; MOST_PACKETS],
     }
 }
 
@@ -82,7 +86,7 @@ fn empty_slots() -> Slots
     Slots {
         staged: 0,
         due: 0,
-        numbers: [0; 64],
+        numbers: [0; MOST_SLOTS],
     }
 }
 
@@ -208,7 +212,7 @@ fn zero_area(area: &mut [u8])
     requires { ⌜ length (now area) ≡ areaLength ⌝ }
     ensures { λ _. ⌜ now (area .exit) ≡ replicate areaLength 0 ⌝ }
 {
-    let zeros = [0u8; 8];
+    let zeros = [0u8; AREA_LENGTH];
     lists::copy_front(area, &zeros);
 }
 

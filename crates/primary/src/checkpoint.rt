@@ -10,8 +10,12 @@ ghost use Rattle.pages.specs.Dirty.{dirtyRecords};
 ghost use Rattle.rules.specs.PrimaryState.{withEpochBlocksWaiting};
 ghost use Rattle.rules.specs.Checkpoint.{dirtyCount, checkpointBytes, checkpointRefusal, checkpointNumber, checkpointReply, checkpointDirty, checkpointStream};
 use crate::ranges::memory_ok;
+use records::UNIT_RECORD;
+use records::number;
 use rules::Primary;
 use rules::PrimaryReply;
+use settings::CHECKPOINT_END;
+use settings::MOST_EPOCH;
 
 // What a checkpoint of this many dirty pages is refused with: 1 13 15 19.
 fn checkpoint_refusal(p: Primary, memory: usize, dirty: usize, stream: usize, pages: usize) -> u64
@@ -25,19 +29,19 @@ fn checkpoint_refusal(p: Primary, memory: usize, dirty: usize, stream: usize, pa
     let u = g.u;
     let l = g.l;
     if !memory_ok(p, memory, dirty) {
-        return 1;
+        return number::OUT_OF_RANGE;
     }
     if stream != l {
-        return 1;
+        return number::OUT_OF_RANGE;
     }
     if alone {
-        return 13;
+        return number::WRONG_MODE;
     }
-    if l < waiting + (pages * (u + 10) + 84) {
-        return 15;
+    if l < waiting + (pages * (u + UNIT_RECORD) + CHECKPOINT_END) {
+        return number::STREAM_FULL;
     }
-    if 4294967295 <= epoch {
-        return 19;
+    if MOST_EPOCH <= epoch {
+        return number::LAST_EPOCH;
     }
     0
 }

@@ -11,8 +11,10 @@ use crate::ranges::numbers_ok;
 use queue::Packet;
 use queue::Queue;
 use queue::Seen;
+use records::number;
 use rules::Primary;
 use rules::PrimaryReply;
+use settings::MOST_PACKET_BYTES;
 
 fn with_queue(p: Primary, queue: Queue) -> Primary
     ensures { λ r. ⌜ r ≡ withQueue p queue ⌝ }
@@ -33,22 +35,22 @@ fn packet_refusal(p: Primary, seen: Seen, held: usize, n: usize) -> u64
     let k = p.queue;
     let q = g.q;
     if !numbers_ok(g, d, epoch, p.acknowledged, p.alone, p.blocks, p.waiting) {
-        return 1;
+        return number::OUT_OF_RANGE;
     }
     if !queue::seen_ok(seen, k.count, k.bytes, epoch, q) {
-        return 1;
+        return number::OUT_OF_RANGE;
     }
     if held != q {
-        return 1;
+        return number::OUT_OF_RANGE;
     }
     if n < 1 {
-        return 4;
+        return number::BAD_PACKET;
     }
-    if 1514 < n {
-        return 4;
+    if MOST_PACKET_BYTES < n {
+        return number::BAD_PACKET;
     }
     if !queue::has_space(k, q, n) {
-        return 16;
+        return number::QUEUE_FULL;
     }
     0
 }
@@ -117,24 +119,24 @@ fn take_refusal(
     let q = g.q;
     let count = k.count;
     if !numbers_ok(g, d, epoch, p.acknowledged, p.alone, p.blocks, p.waiting) {
-        return 1;
+        return number::OUT_OF_RANGE;
     }
     if !queue::seen_ok(seen, count, k.bytes, epoch, q) {
-        return 1;
+        return number::OUT_OF_RANGE;
     }
     if held != q {
-        return 1;
+        return number::OUT_OF_RANGE;
     }
     if count < 1 {
-        return 18;
+        return number::NOTHING_FREE;
     }
     if !alone {
         if acknowledged < first {
-            return 18;
+            return number::NOTHING_FREE;
         }
     }
     if destination < n {
-        return 5;
+        return number::NO_ROOM;
     }
     0
 }

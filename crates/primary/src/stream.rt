@@ -12,6 +12,7 @@ use crate::ranges::primary_ok;
 use detector::Detector;
 use records::Reader;
 use records::Record;
+use records::number;
 use rules::Answer;
 use rules::Primary;
 use rules::PrimaryAnswer;
@@ -36,13 +37,13 @@ fn drain_refusal(p: Primary, stream: usize) -> u64
     let q = g.q;
     let l = g.l;
     if !numbers_ok(g, d, epoch, p.acknowledged, p.alone, p.blocks, p.waiting) {
-        return 1;
+        return number::OUT_OF_RANGE;
     }
     if !queue::queue_ok(k, epoch, q) {
-        return 1;
+        return number::OUT_OF_RANGE;
     }
     if stream != l {
-        return 1;
+        return number::OUT_OF_RANGE;
     }
     0
 }
@@ -103,10 +104,10 @@ fn epoch_refusal(p: Primary, epoch: u32) -> u64
     let acknowledged = p.acknowledged;
     let last = p.epoch;
     if epoch <= acknowledged {
-        return 11;
+        return number::BAD_ACK;
     }
     if last <= epoch {
-        return 11;
+        return number::BAD_ACK;
     }
     0
 }
@@ -120,19 +121,19 @@ fn ack_refusal(p: Primary, r: Record) -> u64
             epoch: _,
             page: _,
             at: _,
-        } => 6,
+        } => number::BAD_KIND,
         Record::Block {
             epoch: _,
             block: _,
             at: _,
-        } => 6,
-        Record::State { epoch: _, at: _ } => 6,
+        } => number::BAD_KIND,
+        Record::State { epoch: _, at: _ } => number::BAD_KIND,
         Record::Commit {
             epoch: _,
             pages: _,
             blocks: _,
             at: _,
-        } => 6,
+        } => number::BAD_KIND,
         Record::Ack { epoch, at: _ } => epoch_refusal(p, epoch),
         Record::Short => 0,
         Record::Refused { number } => number,
@@ -147,10 +148,14 @@ fn ack_judged(p: Primary, bytes: &[u8]) -> Record
     let u = g.u;
     let alone = p.alone;
     if !primary_ok(p) {
-        return Record::Refused { number: 1 };
+        return Record::Refused {
+            number: number::OUT_OF_RANGE,
+        };
     }
     if alone {
-        return Record::Refused { number: 13 };
+        return Record::Refused {
+            number: number::WRONG_MODE,
+        };
     }
     let r = records::reading::read(Reader::Primary, u, bytes);
     let n = ack_refusal(p, r);

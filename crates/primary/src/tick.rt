@@ -4,6 +4,7 @@ ghost use Rattle.rules.specs.PrimaryState.{withDetectorAloneWaiting};
 ghost use Rattle.rules.specs.PrimaryTick.{primaryTickRefusal, outstanding, aloneAt, primaryTickState, primaryTickReply};
 use crate::ranges::primary_ok;
 use detector::Detector;
+use records::number;
 use rules::Primary;
 use rules::PrimaryReply;
 
@@ -12,7 +13,7 @@ fn tick_refusal(p: Primary) -> u64
     ensures { λ r. ⌜ r ≡ primaryTickRefusal p ⌝ }
 {
     if !primary_ok(p) {
-        return 1;
+        return number::OUT_OF_RANGE;
     }
     0
 }

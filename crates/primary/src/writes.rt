@@ -11,6 +11,8 @@ ghost use Rattle.rules.specs.PrimaryState.{primaryOk, withBlocksWaiting};
 ghost use Rattle.rules.specs.PrimaryWrites.{memoryWriteRefusal, memoryWriteReply, memoryWriteMemory, memoryWriteDirty, diskWriteRefusal, diskWriteState, diskWriteReply, diskWriteDisk, diskWriteStream};
 use crate::ranges::memory_ok;
 use crate::ranges::primary_ok;
+use records::UNIT_RECORD;
+use records::number;
 use rules::Primary;
 use rules::PrimaryReply;
 
@@ -29,19 +31,19 @@ fn memory_write_refusal(
     let u = g.u;
     let m = g.m;
     if !memory_ok(p, memory, dirty) {
-        return 1;
+        return number::OUT_OF_RANGE;
     }
     if m <= page {
-        return 2;
+        return number::NO_SUCH_UNIT;
     }
     if n < 1 {
-        return 3;
+        return number::BAD_SIZE;
     }
     if u < n {
-        return 3;
+        return number::BAD_SIZE;
     }
     if u - n < offset {
-        return 3;
+        return number::BAD_SIZE;
     }
     0
 }
@@ -101,28 +103,28 @@ fn disk_write_refusal(p: Primary, disk: usize, stream: usize, block: usize, n: u
     let b = g.b;
     let l = g.l;
     if !primary_ok(p) {
-        return 1;
+        return number::OUT_OF_RANGE;
     }
     if disk != d * u {
-        return 1;
+        return number::OUT_OF_RANGE;
     }
     if stream != l {
-        return 1;
+        return number::OUT_OF_RANGE;
     }
     if d <= block {
-        return 2;
+        return number::NO_SUCH_UNIT;
     }
     if n != u {
-        return 3;
+        return number::BAD_SIZE;
     }
     if alone {
         return 0;
     }
     if b <= blocks {
-        return 14;
+        return number::ALLOWANCE_USED;
     }
-    if l < waiting + (u + 10) {
-        return 15;
+    if l < waiting + (u + UNIT_RECORD) {
+        return number::STREAM_FULL;
     }
     0
 }
@@ -176,7 +178,7 @@ fn disk_write_state(p: Primary) -> Primary
     if alone {
         return p;
     }
-    with_blocks_waiting(p, blocks + 1, waiting + (u + 10))
+    with_blocks_waiting(p, blocks + 1, waiting + (u + UNIT_RECORD))
 }
 
 // Stores U bytes as a block of the disk and appends a BLOCK to the stream.

@@ -8,6 +8,11 @@ ghost use Rattle.lists.specs.Part.{put, removed};
 ghost use Rattle.settings.specs.Range.{mostPackets, packetLengthOk};
 ghost use Rattle.queue.specs.Held.{queueOk, hasSpace};
 ghost use Rattle.queue.specs.Seen.{noneSeen, seenWith, seenOk};
+use settings::MOST_PACKET_BYTES;
+use settings::MOST_PACKETS;
+
+// The largest packet in the width of a packet's length.
+const MOST_LENGTH: u32 = MOST_PACKET_BYTES as u32;
 
 // One held packet: the epoch that was open when it came, and its length.
 pub struct Packet {
@@ -19,7 +24,7 @@ pub struct Packet {
 pub struct Queue {
     pub count: usize,
     pub bytes: usize,
-    pub packets: [Packet; 64],
+    pub packets: [Packet; MOST_PACKETS],
 }
 
 // A packet's length, in the width of the other counts of bytes.
@@ -58,7 +63,7 @@ fn follows(s: Seen, epoch: u32, n: u32) -> bool
     if n < 1 {
         return false;
     }
-    if 1514 < n {
+    if MOST_LENGTH < n {
         return false;
     }
     if epoch < low {
@@ -86,8 +91,8 @@ pub fn seen_with(s: Seen, epoch: u32, n: u32) -> Seen
 pub fn looked_at(count: usize) -> usize
     ensures { λ r. ⌜ r ≡ min count mostPackets ⌝ }
 {
-    if 64 < count {
-        return 64;
+    if MOST_PACKETS < count {
+        return MOST_PACKETS;
     }
     count
 }
@@ -99,7 +104,7 @@ pub fn seen_ok(s: Seen, count: usize, bytes: usize, epoch: u32, q: usize) -> boo
     let seen = s.bytes;
     let last = s.epoch;
     let ok = s.ok;
-    if 64 < count {
+    if MOST_PACKETS < count {
         return false;
     }
     if !ok {
@@ -140,7 +145,7 @@ pub fn has_space(k: Queue, q: usize, n: usize) -> bool
 {
     let count = k.count;
     let bytes = k.bytes;
-    if 64 <= count {
+    if MOST_PACKETS <= count {
         return false;
     }
     if q < bytes {

@@ -19,7 +19,7 @@ use Rattle.records.specs.declared.Reader.the-variants.{Test, Standby, Pr
 use Rattle.records.specs.declared.Record.{Record}
 use Rattle.records.specs.declared.Record.the-variants.{Page, Block, State, Commit, Ack, Short, Refused}
 use Rattle.records.specs.Kind.{unitOk, PAGE, BLOCK, STATE, COMMIT, ACK, processorBytes, bodyLength, headerLength, recordLength, isFor}
-use Rattle.records.specs.Read.{cursor, fieldsOf, readRecord, cutShort, numberOf, kindOf, usedOf}
+use Rattle.records.specs.Read.{cursor, fieldsOf, readRecord, cutShort, numberOf, kindOf, valueOf, usedOf}
 use Rattle.records.specs.Write.{frame}
 use Rattle.records.proofs.FrameLaws.{length-frame}
 
@@ -282,3 +282,22 @@ read-fits reader u s h =
     let b = leAt-lt 2 10 s h in
     read-cases FieldsFit reader u s (λ v. tt) (λ v k. tt) (λ v k. tt) (λ v. tt)
     (λ w. fields-cases FieldsFit u (leAt 2 s 2) s (for-test reader (leAt 2 s 2) (w .kind)) (λ k. (e, p)) (λ k. (e, p)) (λ k. e) (λ k. (e, p, b)) (λ k. e))
+
+-- ---- what is neither cut short nor refused is a record, and what is no ACK has its kind as its value: the last arm of a `match` on some of the cases
+pub number-told : (r : Record) → (r ≡ Short → ⊥) → ((n : ℕ) → r ≡ Refused n → ⊥) → numberOf r ≡ 0
+number-told (Page e p c) f h = refl
+number-told (Block e n c) f h = refl
+number-told (State e c) f h = refl
+number-told (Commit e p b c) f h = refl
+number-told (Ack e c) f h = refl
+number-told Short f h = absurd (f refl)
+number-told (Refused n) f h = absurd (h n refl)
+
+pub value-told : (r : Record) → ((e : ℕ) (c : Cursor) → r ≡ Ack e c → ⊥) → valueOf r ≡ kindOf r
+value-told (Page e p c) f = refl
+value-told (Block e n c) f = refl
+value-told (State e c) f = refl
+value-told (Commit e p b c) f = refl
+value-told (Ack e c) f = absurd (f e c refl)
+value-told Short f = refl
+value-told (Refused n) f = refl

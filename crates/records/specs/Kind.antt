@@ -7,8 +7,14 @@ use Rattle.records.specs.declared.Reader.{Reader}
 use Rattle.records.specs.declared.Reader.the-variants.{Test, Standby, Primary}
 
 -- U, bytes in a page and in a block: 64 to 4,096, a multiple of 64
+abbrev pub leastUnit : ℕ
+leastUnit = 64
+
+abbrev pub mostUnit : ℕ
+mostUnit = 4096
+
 unfoldable pub unitOk : ℕ → Bool
-unitOk u = within 64 4096 u && eqb (u % 64) 0
+unitOk u = within leastUnit mostUnit u && eqb (u % leastUnit) 0
 
 -- the kinds of the table
 abbrev pub PAGE : ℕ
@@ -33,15 +39,28 @@ ACTIVATION = 6
 abbrev pub processorBytes : ℕ
 processorBytes = 64
 
+-- the lengths of the bodies: of a PAGE or a BLOCK besides its U bytes, of a STATE, a COMMIT, and of a record with an epoch alone
+abbrev pub unitBody : ℕ
+unitBody = 6
+
+abbrev pub stateBody : ℕ
+stateBody = 68
+
+abbrev pub commitBody : ℕ
+commitBody = 8
+
+abbrev pub epochBody : ℕ
+epochBody = 4
+
 -- the length of the body of a kind, 0 for what is no kind
 unfoldable pub bodyLength : ℕ → ℕ → ℕ
 bodyLength u kind =
-    cond (eqb kind PAGE) (u + 6)
-    (cond (eqb kind BLOCK) (u + 6)
-    (cond (eqb kind STATE) 68
-    (cond (eqb kind COMMIT) 8
-    (cond (eqb kind ACK) 4
-    (cond (eqb kind ACTIVATION) 4 0)))))
+    cond (eqb kind PAGE) (u + unitBody)
+    (cond (eqb kind BLOCK) (u + unitBody)
+    (cond (eqb kind STATE) stateBody
+    (cond (eqb kind COMMIT) commitBody
+    (cond (eqb kind ACK) epochBody
+    (cond (eqb kind ACTIVATION) epochBody 0)))))
 
 -- "A record is a 2-byte length of the body, a 2-byte kind, then the body"
 abbrev pub headerLength : ℕ

@@ -2,7 +2,9 @@
 ghost use mathlib.Core.Path.{_≡_};
 ghost use Rattle.records.specs.Area.{allZero, areaOf};
 use crate::ACTIVATION;
+use crate::AREA_LENGTH;
 use crate::Area;
+use crate::EPOCH_FIELD;
 use lists::field::get2;
 use lists::field::get4;
 
@@ -24,13 +26,13 @@ fn all_zero(s: &[u8]) -> bool
 pub fn read_area(s: &[u8]) -> Area
     ensures { λ r. ⌜ r ≡ areaOf (now (s .entry)) ⌝ }
 {
-    if s.len() != 8 {
+    if s.len() != AREA_LENGTH {
         return Area::Neither;
     }
     if all_zero(s) {
         return Area::Zero;
     }
-    if get2(s, 0) != 4 {
+    if get2(s, 0) != EPOCH_FIELD {
         return Area::Neither;
     }
     if get2(s, 2) != ACTIVATION {

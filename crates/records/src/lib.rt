@@ -1,5 +1,6 @@
 // The records of the stream: reading one, writing each kind, and the record area.
 pub mod disk_area;
+pub mod number;
 pub mod reading;
 pub mod writing;
 
@@ -55,6 +56,7 @@ pub enum Area {
     Neither,
 }
 
+// The kinds of the table of document 01, "Records".
 pub const PAGE: u32 = 1;
 
 pub const BLOCK: u32 = 2;
@@ -66,6 +68,43 @@ pub const COMMIT: u32 = 4;
 pub const ACK: u32 = 5;
 
 pub const ACTIVATION: u32 = 6;
+
+// Bytes of a processor state.
+pub const PROCESSOR_BYTES: usize = 64;
+
+// The lengths of the bodies: of a PAGE or a BLOCK besides its U bytes, of a STATE, a COMMIT, and of a record with an epoch alone.
+pub const UNIT_BODY: usize = 6;
+
+pub const STATE_BODY: usize = 68;
+
+pub const COMMIT_BODY: usize = 8;
+
+pub const EPOCH_BODY: usize = 4;
+
+// The last in the width of a header's field.
+pub(crate) const EPOCH_FIELD: u32 = EPOCH_BODY as u32;
+
+// "A record is a 2-byte length of the body, a 2-byte kind, then the body": the lengths of whole records.
+pub const HEADER_LENGTH: usize = 4;
+
+pub const UNIT_RECORD: usize = HEADER_LENGTH + UNIT_BODY;
+
+pub const STATE_RECORD: usize = HEADER_LENGTH + STATE_BODY;
+
+pub const COMMIT_RECORD: usize = HEADER_LENGTH + COMMIT_BODY;
+
+pub const EPOCH_RECORD: usize = HEADER_LENGTH + EPOCH_BODY;
+
+// "record area 8"
+pub const AREA_LENGTH: usize = 8;
+
+// U, bytes in a page and in a block: 64 to 4,096, a multiple of 64.
+pub const LEAST_UNIT: usize = 64;
+
+pub const MOST_UNIT: usize = 4096;
+
+// The largest number of a 2-byte field.
+pub const MOST_TWO: usize = 65535;
 
 // The number that stands for cut short where one is wanted: none of document 01's.
 pub const CUT_SHORT: u64 = 256;

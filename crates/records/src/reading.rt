@@ -5,14 +5,29 @@ ghost use mathlib.Core.Bool.{true};
 ghost use lib.ListN.{length};
 ghost use Rattle.lists.specs.Refusal.{within};
 ghost use Rattle.records.specs.Kind.{unitOk, bodyLength, recordLength, isFor};
-ghost use Rattle.records.specs.Read.{fieldsOf, readRecord, numberOf, kindOf, usedOf};
+ghost use Rattle.records.specs.Read.{fieldsOf, readRecord, numberOf, kindOf, valueOf, usedOf};
 use crate::ACK;
+use crate::ACTIVATION;
+use crate::BLOCK;
 use crate::COMMIT;
+use crate::COMMIT_BODY;
+use crate::COMMIT_RECORD;
 use crate::CUT_SHORT;
 use crate::Cursor;
+use crate::EPOCH_BODY;
+use crate::EPOCH_RECORD;
+use crate::HEADER_LENGTH;
+use crate::LEAST_UNIT;
+use crate::MOST_UNIT;
 use crate::PAGE;
 use crate::Reader;
 use crate::Record;
+use crate::STATE;
+use crate::STATE_BODY;
+use crate::STATE_RECORD;
+use crate::UNIT_BODY;
+use crate::UNIT_RECORD;
+use crate::number;
 use lists::field::get2;
 use lists::field::get4;
 
@@ -20,13 +35,13 @@ use lists::field::get4;
 pub fn unit_ok(u: usize) -> bool
     ensures { λ r. ⌜ r ≡ unitOk u ⌝ }
 {
-    if u < 64 {
+    if u < LEAST_UNIT {
         return false;
     }
-    if 4096 < u {
+    if MOST_UNIT < u {
         return false;
     }
-    if u % 64 != 0 {
+    if u % LEAST_UNIT != 0 {
         return false;
     }
     true
@@ -62,12 +77,12 @@ fn body_length(u: usize, kind: u32) -> usize
     ensures { λ r. ⌜ r ≡ bodyLength u kind ⌝ }
 {
     match kind {
-        1 => u + 6,
-        2 => u + 6,
-        3 => 68,
-        4 => 8,
-        5 => 4,
-        6 => 4,
+        PAGE => u + UNIT_BODY,
+        BLOCK => u + UNIT_BODY,
+        STATE => STATE_BODY,
+        COMMIT => COMMIT_BODY,
+        ACK => EPOCH_BODY,
+        ACTIVATION => EPOCH_BODY,
         _ => 0,
     }
 }
@@ -79,35 +94,44 @@ fn fields(u: usize, kind: u32, s: &[u8]) -> Record
 {
     let epoch = get4(s, 4);
     match kind {
-        1 => Record::Page {
+        PAGE => Record::Page {
             epoch,
             page: get2(s, 8) as usize,
             at: Cursor {
-                start: 10,
-                end: u + 10,
+                start: UNIT_RECORD,
+                end: u + UNIT_RECORD,
             },
         },
-        2 => Record::Block {
+        BLOCK => Record::Block {
             epoch,
             block: get2(s, 8) as usize,
             at: Cursor {
-                start: 10,
-                end: u + 10,
+                start: UNIT_RECORD,
+                end: u + UNIT_RECORD,
             },
         },
-        3 => Record::State {
+        STATE => Record::State {
             epoch,
-            at: Cursor { start: 8, end: 72 },
+            at: Cursor {
+                start: EPOCH_RECORD,
+                end: STATE_RECORD,
+            },
         },
-        4 => Record::Commit {
+        COMMIT => Record::Commit {
             epoch,
             pages: get2(s, 8) as usize,
             blocks: get2(s, 10) as usize,
-            at: Cursor { start: 12, end: 12 },
+            at: Cursor {
+                start: COMMIT_RECORD,
+                end: COMMIT_RECORD,
+            },
         },
         _ => Record::Ack {
             epoch,
-            at: Cursor { start: 8, end: 8 },
+            at: Cursor {
+                start: EPOCH_RECORD,
+                end: EPOCH_RECORD,
+            },
         },
     }
 }
@@ -117,9 +141,11 @@ pub fn read(reader: Reader, u: usize, s: &[u8]) -> Record
     ensures { λ r. ⌜ r ≡ readRecord reader u (now (s .entry)) ⌝ }
 {
     if !unit_ok(u) {
-        return Record::Refused { number: 1 };
+        return Record::Refused {
+            number: number::OUT_OF_RANGE,
+        };
     }
-    if s.len() < 4 {
+    if s.len() < HEADER_LENGTH {
         return Record::Short;
     }
     let length = get2(s, 0) as usize;
@@ -127,12 +153,16 @@ pub fn read(reader: Reader, u: usize, s: &[u8]) -> Record
     let for_reader = is_for(reader, kind);
     let n = body_length(u, kind);
     if !for_reader {
-        return Record::Refused { number: 6 };
+        return Record::Refused {
+            number: number::BAD_KIND,
+        };
     }
     if length != n {
-        return Record::Refused { number: 7 };
+        return Record::Refused {
+            number: number::BAD_LENGTH,
+        };
     }
-    if s.len() < 4 + n {
+    if s.len() < HEADER_LENGTH + n {
         return Record::Short;
     }
     fields(u, kind, s)
@@ -143,26 +173,9 @@ pub fn number_of(r: Record) -> u64
     ensures { λ n. ⌜ n ≡ numberOf r ⌝ }
 {
     match r {
-        Record::Page {
-            epoch: _,
-            page: _,
-            at: _,
-        } => 0,
-        Record::Block {
-            epoch: _,
-            block: _,
-            at: _,
-        } => 0,
-        Record::State { epoch: _, at: _ } => 0,
-        Record::Commit {
-            epoch: _,
-            pages: _,
-            blocks: _,
-            at: _,
-        } => 0,
-        Record::Ack { epoch: _, at: _ } => 0,
         Record::Short => CUT_SHORT,
         Record::Refused { number } => number,
+        _ => 0,
     }
 }
 
@@ -190,6 +203,16 @@ pub fn kind_of(r: Record) -> u64
         Record::Ack { epoch: _, at: _ } => 5,
         Record::Short => 0,
         Record::Refused { number: _ } => 0,
+    }
+}
+
+// The value of a read: the kind for kinds 1 to 4, the epoch for an ACK, 0 where there is no record.
+pub fn value_of(r: Record) -> u64
+    ensures { λ n. ⌜ n ≡ valueOf r ⌝ }
+{
+    match r {
+        Record::Ack { epoch, at: _ } => epoch as u64,
+        _ => kind_of(r),
     }
 }
 

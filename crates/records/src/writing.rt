@@ -12,10 +12,26 @@ use crate::ACK;
 use crate::ACTIVATION;
 use crate::BLOCK;
 use crate::COMMIT;
+use crate::COMMIT_BODY;
+use crate::COMMIT_RECORD;
+use crate::EPOCH_FIELD;
+use crate::EPOCH_RECORD;
+use crate::MOST_TWO;
 use crate::PAGE;
 use crate::STATE;
+use crate::STATE_BODY;
+use crate::STATE_RECORD;
+use crate::UNIT_BODY;
+use crate::UNIT_RECORD;
 use lists::field::bytes2;
 use lists::field::bytes4;
+
+// The lengths of bodies in the width of their field, and the most bytes of a PAGE or a BLOCK whose length fits it.
+const STATE_FIELD: u32 = STATE_BODY as u32;
+
+const COMMIT_FIELD: u32 = COMMIT_BODY as u32;
+
+const MOST_UNIT_BYTES: usize = MOST_TWO - UNIT_BODY;
 
 // The head that every record has: the length of its body, its kind and its epoch.
 fn put_head(out: &mut [u8], n: u32, kind: u32, epoch: u32)
@@ -34,28 +50,28 @@ fn put_unit(out: &mut [u8], kind: u32, epoch: u32, number: u32, body: &[u8])
     requires { ⌜ (length (now body) + 6 < 2 ^ 16) × (length (now body) + 10 ≤ length (now out)) ⌝ }
     ensures { λ _. ⌜ now (out .exit) ≡ put (now (out .entry)) 0 (unitRecord kind epoch number (now (body .entry))) ⌝ }
 {
-    let n = (body.len() + 6) as u32;
+    let n = (body.len() + UNIT_BODY) as u32;
     let field = bytes2(number);
     put_head(out, n, kind, epoch);
-    lists::copy_into(out, 8, &field);
-    lists::copy_into(out, 10, body);
+    lists::copy_into(out, EPOCH_RECORD, &field);
+    lists::copy_into(out, UNIT_RECORD, body);
 }
 
 fn write_unit(out: &mut [u8], kind: u32, epoch: u32, number: usize, body: &[u8]) -> usize
     ensures { λ r. ⌜ Written (unitFits number (now (body .entry))) (unitRecord kind epoch number (now (body .entry))) (now (out .entry)) (now (out .exit)) r ⌝ }
 {
     let n = body.len();
-    if 65535 < number {
+    if MOST_TWO < number {
         return 0;
     }
-    if 65529 < n {
+    if MOST_UNIT_BYTES < n {
         return 0;
     }
-    if out.len() < n + 10 {
+    if out.len() < n + UNIT_RECORD {
         return 0;
     }
     put_unit(out, kind, epoch, number as u32, body);
-    n + 10
+    n + UNIT_RECORD
 }
 
 // PAGE, kind 1.
@@ -78,43 +94,43 @@ pub fn write_state(out: &mut [u8], epoch: u32, processor: &[u8; 64]) -> usize
 {
     // A slice before the test: there its length is known.
     let bytes: &[u8] = processor;
-    if out.len() < 72 {
+    if out.len() < STATE_RECORD {
         return 0;
     }
-    put_head(out, 68, STATE, epoch);
-    lists::copy_into(out, 8, bytes);
-    72
+    put_head(out, STATE_FIELD, STATE, epoch);
+    lists::copy_into(out, EPOCH_RECORD, bytes);
+    STATE_RECORD
 }
 
 // COMMIT, kind 4, with the counts of the checkpoint's pages and blocks.
 pub fn write_commit(out: &mut [u8], epoch: u32, pages: usize, blocks: usize) -> usize
     ensures { λ r. ⌜ Written (fitsTwo pages && fitsTwo blocks) (commitRecord epoch pages blocks) (now (out .entry)) (now (out .exit)) r ⌝ }
 {
-    if 65535 < pages {
+    if MOST_TWO < pages {
         return 0;
     }
-    if 65535 < blocks {
+    if MOST_TWO < blocks {
         return 0;
     }
-    if out.len() < 12 {
+    if out.len() < COMMIT_RECORD {
         return 0;
     }
     let p = bytes2(pages as u32);
     let b = bytes2(blocks as u32);
-    put_head(out, 8, COMMIT, epoch);
-    lists::copy_into(out, 8, &p);
-    lists::copy_into(out, 10, &b);
-    12
+    put_head(out, COMMIT_FIELD, COMMIT, epoch);
+    lists::copy_into(out, EPOCH_RECORD, &p);
+    lists::copy_into(out, UNIT_RECORD, &b);
+    COMMIT_RECORD
 }
 
 fn write_epoch(out: &mut [u8], kind: u32, epoch: u32) -> usize
     ensures { λ r. ⌜ Written true (epochRecord kind epoch) (now (out .entry)) (now (out .exit)) r ⌝ }
 {
-    if out.len() < 8 {
+    if out.len() < EPOCH_RECORD {
         return 0;
     }
-    put_head(out, 4, kind, epoch);
-    8
+    put_head(out, EPOCH_FIELD, kind, epoch);
+    EPOCH_RECORD
 }
 
 // ACK, kind 5.

@@ -18,39 +18,56 @@ mostPacketBytes = 1514
 abbrev pub packetLengthOk : ℕ → Bool
 packetLengthOk n = within 1 mostPacketBytes n
 
--- "S", at most
-abbrev pub mostSlots : ℕ
-mostSlots = 64
-
 -- the last epoch that there is
 abbrev pub mostEpoch : ℕ
 mostEpoch = 4294967295
 
--- M, D, B, S, Q, T
+-- M, D, B, S, Q, L, T, at most
+abbrev pub mostPages : ℕ
+mostPages = 4096
+
+abbrev pub mostBlocks : ℕ
+mostBlocks = 4096
+
+abbrev pub mostAllowance : ℕ
+mostAllowance = 64
+
+abbrev pub mostSlots : ℕ
+mostSlots = 64
+
+abbrev pub mostHeld : ℕ
+mostHeld = 32768
+
+abbrev pub mostStream : ℕ
+mostStream = 33554432
+
+abbrev pub mostPatience : ℕ
+mostPatience = 60000
+
 abbrev pub memoryPagesOk : ℕ → Bool
-memoryPagesOk m = within 1 4096 m
+memoryPagesOk m = within 1 mostPages m
 
 abbrev pub diskBlocksOk : ℕ → Bool
-diskBlocksOk d = leb d 4096
+diskBlocksOk d = leb d mostBlocks
 
 abbrev pub allowanceOk : ℕ → Bool
-allowanceOk b = leb b 64
+allowanceOk b = leb b mostAllowance
 
 abbrev pub blockSlotsOk : ℕ → ℕ → Bool
 blockSlotsOk b s = within b mostSlots s
 
 abbrev pub heldBytesOk : ℕ → Bool
-heldBytesOk q = leb q 32768
+heldBytesOk q = leb q mostHeld
 
 abbrev pub patienceOk : ℕ → Bool
-patienceOk t = within 1 60000 t
+patienceOk t = within 1 mostPatience t
 
 -- L: room for a checkpoint of every page and every block allowed, STATE and COMMIT
 unfoldable pub leastStream : ℕ → ℕ → ℕ → ℕ
 leastStream u m b = m * recordLength u PAGE + b * recordLength u BLOCK + (recordLength u STATE + recordLength u COMMIT)
 
 abbrev pub streamOk : ℕ → ℕ → ℕ → ℕ → Bool
-streamOk u m b l = within (leastStream u m b) 33554432 l
+streamOk u m b l = within (leastStream u m b) mostStream l
 
 unfoldable pub settingsOk : Settings → Bool
 settingsOk g =

@@ -4,7 +4,36 @@ ghost use mathlib.Core.Bool.{_&&_};
 ghost use Prim.Native.Nat.{_≤_};
 ghost use Rattle.records.specs.Kind.{unitOk};
 ghost use Rattle.settings.specs.Range.{memoryPagesOk, diskBlocksOk, allowanceOk, blockSlotsOk, heldBytesOk, streamOk, patienceOk, settingsOk, primarySettingsOk, standbySettingsOk};
+use records::COMMIT_RECORD;
+use records::STATE_RECORD;
+use records::UNIT_RECORD;
 use records::reading::unit_ok;
+
+// "At most 64 packets are held, each of 1 to 1,514 bytes".
+pub const MOST_PACKETS: usize = 64;
+
+pub const MOST_PACKET_BYTES: usize = 1514;
+
+// The last epoch that there is.
+pub const MOST_EPOCH: u32 = 4294967295;
+
+// M, D, B, S, Q, L and T, at most (document 01, "Settings").
+pub const MOST_PAGES: usize = 4096;
+
+pub const MOST_BLOCKS: usize = 4096;
+
+pub const MOST_ALLOWANCE: usize = 64;
+
+pub const MOST_SLOTS: usize = 64;
+
+pub const MOST_HELD: usize = 32768;
+
+pub const MOST_STREAM: usize = 33554432;
+
+pub const MOST_PATIENCE: u32 = 60000;
+
+// What a checkpoint has besides its pages: STATE and COMMIT.
+pub const CHECKPOINT_END: usize = STATE_RECORD + COMMIT_RECORD;
 
 // What start is told (document 01, "Settings").
 pub struct Settings {
@@ -44,21 +73,21 @@ pub struct StandbySettings {
 fn shared_ok(u: usize, m: usize, d: usize, b: usize) -> bool
     ensures { λ r. ⌜ r ≡ (unitOk u && memoryPagesOk m && diskBlocksOk d && allowanceOk b) ⌝ }
 {
-    unit_ok(u) & ((1 <= m) & (m <= 4096)) & (d <= 4096) & (b <= 64)
+    unit_ok(u) & ((1 <= m) & (m <= MOST_PAGES)) & (d <= MOST_BLOCKS) & (b <= MOST_ALLOWANCE)
 }
 
 // S.
 fn slots_ok(b: usize, s: usize) -> bool
     ensures { λ r. ⌜ r ≡ blockSlotsOk b s ⌝ }
 {
-    (b <= s) & (s <= 64)
+    (b <= s) & (s <= MOST_SLOTS)
 }
 
 // Q.
 fn held_ok(q: usize) -> bool
     ensures { λ r. ⌜ r ≡ heldBytesOk q ⌝ }
 {
-    q <= 32768
+    q <= MOST_HELD
 }
 
 // L, once U, M and B are in their ranges, so that its lower end does not wrap.
@@ -66,17 +95,17 @@ fn stream_ok(u: usize, m: usize, b: usize, l: usize) -> bool
     requires { ⌜ (u ≤ 4096) × (m ≤ 4096) × (b ≤ 64) ⌝ }
     ensures { λ r. ⌜ r ≡ streamOk u m b l ⌝ }
 {
-    let pages = m * (u + 10);
-    let blocks = b * (u + 10);
-    let least = pages + blocks + 84;
-    (least <= l) & (l <= 33554432)
+    let pages = m * (u + UNIT_RECORD);
+    let blocks = b * (u + UNIT_RECORD);
+    let least = pages + blocks + CHECKPOINT_END;
+    (least <= l) & (l <= MOST_STREAM)
 }
 
 // T.
-fn patience_ok(t: u32) -> bool
+pub fn patience_ok(t: u32) -> bool
     ensures { λ r. ⌜ r ≡ patienceOk t ⌝ }
 {
-    (1 <= t) & (t <= 60000)
+    (1 <= t) & (t <= MOST_PATIENCE)
 }
 
 // Whether the settings that the primary keeps are in their ranges.

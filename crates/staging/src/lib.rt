@@ -7,16 +7,17 @@ ghost use Rattle.lists.specs.Page.{page, withPage};
 ghost use Rattle.settings.specs.Range.{mostSlots};
 ghost use Rattle.staging.specs.Slot.{numbersOk, slotsOk, freeSlots, withBlock, withBlockBytes, allDue, onlyDue, flushCount, stored, flushed, flushedBytes};
 ghost use Rattle.staging.specs.Fits.{StoreFits, FlushFits};
+use settings::MOST_SLOTS;
 
 // The staged blocks in order of arrival: how many, how many of them are due, and the number of each. Their bytes stand in the lent slots.
 pub struct Slots {
     pub staged: usize,
     pub due: usize,
-    pub numbers: [usize; 64],
+    pub numbers: [usize; MOST_SLOTS],
 }
 
 // Whether the first n numbers are below d.
-fn numbers_ok(numbers: [usize; 64], n: usize, d: usize) -> bool
+fn numbers_ok(numbers: [usize; MOST_SLOTS], n: usize, d: usize) -> bool
     requires { ⌜ n ≤ mostSlots ⌝ }
     ensures { λ r. ⌜ r ≡ numbersOk d (take n numbers) ⌝ }
 {
@@ -44,8 +45,8 @@ pub fn slots_ok(k: Slots, s: usize, d: usize) -> bool
         return false;
     }
     // a count above 64 names no entry more than the array has
-    if 64 < staged {
-        return numbers_ok(numbers, 64, d);
+    if MOST_SLOTS < staged {
+        return numbers_ok(numbers, MOST_SLOTS, d);
     }
     numbers_ok(numbers, staged, d)
 }
@@ -135,7 +136,7 @@ pub fn store(disk: &mut [u8], slots: &[u8], k: Slots, u: usize, count: usize)
 }
 
 // The first total numbers without the first n of them: the rest moves to the front.
-fn moved(numbers: [usize; 64], n: usize, total: usize) -> [usize; 64]
+fn moved(numbers: [usize; MOST_SLOTS], n: usize, total: usize) -> [usize; MOST_SLOTS]
     requires { ⌜ (n ≤ total) × (total ≤ mostSlots) ⌝ }
     ensures { λ r. ⌜ r ≡ removed 0 n total numbers ⌝ }
 {
@@ -150,7 +151,7 @@ fn moved(numbers: [usize; 64], n: usize, total: usize) -> [usize; 64]
 }
 
 // The numbers with n entries from at on at 0.
-fn zeroed(numbers: [usize; 64], at: usize, n: usize) -> [usize; 64]
+fn zeroed(numbers: [usize; MOST_SLOTS], at: usize, n: usize) -> [usize; MOST_SLOTS]
     requires { ⌜ at + n ≤ mostSlots ⌝ }
     ensures { λ r. ⌜ r ≡ put numbers at (replicate n 0) ⌝ }
 {

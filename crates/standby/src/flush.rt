@@ -4,6 +4,7 @@ ghost use lib.ListN.{length};
 ghost use Rattle.rules.specs.Flush.{flushRefusal, flushReply, flushStagedBlocks, flushDisk};
 use crate::parts::with_slots_blocks;
 use crate::ranges::standby_ok;
+use records::number;
 use rules::Standby;
 use rules::StandbyReply;
 
@@ -16,13 +17,13 @@ fn flush_refusal(s: Standby, slots: usize, disk: usize) -> u64
     let d = g.d;
     let most = g.s;
     if !standby_ok(s) {
-        return 1;
+        return number::OUT_OF_RANGE;
     }
     if slots != most * u {
-        return 1;
+        return number::OUT_OF_RANGE;
     }
     if disk != d * u {
-        return 1;
+        return number::OUT_OF_RANGE;
     }
     0
 }

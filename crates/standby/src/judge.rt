@@ -4,8 +4,10 @@ ghost use mathlib.Core.Bool.{true};
 ghost use Rattle.rules.specs.StandbyState.{standbyOk};
 ghost use Rattle.rules.specs.Judge.{readLentOk, pageRefusal, blockRefusal, stateRefusal, commitRefusal, recordRefusal, judged};
 use crate::ranges;
+use records::EPOCH_RECORD;
 use records::Reader;
 use records::Record;
+use records::number;
 use rules::ReadLent;
 use rules::Standby;
 
@@ -20,19 +22,19 @@ fn page_refusal(s: Standby, epoch: u32, page: usize) -> u64
     let pages = s.pages;
     let seen = s.seen;
     if m <= page {
-        return 2;
+        return number::NO_SUCH_UNIT;
     }
     if epoch as u64 != received + 1 {
-        return 8;
+        return number::BAD_EPOCH;
     }
     if page < next {
-        return 9;
+        return number::OUT_OF_ORDER;
     }
     if page < pages {
-        return 9;
+        return number::OUT_OF_ORDER;
     }
     if seen {
-        return 9;
+        return number::OUT_OF_ORDER;
     }
     0
 }
@@ -53,25 +55,25 @@ fn block_refusal(s: Standby, epoch: u32, block: usize) -> u64
     let blocks = s.blocks;
     let free = staging::free_slots(slots, room);
     if d <= block {
-        return 2;
+        return number::NO_SUCH_UNIT;
     }
     if epoch as u64 != received + 1 {
-        return 8;
+        return number::BAD_EPOCH;
     }
     if next != 0 {
-        return 9;
+        return number::OUT_OF_ORDER;
     }
     if pages != 0 {
-        return 9;
+        return number::OUT_OF_ORDER;
     }
     if seen {
-        return 9;
+        return number::OUT_OF_ORDER;
     }
     if most <= blocks {
-        return 14;
+        return number::ALLOWANCE_USED;
     }
     if free == 0 {
-        return 17;
+        return number::SLOTS_FULL;
     }
     0
 }
@@ -83,10 +85,10 @@ fn state_refusal(s: Standby, epoch: u32) -> u64
     let received = s.received as u64;
     let seen = s.seen;
     if epoch as u64 != received + 1 {
-        return 8;
+        return number::BAD_EPOCH;
     }
     if seen {
-        return 9;
+        return number::OUT_OF_ORDER;
     }
     0
 }
@@ -99,20 +101,20 @@ fn commit_refusal(s: Standby, reply: usize, epoch: u32, pages: usize, blocks: us
     let seen = s.seen;
     let had_pages = s.pages;
     let had_blocks = s.blocks;
-    if reply < 8 {
-        return 5;
+    if reply < EPOCH_RECORD {
+        return number::NO_ROOM;
     }
     if epoch as u64 != received + 1 {
-        return 8;
+        return number::BAD_EPOCH;
     }
     if !seen {
-        return 9;
+        return number::OUT_OF_ORDER;
     }
     if pages != had_pages {
-        return 10;
+        return number::BAD_COUNTS;
     }
     if blocks != had_blocks {
-        return 10;
+        return number::BAD_COUNTS;
     }
     0
 }
@@ -134,7 +136,7 @@ fn record_refusal(s: Standby, reply: usize, r: Record) -> u64
             blocks,
             at: _,
         } => commit_refusal(s, reply, epoch, pages, blocks),
-        Record::Ack { epoch: _, at: _ } => 6,
+        Record::Ack { epoch: _, at: _ } => number::BAD_KIND,
         Record::Short => 0,
         Record::Refused { number } => number,
     }
@@ -161,13 +163,19 @@ pub(crate) fn judged(s: Standby, l: ReadLent, bytes: &[u8]) -> Record
     let u = g.u;
     let reply = l.reply;
     if !ranges::standby_ok(s) {
-        return Record::Refused { number: 1 };
+        return Record::Refused {
+            number: number::OUT_OF_RANGE,
+        };
     }
     if !lent_ok(s, l) {
-        return Record::Refused { number: 1 };
+        return Record::Refused {
+            number: number::OUT_OF_RANGE,
+        };
     }
     if !ranges::is_receiving(mode) {
-        return Record::Refused { number: 13 };
+        return Record::Refused {
+            number: number::WRONG_MODE,
+        };
     }
     let r = records::reading::read(Reader::Standby, u, bytes);
     let n = record_refusal(s, reply, r);

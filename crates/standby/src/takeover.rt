@@ -20,6 +20,8 @@ use crate::ranges::is_receiving;
 use crate::ranges::is_taking_over;
 use crate::ranges::standby_ok;
 use detector::Detector;
+use records::AREA_LENGTH;
+use records::number;
 use rules::Mode;
 use rules::Standby;
 use rules::StandbyReply;
@@ -31,10 +33,10 @@ fn tick_refusal(s: Standby, marks: usize) -> u64
     let g = s.settings;
     let m = g.m;
     if !standby_ok(s) {
-        return 1;
+        return number::OUT_OF_RANGE;
     }
     if marks != (m + 63) / 64 {
-        return 1;
+        return number::OUT_OF_RANGE;
     }
     0
 }
@@ -109,16 +111,16 @@ fn activation_refusal(s: Standby, area: usize) -> u64
     let k = s.slots;
     let due = k.due;
     if !standby_ok(s) {
-        return 1;
+        return number::OUT_OF_RANGE;
     }
-    if area != 8 {
-        return 1;
+    if area != AREA_LENGTH {
+        return number::OUT_OF_RANGE;
     }
     if !is_taking_over(mode) {
-        return 13;
+        return number::WRONG_MODE;
     }
     if due != 0 {
-        return 20;
+        return number::BLOCKS_DUE;
     }
     0
 }
@@ -166,19 +168,19 @@ fn write_refusal(s: Standby, lent: usize, units: usize, unit: usize, sized: bool
     let u = g.u;
     let mode = s.mode;
     if !standby_ok(s) {
-        return 1;
+        return number::OUT_OF_RANGE;
     }
     if lent != units * u {
-        return 1;
+        return number::OUT_OF_RANGE;
     }
     if !is_active(mode) {
-        return 13;
+        return number::WRONG_MODE;
     }
     if units <= unit {
-        return 2;
+        return number::NO_SUCH_UNIT;
     }
     if !sized {
-        return 3;
+        return number::BAD_SIZE;
     }
     0
 }
