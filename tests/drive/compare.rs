@@ -1,7 +1,7 @@
 //! Compares the program `drive` with the model, call by call.
 //!
-//! `compare drive [calls [seed]]`: at least so many calls (200,000) with this seed (1). Every line that the
-//! program prints must be the model's, whole. The last line is `N passed, 0 failed`.
+//! `compare drive [calls [seed [kind]]]`: at least so many calls (200,000) with this seed (1), or those of one kind
+//! of run alone. Every line that the program prints must be the model's, whole. The last line is `N passed, 0 failed`.
 mod arguments;
 mod checker;
 mod cuts;
@@ -41,6 +41,9 @@ const TESTS: [Test; 12] = [
     ("starts with one lent length wrong", 20, spoiled_starts),
     ("disk choices", 20, |r, sink, end| until(sink, end, |sink| singles::choice(r, sink))),
 ];
+
+/// The kind that comes on top.
+const CUTS: &str = "runs cut at every place";
 
 fn until(sink: &mut Sink, end: u64, mut one: impl FnMut(&mut Sink)) {
     while sink.calls < end {
@@ -155,30 +158,46 @@ fn argument(at: usize, default: u64) -> u64 {
     }
 }
 
+/// The kinds of run, all of them or the one of this name.
+fn kinds(only: &Option<String>) -> Vec<&'static str> {
+    let all: Vec<&str> = TESTS.iter().map(|test| test.0).chain([CUTS]).collect();
+    let Some(only) = only else { return all };
+    if !all.contains(&only.as_str()) {
+        println!("there is no kind of run '{only}', but these: {}", all.join(", "));
+        exit(1)
+    }
+    all.into_iter().filter(|name| name == only).collect()
+}
+
 fn main() {
     let Some(program) = std::env::args().nth(1) else {
-        eprintln!("usage: compare drive [calls [seed]]");
+        eprintln!("usage: compare drive [calls [seed [kind]]]");
         exit(2)
     };
     let (calls, seed, begun) = (argument(2, 200_000), argument(3, 1), Instant::now());
+    let only = std::env::args().nth(4);
+    let kinds = kinds(&only);
     let (to, from) = sync_channel(2);
     let comparing = thread::spawn(move || checker::compare_all(&program, seed, &from));
     let mut sink = Sink::new(to);
     let r = Random::new(seed);
     let mut share = 0;
-    for (name, part, test) in TESTS {
+    for (name, part, test) in TESTS.into_iter().filter(|test| kinds.contains(&test.0)) {
         share += part;
         noted(name, &mut sink, |sink| test(&r, sink, calls * share / 1_000));
     }
-    noted("runs cut at every place", &mut sink, |sink| cut_runs(&r, sink, calls, seed));
+    if kinds.contains(&CUTS) {
+        noted(CUTS, &mut sink, |sink| cut_runs(&r, sink, calls, seed));
+    }
     sink.send();
-    let (made, text, seen_all) = (sink.calls, sink.text, all_numbers_seen(&sink));
+    // that every number comes is a test of all kinds together
+    let (made, text, seen_all) = (sink.calls, sink.text, only.is_some() || all_numbers_seen(&sink));
     print_numbers(&sink);
     print_records(&sink);
     drop(sink);
     let compared = comparing.join().unwrap_or(0);
     println!("{compared} calls compared, {} MB of lines, {:.1} s", text / 1_000_000, begun.elapsed().as_secs_f64());
-    let passed = TESTS.len() as u64 + 1 + seen_all as u64;
+    let passed = kinds.len() as u64 + (only.is_none() && seen_all) as u64;
     let failed = !seen_all as u64 + (compared != made) as u64;
     println!("{passed} passed, {failed} failed");
     exit((failed != 0) as i32);
