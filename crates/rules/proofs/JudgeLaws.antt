@@ -1,15 +1,16 @@
 -- What the record that a read judged has, by its kind: everything that its effects ask. Assumes nothing.
-use mathlib.Core.Path.{_≡_, refl}
+use mathlib.Core.Path.{_≡_, refl, ap}
 use mathlib.Core.Bool.{Bool, true, false, cond, _&&_, not}
-use mathlib.Core.List.{List}
+use mathlib.Core.List.{List, [], _∷_}
 use mathlib.Core.Logic.{⊎-elim}
 use Prim.Native.Nat.{ℕ, _+_, _≤_, _<_}
 use native.Mathlib.Omega.{arith}
-use lib.Dec.{leb, eqb}
-use borrow.Author.Tests.{not-true, leb-true, ltb-true, eqb-true, eq-eqb}
-use Rattle.lists.proofs.TestLaws.{both, join, and-false, accepted}
+use lib.Dec.{leb, ltb, eqb}
+use borrow.Author.Tests.{not-true, leb-true, le-leb, ltb-true, ltb-false, lt-ltb, eqb-true, eq-eqb}
+use Rattle.lists.specs.Refusal.{test, refusal}
+use Rattle.lists.proofs.TestLaws.{both, join, and-false, accepted, accepts}
 use Rattle.records.specs.Kind.{PAGE, BLOCK, STATE, COMMIT, bodyLength, recordLength, processorBytes}
-use Rattle.records.specs.Number.{outOfRange, wrongMode}
+use Rattle.records.specs.Number.{outOfRange, noSuchUnit, badEpoch, outOfOrder, wrongMode, allowanceUsed, slotsFull}
 use Rattle.records.specs.Read.{readRecord}
 use Rattle.records.specs.declared.Cursor.{Cursor}
 use Rattle.records.specs.declared.Record.{Record}
@@ -21,7 +22,7 @@ use Rattle.rules.specs.declared.Standby.{Standby}
 use Rattle.rules.specs.declared.ReadLent.{ReadLent}
 use Rattle.rules.specs.StandbyState.{isReceiving, standbyOk, memoryLength, marksLength, slotsLength}
 use Rattle.rules.specs.Reply.{unlessRefused}
-use Rattle.rules.specs.Judge.{pageTests, blockTests, stateTests, commitTests, readLentOk, pageRefusal, blockRefusal, stateRefusal, commitRefusal, recordRefusal, judged}
+use Rattle.rules.specs.Judge.{isNext, pageTests, blockTests, stateTests, commitTests, readLentOk, pageRefusal, blockRefusal, stateRefusal, commitRefusal, recordRefusal, judged}
 use Rattle.rules.proofs.ReplyLaws.{unless-cases}
 
 -- ---- "Lent lengths are exact"
@@ -118,6 +119,57 @@ module _ (s : Standby) where
         pages-same = eqb-true _ _ (n .0);
         blocks-same = eqb-true _ _ (n .1);
       }
+
+  -- and back: what has its kind's tests is accepted
+  pub page-accepts : (e p : ℕ) → PageTests s e p → pageRefusal s e p ≡ 0
+  unfolding pageRefusal
+  page-accepts e p f =
+      accepts (pageTests s e p) (
+        lt-ltb _ _ (f .page-low),
+        (eq-eqb _ _ (f .epoch-next), (join _ _ (join _ _ (le-leb _ _ (f .rising)) (le-leb _ _ (f .not-below))) (ap not (f .before-state)), tt)),
+      )
+
+  pub block-accepts : (e n : ℕ) → BlockTests s e n → blockRefusal s e n ≡ 0
+  unfolding blockRefusal
+  block-accepts e n f =
+      accepts (blockTests s e n) (
+        lt-ltb _ _ (f .block-low),
+        (
+          eq-eqb _ _ (f .epoch-next),
+          (
+            join _ _ (join _ _ (eq-eqb _ _ (f .before-pages)) (eq-eqb _ _ (f .no-pages))) (ap not (f .before-state)),
+            (lt-ltb _ _ (f .allowed), (lt-ltb _ _ (f .slot-free), tt)),
+          ),
+        ),
+      )
+
+  pub state-accepts : (e : ℕ) → StateTests s e → stateRefusal s e ≡ 0
+  unfolding stateRefusal
+  state-accepts e f = accepts (stateTests s e) (eq-eqb _ _ (f .epoch-next), (ap not (f .first), tt))
+
+  pub commit-accepts : (reply e p b : ℕ) → CommitTests s reply e p b → commitRefusal s reply e p b ≡ 0
+  unfolding commitRefusal recordLength bodyLength
+  commit-accepts reply e p b f =
+      accepts (commitTests s reply e p b) (
+        le-leb _ _ (f .room),
+        (eq-eqb _ _ (f .epoch-next), (f .after-state, (join _ _ (eq-eqb _ _ (f .pages-same)) (eq-eqb _ _ (f .blocks-same)), tt))),
+      )
+
+  -- 17 is given only where "S blocks staged": never with a slot free
+  pub block-full : (e n : ℕ) → blockRefusal s e n ≡ slotsFull → freeSlots (s .slots) (s .settings .s) ≡ 0
+  unfolding blockRefusal
+  block-full e n z =
+      let free = freeSlots (s .slots) (s .settings .s) in
+      let h : free ≤ 0 = ltb-false 0 free (go (ltb n (s .settings .d)) (isNext s e) (eqb (s .next) 0 && eqb (s .pages) 0 && not (s .seen)) (ltb (s .blocks) (s .settings .b)) (ltb 0 free) z) in
+      omega arith
+    where
+      go : (a b c d f : Bool) → refusal (test noSuchUnit a ∷ test badEpoch b ∷ test outOfOrder c ∷ test allowanceUsed d ∷ test slotsFull f ∷ []) ≡ slotsFull → f ≡ false
+      go false b c d f h = absurd (omega arith)
+      go true false c d f h = absurd (omega arith)
+      go true true false d f h = absurd (omega arith)
+      go true true true false f h = absurd (omega arith)
+      go true true true true true h = absurd (omega arith)
+      go true true true true false h = refl
 
 -- ---- the record judged
 pub record ReadReady (s : Standby) (l : ReadLent) : Type 0 where
