@@ -1,6 +1,6 @@
 -- The first four claims of specs/Corollaries.antt, from demand 3. Assumes nothing.
 use Prim.Native.Nat.{ℕ, _≤_}
-use mathlib.Core.Path.{_≡_, sym, ap, _∙_, subst}
+use mathlib.Core.Path.{_≡_, refl, sym, ap, _∙_, subst}
 use mathlib.Core.Bool.{true, cond}
 use mathlib.Core.List.{List, [], _∷_, _++_}
 use native.Mathlib.Omega.{arith}
@@ -13,21 +13,14 @@ use Rattle.rules.specs.World.{Processor, Call, Buffers, startNumber}
 use Rattle.rules.specs.World as call
 use Rattle.rules.specs.Step.{step}
 use Rattle.runs.specs.Plain.{Checkpoint, receivedCheckpoint, plainAccepted, plainStep}
-use Rattle.runs.specs.Run.{Both, Steps, steps, runCall, run, startBoth}
+use Rattle.runs.specs.Run.{Both, steps, runCall, run, startBoth}
 use Rattle.runs.specs.Cut.{countedCalls}
-use Rattle.runs.specs.Demand3.{active, CallRight, TakesRight, Holds, WholeRun}
+use Rattle.runs.specs.Demand3.{active, Holds, WholeRun}
 use Rattle.runs.specs.Corollaries.{IsCheckpoint, pairAfter, PacketSaved, AcknowledgedReceived, AcknowledgedKept, OneCheckpoint, PrimaryDiskUntilActivation, AfterStart}
 use Rattle.runs.proofs.CutLaws.{noCut, counted-uncut}
-use Rattle.runs.proofs.FirstLaws.{FirstOf, first-below, first-same}
-use Rattle.runs.proofs.PlainLaws.{run-append, Later, nested-one, run-later, run-nested, received-nested, activation-plain}
+use Rattle.runs.proofs.PlainLaws.{run-append, Later, run-later, activation-plain}
 use Rattle.runs.proofs.Frame.{Accepted}
 use Rattle.runs.proofs.Proved.{demand-3}
-
--- what demand 3 claims of a call inside a list
-call-at : (κ : Steps) (g : Settings) (xs : List Call) (c : Call) (ys : List Call) (b : Both) → TakesRight κ g b (xs ++ (c ∷ ys))
-    → CallRight κ (g .t) (run κ (g .u) b xs) c
-call-at κ g [] c ys b h = h .0
-call-at κ g (x ∷ xs) c ys b h = call-at κ g xs c ys (runCall κ (g .u) b x) (h .1)
 
 -- what the plain pair does with an accepted ACK
 ack-plain : (u : ℕ) (n : ℕ) (b : Both) → Accepted b (call.ack n) → runCall steps u b (call.ack n) .plain .a ≡ step (b .world) (call.ack n) .outcome .value
@@ -44,24 +37,8 @@ module _ (g : Settings) (processor : Processor) (buffers : Buffers) (started : s
       → pairAfter g processor buffers (before ++ (c ∷ later)) ≡ run steps (g .u) (runCall steps (g .u) (pairAfter g processor buffers before) c) later
   after-call before c later = run-append steps (g .u) before (c ∷ later) (startBoth g processor buffers)
 
-  later-than : (before later : List Call) → Later (pairAfter g processor buffers before .plain) (pairAfter g processor buffers (before ++ later) .plain)
-  later-than before later =
-      subst (λ (b : Both). Later (pairAfter g processor buffers before .plain) (b .plain)) (sym (run-append steps (g .u) before later (startBoth g processor buffers)))
-      (run-later (g .u) later (pairAfter g processor buffers before))
-
   packet-saved : PacketSaved g processor buffers
-  packet-saved before destination later e protected =
-      let calls = before ++ (call.take destination ∷ later) in
-      let p = pairAfter g processor buffers before .plain in
-      let q = pairAfter g processor buffers calls .plain in
-      let h = call-at steps g before (call.take destination) later (startBoth g processor buffers) (whole calls .takes) .accepted e in
-      let f : FirstOf (receivedCheckpoint p .packets) (receivedCheckpoint q .packets)
-      = received-nested p q (later-than before (call.take destination ∷ later)) (run-nested (g .u) calls (startBoth g processor buffers) (nested-one _))
-      (whole before .end .receivedExists) (whole calls .end .receivedExists) in
-      record {
-        below = first-below (p .taken) (receivedCheckpoint p .packets) (receivedCheckpoint q .packets) f (h .below protected);
-        same = h .saved protected ∙ first-same (p .taken) (receivedCheckpoint p .packets) (receivedCheckpoint q .packets) f (h .below protected);
-      }
+  packet-saved before destination later e protected = whole (before ++ (call.take destination ∷ later)) .takes before destination later refl .accepted e .atEnd protected
 
   acknowledged-kept : AcknowledgedKept g processor buffers
   acknowledged-kept before n later e =

@@ -3,16 +3,19 @@ use Prim.Native.Nat.{ℕ, _≤_}
 use mathlib.Core.Path.{_≡_, sym, subst}
 use mathlib.Core.Logic.{⊎-elim}
 use mathlib.Core.Bool.{false}
-use mathlib.Core.List.{List, [], _∷_}
+use mathlib.Core.List.{List, [], _∷_, _++_}
 use Rattle.lists.proofs.TestLaws.{eq-or-ne}
 use Rattle.settings.specs.declared.Settings.{Settings}
 use Rattle.rules.specs.World.{Call, Processor, Buffers, startNumber}
 use Rattle.rules.specs.World as call
-use Rattle.rules.specs.Step.{step}
+use Rattle.rules.specs.Step.{Stepped, step}
+use Rattle.runs.specs.Plain.{Plain, receivedCheckpoint}
 use Rattle.runs.specs.Run.{Both, steps, runCall, run, startBoth}
 use Rattle.runs.specs.Cut.{countedCalls}
-use Rattle.runs.specs.Demand3.{active, TakeRight, CallRight, TakesRight, TakeoverRight, Holds, Demand3}
+use Rattle.runs.specs.Demand3.{active, TakeRight, TakesRight, TakeoverRight, Holds, Demand3}
 use Rattle.runs.proofs.Refused.{refused-both}
+use Rattle.runs.proofs.FirstLaws.{FirstOf}
+use Rattle.runs.proofs.PlainLaws.{Nested, nested-one, received-later, saved-later}
 use Rattle.runs.proofs.Invariant.{Inv}
 use Rattle.runs.proofs.Conclusions.{standby-right, disks-right, received-exists, acknowledged-received}
 
@@ -39,9 +42,9 @@ pub record PerCall (g : Settings) : Type 0 where
   pub activeMemoryWrite : (page offset : ℕ) (bytes : List ℕ) → KeepsAccepted g (call.activeMemoryWrite page offset bytes)
   pub activeDiskWrite : (block : ℕ) (bytes : List ℕ) → KeepsAccepted g (call.activeDiskWrite block bytes)
 
--- of a take, besides: what it handed out
+-- of a take, besides: what it handed out, were the list to end there
 abbrev pub TakeLaw : Settings → Type 0
-TakeLaw g = (b : Both) → Inv g b → (destination : List ℕ) → TakeRight (g .t) (b .plain) (step (b .world) (call.take destination))
+TakeLaw g = (b : Both) → Inv g b → (destination : List ℕ) → TakeRight (g .t) (b .plain) (b .plain) (step (b .world) (call.take destination))
 
 -- of the three kinds of call that take over
 abbrev pub TakeoverLaw : Settings → Type 0
@@ -51,6 +54,14 @@ TakeoverLaw g =
 -- and of start
 abbrev pub StartLaw : Settings → Type 0
 StartLaw g = (processor : Processor) (buffers : Buffers) → startNumber g buffers ≡ 0 → Inv g (startBoth g processor buffers)
+
+-- what it handed out is one of checkpoint r's at any end of which these are the first packets
+take-later : (t : ℕ) (p end : Plain) (s : Stepped) → TakeRight t p p s → FirstOf (receivedCheckpoint p .packets) (receivedCheckpoint end .packets) → TakeRight t p end s
+take-later t p end s x f =
+    record {
+      accepted = λ e. let h = x .accepted e in record { queued = h .queued; oldest = h .oldest; saved = h .saved; atEnd = λ z. saved-later (s .handed) (p .taken) p end f (h .saved z) };
+      refused = x .refused;
+    }
 
 -- ---- every call keeps the invariant
 accepted-keeps : (g : Settings) → PerCall g → (c : Call) → KeepsAccepted g c
@@ -87,25 +98,16 @@ module _ (g : Settings) (k : PerCall g) where
   run-inv (c ∷ cs) b i = run-inv cs (runCall steps (g .u) b c) (keeps c b i)
 
   -- ---- every take of a list
-  call-right : TakeLaw g → (c : Call) (b : Both) → Inv g b → CallRight steps (g .t) b c
-  call-right t (call.memoryWrite page offset bytes) b i = tt
-  call-right t (call.diskWrite block bytes) b i = tt
-  call-right t (call.packet bytes) b i = tt
-  call-right t (call.checkpoint processor) b i = tt
-  call-right t (call.drain n destination) b i = tt
-  call-right t (call.ack n) b i = tt
-  call-right t (call.take destination) b i = t b i destination
-  call-right t call.primaryTick b i = tt
-  call-right t (call.read n reply) b i = tt
-  call-right t (call.flush n) b i = tt
-  call-right t call.standbyTick b i = tt
-  call-right t call.activation b i = tt
-  call-right t (call.activeMemoryWrite page offset bytes) b i = tt
-  call-right t (call.activeDiskWrite block bytes) b i = tt
-
-  takes-right : TakeLaw g → (cs : List Call) (b : Both) → Inv g b → TakesRight steps g b cs
-  takes-right t [] b i = tt
-  takes-right t (c ∷ cs) b i = (call-right t c b i, takes-right t cs (runCall steps (g .u) b c) (keeps c b i))
+  takes-right : TakeLaw g → (b : Both) → Inv g b → Nested (b .plain .checkpoints) (b .plain .accepted) → (cs : List Call) → TakesRight steps g b cs
+  takes-right t b i n cs before destination later is =
+      let there = run steps (g .u) b before in
+      let s = step (there .world) (call.take destination) in
+      let rest = call.take destination ∷ later in
+      let end = run steps (g .u) b (before ++ rest) in
+      let v = run-inv before b i in
+      let more = received-later (g .u) before rest b n (received-exists g there v) (received-exists g end (run-inv (before ++ rest) b i)) in
+      subst (λ (x : List Call). TakeRight (g .t) (there .plain) (run steps (g .u) b x .plain) s) is
+      (take-later (g .t) (there .plain) (end .plain) s (t there v destination) more)
 
 -- ---- at every cut
 pub holds : (g : Settings) → TakeoverLaw g → (b : Both) → Inv g b → Holds steps g b
@@ -127,4 +129,4 @@ demand-3-from k t o s g processor buffers e calls cut =
     let b = startBoth g processor buffers in
     let cs = countedCalls cut calls in
     let i = s g processor buffers e in
-    record { takes = takes-right g (k g) (t g) cs b i; end = holds g (o g) (run steps (g .u) b cs) (run-inv g (k g) cs b i) }
+    record { takes = takes-right g (k g) (t g) b i (nested-one _) cs; end = holds g (o g) (run steps (g .u) b cs) (run-inv g (k g) cs b i) }

@@ -13,11 +13,12 @@ pub mod FirstLaws
 pub mod Effects
 pub mod Invariant
 pub mod Conclusions
+pub mod PacketsLaws
+pub mod PlainLaws
 pub mod Frame
 pub mod ModeLaws
 pub mod KeptLaws
 pub mod MemoryWrite
-pub mod PacketsLaws
 pub mod Packet
 pub mod Take
 pub mod Drain
@@ -39,7 +40,6 @@ pub mod ReadCall
 pub mod StartCall
 pub mod TakeoverCalls
 pub mod Proved
-pub mod PlainLaws
 pub mod Corollaries
 pub mod ActiveLaws
 pub mod CallLaws

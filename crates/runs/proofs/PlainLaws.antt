@@ -10,13 +10,13 @@ use lib.ListN.{length, getD, List·getD-append}
 use Rattle.records.specs.Kind.{COMMIT}
 use Rattle.rules.specs.World.{Call}
 use Rattle.rules.specs.World as call
-use Rattle.rules.specs.Step.{Outcome}
+use Rattle.rules.specs.Step.{Outcome, step}
 use Rattle.rules.proofs.ReplyLaws.{pick-cases}
 use Rattle.runs.specs.Plain.{Checkpoint, Plain, noCheckpoint, receivedCheckpoint, plainAccepted, plainStep}
 use Rattle.runs.specs.Run.{Both, Steps, steps, runCall, run}
-use Rattle.runs.proofs.FirstLaws.{FirstOf, first-all, first-more}
+use Rattle.runs.specs.Demand3.{Saved}
+use Rattle.runs.proofs.FirstLaws.{FirstOf, first-all, first-more, first-below, first-same}
 use Rattle.runs.proofs.PacketsLaws.{checkpoint-cases}
-use Rattle.runs.proofs.Frame.{Accepted}
 
 -- ---- a list of calls and another after it
 pub run-append : (κ : Steps) (u : ℕ) (xs ys : List Call) (b : Both) → run κ u b (xs ++ ys) ≡ run κ u (run κ u b xs) ys
@@ -129,6 +129,23 @@ received-nested p q l k below last =
     rw (sym (sym (ap (λ (x : List Checkpoint). getD x (p .r) noCheckpoint) (l .added)) ∙ List·getD-append (p .checkpoints) (l .more) noCheckpoint (p .r) below))
     (k .later (p .r) (q .r) (l .received) last)
 
+-- so what is one of checkpoint r's stays one
+pub saved-later : (packet : List ℕ) (n : ℕ) (p q : Plain) → FirstOf (receivedCheckpoint p .packets) (receivedCheckpoint q .packets) → Saved packet n p → Saved packet n q
+saved-later packet n p q f s =
+    let xs = receivedCheckpoint p .packets in
+    let ys = receivedCheckpoint q .packets in
+    record { below = first-below n xs ys f (s .below); same = s .same ∙ first-same n xs ys f (s .below) }
+
+-- along a list of calls
+pub received-later : (u : ℕ) (before later : List Call) (b : Both) → Nested (b .plain .checkpoints) (b .plain .accepted)
+    → run steps u b before .plain .r < length (run steps u b before .plain .checkpoints)
+    → run steps u b (before ++ later) .plain .r < length (run steps u b (before ++ later) .plain .checkpoints)
+    → FirstOf (receivedCheckpoint (run steps u b before .plain) .packets) (receivedCheckpoint (run steps u b (before ++ later) .plain) .packets)
+received-later u before later b k =
+    received-nested (run steps u b before .plain) (run steps u b (before ++ later) .plain)
+    (subst (λ (x : Both). Later (run steps u b before .plain) (x .plain)) (sym (run-append steps u before later b)) (run-later u later (run steps u b before)))
+    (run-nested u (before ++ later) b k)
+
 -- ---- an accepted activation: the plain standby has checkpoint r
 pub record Activated (p q : Plain) : Type 0 where
   pub activated : q .activated ≡ true
@@ -136,6 +153,6 @@ pub record Activated (p q : Plain) : Type 0 where
   pub disk : q .standbyDisk ≡ receivedCheckpoint p .disk
   pub checkpoint : receivedCheckpoint q ≡ receivedCheckpoint p
 
-pub activation-plain : (u : ℕ) (b : Both) → Accepted b call.activation → Activated (b .plain) (runCall steps u b call.activation .plain)
+pub activation-plain : (u : ℕ) (b : Both) → step (b .world) call.activation .outcome .number ≡ 0 → Activated (b .plain) (runCall steps u b call.activation .plain)
 unfolding plainStep plainAccepted
 activation-plain u b e = rw (eq-eqb _ _ e) (record { activated = refl; memory = refl; disk = refl; checkpoint = refl })

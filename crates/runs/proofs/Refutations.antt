@@ -15,7 +15,7 @@ use Rattle.rules.specs.World as call
 use Rattle.rules.specs.Step.{Stepped, step}
 use Rattle.runs.specs.Demand3.{Demand3Of}
 use Rattle.runs.proofs.Compute.{allSteps}
-use Rattle.runs.proofs.Small.{processorOf, zeros, reads, commitCame, holdsAfter, takesOf}
+use Rattle.runs.proofs.Small.{processorOf, zeros, reads, commitCame, holdsAfter, takeOf}
 use Rattle.runs.proofs.Wrong.{insteadOf, wrongly, accepts, acceptsKind, leaving, answering, primaryWith, standbyWith}
 
 -- ---- takeover that always gives checkpoint 0
@@ -81,6 +81,6 @@ fixed number value w c = answering (step w c) number value
 pub refutes-fixed-reply : (number value : ℕ) → Demand3Of (wrongly (fixed number value)) → ⊥
 unfolding allSteps
 refutes-fixed-reply zero value d =
-    let z : 0 < 0 = takesOf _ d (call.take [] ∷ []) .0 .accepted refl .queued in omega arith
+    let z : 0 < 0 = takeOf _ d [] [] [] .accepted refl .queued in omega arith
 refutes-fixed-reply (suc n) value d =
     let z : suc n ≡ 0 = holdsAfter _ d [] .takeover refl 0 (lit≤ tt) .accepted .0 in omega arith

@@ -20,7 +20,7 @@ use Rattle.rules.specs.Step.{Outcome, Stepped, step}
 use Rattle.runs.specs.Plain.{Plain, withCounts, plainStep}
 use Rattle.runs.specs.Demand3.{Demand3Of}
 use Rattle.runs.proofs.Compute.{allSteps}
-use Rattle.runs.proofs.Small.{processorOf, unit, zeros, reads, blockCame, stateCame, commitCame, holdsAfter, takesOf}
+use Rattle.runs.proofs.Small.{processorOf, unit, zeros, reads, blockCame, stateCame, commitCame, holdsAfter, takeOf}
 use Rattle.runs.proofs.Wrong.{sameKind, insteadOf, wrongly, acceptsKind, leaving, primaryWith, standbyWith, travelling}
 
 -- ---- acknowledging at STATE already
@@ -33,7 +33,7 @@ acknowledgesAtState w c s =
 pub refutes-ack-at-state : Demand3Of (wrongly (insteadOf (call.read 0 []) acknowledgesAtState)) → ⊥
 unfolding allSteps
 refutes-ack-at-state d =
-    let z : 0 < 0 = takesOf _ d (stateCame ++ (call.ack 8 ∷ call.take (zeros 1) ∷ [])) .1 .1 .1 .1 .1 .1 .1 .1 .1 .0 .accepted refl .below refl in omega arith
+    let z : 0 < 0 = takeOf _ d (stateCame ++ (call.ack 8 ∷ [])) (zeros 1) [] .accepted refl .saved refl .below in omega arith
 
 -- ---- releasing up to the open epoch, as if the primary were alone
 -- not "hands out the oldest packet if its epoch is acknowledged"
@@ -46,7 +46,7 @@ releasesOpen w c s =
 pub refutes-release-open : Demand3Of (wrongly (insteadOf (call.take []) releasesOpen)) → ⊥
 unfolding allSteps
 refutes-release-open d =
-    let z : 0 < 0 = takesOf _ d (call.packet (99 ∷ []) ∷ call.take (zeros 1) ∷ []) .1 .0 .accepted refl .below refl in omega arith
+    let z : 0 < 0 = takeOf _ d (call.packet (99 ∷ []) ∷ []) (zeros 1) [] .accepted refl .saved refl .below in omega arith
 
 -- ---- storing a BLOCK on arrival
 -- not "No block reaches the disk before it is due"

@@ -10,7 +10,7 @@ use Rattle.rules.specs.World.{World, Processor, Call, Buffers, startNumber}
 use Rattle.rules.specs.World as call
 use Rattle.rules.specs.Step.{Outcome, outcome}
 use Rattle.runs.specs.Run.{Both, Steps, run, startBoth}
-use Rattle.runs.specs.Demand3.{TakesRight, Holds, WholeRun, Demand3Of}
+use Rattle.runs.specs.Demand3.{TakeRight, Holds, WholeRun, Demand3Of}
 use Rattle.runs.proofs.Compute.{allSteps}
 use Rattle.runs.proofs.CutLaws.{noCut, counted-uncut}
 
@@ -113,5 +113,7 @@ module _ (κ : Steps) (d : Demand3Of κ) (calls : List Call) where
   pub holdsAfter : Holds κ small (run κ 64 begun calls)
   holdsAfter = wholeRun .end
 
-  pub takesOf : TakesRight κ small begun calls
-  takesOf = wholeRun .takes
+-- and of a take, after some calls and before others
+pub takeOf : (κ : Steps) → Demand3Of κ → (before : List Call) (destination : List ℕ) (later : List Call)
+    → TakeRight 3 (run κ 64 begun before .plain) (run κ 64 begun (before ++ (call.take destination ∷ later)) .plain) (κ .real (run κ 64 begun before .world) (call.take destination))
+takeOf κ d before destination later = wholeRun κ d (before ++ (call.take destination ∷ later)) .takes before destination later refl

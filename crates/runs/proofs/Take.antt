@@ -20,7 +20,7 @@ use Rattle.rules.proofs.PacketLaws.{TakeFacts, take-accepted, take-state-reache
 use Rattle.rules.proofs.PrimaryFacts.{primary-facts}
 use Rattle.runs.specs.Plain.{isAlone, withPackets, plainAccepted, plainStep}
 use Rattle.runs.specs.Run.{Both, steps, runCall}
-use Rattle.runs.specs.Demand3.{HandedRight}
+use Rattle.runs.specs.Demand3.{Saved, HandedRight}
 use Rattle.runs.proofs.Invariant.{Packets, Inv}
 use Rattle.runs.proofs.Conclusions.{received-exists, acknowledged-received}
 use Rattle.runs.proofs.PacketsLaws.{packets-less, oldest-queued, oldest-is, oldest-below, oldest-saved}
@@ -121,17 +121,16 @@ module _ (destination : List ℕ) where
         let l = acknowledged-received g b i in
         ⊎-elim (λ (z : b .world .primary .state .alone ≡ true). absurd (true≢false (sym z ∙ d .aloneIs ∙ a))) (λ z. omega (arith, d .acknowledgedIs)) (f .released .free)
 
-    handed-right : (handed : List ℕ) → handed ≡ first b .bytes → HandedRight (g .t) (b .plain) handed
+    handed-right : (handed : List ℕ) → handed ≡ first b .bytes → HandedRight (g .t) (b .plain) (b .plain) handed
     handed-right handed e =
         let a = b .plain .accepted in
         let n = b .plain .taken in
         let c = b .plain .checkpoints in
-        record {
-          queued = oldest-queued (rest b) a n c (first b) packets;
-          oldest = e ∙ oldest-is (rest b) a n c (first b) packets;
-          below = λ z. oldest-below (rest b) a n c (first b) packets (b .plain .r) (saved z) (received-exists g b i);
-          saved = λ z. e ∙ oldest-saved (rest b) a n c (first b) packets (b .plain .r) (saved z) (received-exists g b i);
-        }
+        let here : isAlone (g .t) (b .plain) ≡ false → Saved handed n (b .plain) = λ z. record {
+          below = oldest-below (rest b) a n c (first b) packets (b .plain .r) (saved z) (received-exists g b i);
+          same = e ∙ oldest-saved (rest b) a n c (first b) packets (b .plain .r) (saved z) (received-exists g b i);
+        } in
+        record { queued = oldest-queued (rest b) a n c (first b) packets; oldest = e ∙ oldest-is (rest b) a n c (first b) packets; saved = here; atEnd = here }
 
     handed-is : Accepted b (call.take destination) → step (b .world) (call.take destination) .handed ≡ oldestBytes (b .world .primary .state .queue) (b .world .primary .held)
     handed-is e =

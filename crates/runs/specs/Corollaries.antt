@@ -1,25 +1,20 @@
 -- What a service engineer reads off demand 3: five claims about every run. Assumes nothing.
 -- The calls that count at a cut, `countedCalls cut calls`, are themselves a list of calls: a claim about every list holds at every cut.
-use Prim.Native.Nat.{ℕ, _≤_, _<_}
+use Prim.Native.Nat.{ℕ, _≤_}
 use mathlib.Core.Path.{_≡_}
 use mathlib.Core.Bool.{true, false}
 use mathlib.Core.List.{List, [], _∷_, _++_}
-use lib.ListN.{length, getD}
+use lib.ListN.{length}
 use Rattle.settings.specs.declared.Settings.{Settings}
 use Rattle.rules.specs.declared.Choice.the-variants.{PrimaryDisk}
 use Rattle.rules.specs.Choose.{choiceOf, chosenDisk}
 use Rattle.rules.specs.World.{StandbyEnd, Processor, Call, Buffers, startNumber}
 use Rattle.rules.specs.World as call
 use Rattle.rules.specs.Step.{Stepped, step}
-use Rattle.runs.specs.Plain.{Plain, Checkpoint, receivedCheckpoint, isAlone}
+use Rattle.runs.specs.Plain.{Checkpoint, receivedCheckpoint, isAlone}
 use Rattle.runs.specs.Run.{Both, steps, run, startBoth}
 use Rattle.runs.specs.Cut.{Cut, countedCalls}
-use Rattle.runs.specs.Demand3.{active, TakeoverRight}
-
--- a packet is the n-th, from 0, of checkpoint r's
-pub record Saved (packet : List ℕ) (n : ℕ) (p : Plain) : Type 0 where
-  pub below : n < length (receivedCheckpoint p .packets)
-  pub same : packet ≡ getD (receivedCheckpoint p .packets) n []
+use Rattle.runs.specs.Demand3.{active, TakeoverRight, Saved}
 
 -- a takeover there gives checkpoint r, and r is e or a later one
 pub record StillReceived (g : Settings) (e : ℕ) (b : Both) : Type 0 where

@@ -12,7 +12,7 @@ use Rattle.rules.specs.World.{World, Processor, Call, Buffers, startNumber}
 use Rattle.rules.specs.World as call
 use Rattle.rules.specs.Step.{Stepped}
 use Rattle.runs.specs.Plain.{Plain, receivedCheckpoint, isAlone}
-use Rattle.runs.specs.Run.{Both, Steps, steps, runCall, run, startBoth}
+use Rattle.runs.specs.Run.{Both, Steps, steps, run, startBoth}
 use Rattle.runs.specs.Cut.{Cut, countedCalls}
 
 abbrev pub active : World → Bool
@@ -50,38 +50,30 @@ pub record TakeoverRight (κ : Steps) (g : Settings) (b : Both) (n : ℕ) : Type
   pub processor : afterTakeover κ g b n .world .standby .state .processor ≡ receivedCheckpoint (b .plain) .processor
 
 -- ---- "Each accepted take gave the oldest packet; under protection it is one of checkpoint r's"
-pub record HandedRight (t : ℕ) (p : Plain) (handed : List ℕ) : Type 0 where
+
+-- a packet is the n-th, from 0, of checkpoint r's
+pub record Saved (packet : List ℕ) (n : ℕ) (p : Plain) : Type 0 where
+  pub below : n < length (receivedCheckpoint p .packets)
+  pub same : packet ≡ getD (receivedCheckpoint p .packets) n []
+
+-- p is the plain pair where the take is made, end the one at the cut, whose checkpoint r is the takeover's
+pub record HandedRight (t : ℕ) (p end : Plain) (handed : List ℕ) : Type 0 where
   pub queued : p .taken < length (p .accepted)
   pub oldest : handed ≡ getD (p .accepted) (p .taken) []
-  pub below : isAlone t p ≡ false → p .taken < length (receivedCheckpoint p .packets)
-  pub saved : isAlone t p ≡ false → handed ≡ getD (receivedCheckpoint p .packets) (p .taken) []
+  pub saved : isAlone t p ≡ false → Saved handed (p .taken) p
+  pub atEnd : isAlone t p ≡ false → Saved handed (p .taken) end
 
 -- and a refused one gives none
-pub record TakeRight (t : ℕ) (p : Plain) (s : Stepped) : Type 0 where
-  pub accepted : s .outcome .number ≡ 0 → HandedRight t p (s .handed)
+pub record TakeRight (t : ℕ) (p end : Plain) (s : Stepped) : Type 0 where
+  pub accepted : s .outcome .number ≡ 0 → HandedRight t p end (s .handed)
   pub refused : (s .outcome .number ≡ 0 → ⊥) → s .handed ≡ []
 
--- what is claimed of a call where it is made: of a take
-abbrev pub CallRight : Steps → ℕ → Both → Call → Type 0
-CallRight κ t b (call.memoryWrite page offset bytes) = Unit {0}
-CallRight κ t b (call.diskWrite block bytes) = Unit {0}
-CallRight κ t b (call.packet bytes) = Unit {0}
-CallRight κ t b (call.checkpoint processor) = Unit {0}
-CallRight κ t b (call.drain n destination) = Unit {0}
-CallRight κ t b (call.ack n) = Unit {0}
-CallRight κ t b (call.take destination) = TakeRight t (b .plain) (κ .real (b .world) (call.take destination))
-CallRight κ t b call.primaryTick = Unit {0}
-CallRight κ t b (call.read n reply) = Unit {0}
-CallRight κ t b (call.flush n) = Unit {0}
-CallRight κ t b call.standbyTick = Unit {0}
-CallRight κ t b call.activation = Unit {0}
-CallRight κ t b (call.activeMemoryWrite page offset bytes) = Unit {0}
-CallRight κ t b (call.activeDiskWrite block bytes) = Unit {0}
-
--- of every take of a list
+-- of every take of a list, which ends at the cut
 abbrev pub TakesRight : Steps → Settings → Both → List Call → Type 0
-TakesRight κ g b [] = Unit {0}
-TakesRight κ g b (c ∷ cs) = CallRight κ (g .t) b c × TakesRight κ g (runCall κ (g .u) b c) cs
+TakesRight κ g b calls =
+    (before : List Call) (destination : List ℕ) (later : List Call) → before ++ (call.take destination ∷ later) ≡ calls
+    → let there = run κ (g .u) b before in
+    TakeRight (g .t) (there .plain) (run κ (g .u) b calls .plain) (κ .real (there .world) (call.take destination))
 
 -- ---- "the primary's disk, valid until an activation is accepted"; "the standby's, valid from then on"
 abbrev pub validDisk : Plain → List ℕ
