@@ -1,4 +1,4 @@
--- All calls count where ncond-same end is cut. Assumes nothing.
+-- All calls count where no end is cut. Assumes nothing.
 use mathlib.Core.Path.{_≡_, refl, ap, ap₂, _∙_}
 use mathlib.Core.Bool.{Bool, true, false, cond}
 use mathlib.Core.List.{List, [], _∷_, _++_}
