@@ -1,6 +1,6 @@
 -- The shut-out programs that a step rule rules out (demand 2): each refuses, leaves out or misreports something, and what is received stays right,
 -- so that demand 3 has nothing against them. Each differs from `step` at a world that a run reaches, by computing. Assumes nothing.
-use Prim.Native.Nat.{ℕ, _+_}
+use Prim.Native.Nat.{ℕ, suc, _+_}
 use mathlib.Core.Path.{_≡_, ap}
 use mathlib.Core.Bool.{cond}
 use mathlib.Core.List.{List, [], _∷_, _++_}
@@ -9,7 +9,7 @@ use lib.Dec.{ltb}
 use lib.ListN.{length, getD}
 use Rattle.lists.specs.Part.{put}
 use Rattle.records.specs.Write.{commitRecord}
-use Rattle.records.specs.Number.{outOfOrder, streamFull, queueFull, slotsFull, nothingFree}
+use Rattle.records.specs.Number.{streamFull, queueFull, slotsFull, nothingFree}
 use Rattle.rules.specs.PrimaryState.{withWaiting}
 use Rattle.rules.specs.Checkpoint.{dirtyCount}
 use Rattle.rules.specs.World.{World, Call}
@@ -68,11 +68,11 @@ pub rules-out-17 : OtherNumber (refuses slotsFull) (worldAfter sent) (call.read 
 unfolding allSteps
 rules-out-17 e = let z : _≡_ {A = ℕ} 17 0 = e in omega arith
 
--- ---- a standby that refuses every record
+-- ---- a standby that refuses every record, whatever the number
 -- not "Reading a record: 1, 13, header incomplete, 6, 7, body incomplete, 2, 5 (COMMIT only), 8, 9, 10, 11, 14, 17"
-pub rules-out-refusing-all : OtherNumber (refuses outOfOrder) (worldAfter sent) (call.read 74 [])
+pub rules-out-refusing-all : (n : ℕ) → OtherNumber (refuses (suc n)) (worldAfter sent) (call.read 74 [])
 unfolding allSteps
-rules-out-refusing-all e = let z : _≡_ {A = ℕ} 9 0 = e in omega arith
+rules-out-refusing-all n e = let z : suc n ≡ 0 = e in omega arith
 
 -- ---- a made-up flush count, where one block is due and stored
 -- not "stores min(n, due) due blocks in order of arrival, and reports that count"
