@@ -6,6 +6,9 @@ pub mod ComputedRun
 pub mod Wrong
 pub mod Refutations
 pub mod Slips
+pub mod Conjuncts
+pub mod TakeRefutations
+pub mod CutRefutations
 pub mod RuledOut
 pub mod RecordSteps
 pub mod Refused

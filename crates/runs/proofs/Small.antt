@@ -10,6 +10,7 @@ use Rattle.rules.specs.World.{World, Processor, Call, Buffers, startNumber}
 use Rattle.rules.specs.World as call
 use Rattle.rules.specs.Step.{Outcome, outcome}
 use Rattle.runs.specs.Run.{Both, Steps, run, startBoth}
+use Rattle.runs.specs.Cut.{Cut, countedCalls}
 use Rattle.runs.specs.Demand3.{TakeRight, Holds, WholeRun, Demand3Of}
 use Rattle.runs.proofs.Compute.{allSteps}
 use Rattle.runs.proofs.CutLaws.{noCut, counted-uncut}
@@ -105,7 +106,10 @@ stateCame = sent ++ reads 3
 abbrev pub commitCame : List Call
 commitCame = sent ++ reads 4
 
--- what Demand3Of says of a list of calls with no cut
+-- ---- what Demand3Of says of a list of calls, cut and with no cut
+pub holdsAtCut : (κ : Steps) → Demand3Of κ → (calls : List Call) (cut : Cut) → Holds κ small (run κ 64 begun (countedCalls cut calls))
+holdsAtCut κ d calls cut = d small (processorOf 1) buffers small-starts calls cut .end
+
 module _ (κ : Steps) (d : Demand3Of κ) (calls : List Call) where
   wholeRun : WholeRun κ small begun calls
   wholeRun = subst (WholeRun κ small begun) (counted-uncut calls) (d small (processorOf 1) buffers small-starts calls noCut)
