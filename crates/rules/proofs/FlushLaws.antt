@@ -1,4 +1,4 @@
--- Laws of flush: what its acceptance says, and that what holds of a state reached holds after it. Assumes nothing.
+-- Laws of flush: what its acceptance says, and that a state stays in range, and reached. Assumes nothing.
 use mathlib.Core.Path.{_≡_, refl}
 use mathlib.Core.Bool.{true, _&&_}
 use mathlib.Core.List.{List, [], _∷_}
@@ -11,16 +11,15 @@ use Rattle.lists.specs.Refusal.{Test, test}
 use Rattle.lists.proofs.TestLaws.{both, join, accepted, accepts}
 use Rattle.records.specs.Number.{outOfRange}
 use Rattle.settings.specs.Range.{mostSlots}
-use Rattle.staging.specs.Slot.{flushCount, flushed}
+use Rattle.staging.specs.Slot.{flushed}
 use Rattle.staging.specs.Fits.{FlushFits}
 use Rattle.staging.proofs.SlotLaws.{array-flushed, slots-flushed}
 use Rattle.staging.proofs.StoreLaws.{flush-fits}
 use Rattle.rules.specs.declared.Standby.{Standby}
 use Rattle.rules.specs.StandbyState.{standbyOk, diskLength, slotsLength, withSlotsBlocks}
-use Rattle.rules.specs.Flush.{flushRefusal, flushReply}
-use Rattle.rules.specs.Reached.{StandbyReached}
-use Rattle.rules.proofs.StandbyFacts.{standby-tests, standby-facts, reached-slots}
-use Rattle.rules.proofs.ReplyLaws.{pick-cases}
+use Rattle.rules.specs.Flush.{flushRefusal}
+use Rattle.rules.specs.Reached.{StandbyInRange, StandbyReached}
+use Rattle.rules.proofs.StandbyFacts.{standby-tests, standby-facts, in-range-slots, reached-slots}
 
 -- ---- acceptance
 pub record FlushAccepted (s : Standby) (slots disk : ℕ) : Type 0 where
@@ -51,23 +50,22 @@ module _ (s : Standby) (slots disk : ℕ) where
   flush-room array f =
       flush-fits (s .settings .u) (s .settings .s) (s .settings .d) (s .slots) slots disk array (standby-facts s (f .inRange) .settings .slots .s-high) (standby-tests s (f .inRange) .slots-ok) (f .slotsLent) (f .diskLent)
 
--- ---- reached states
-flushed-counts : (s : Standby) (count : ℕ) → (flushed (s .slots) count .staged ≡ s .slots .staged - count) × (flushed (s .slots) count .due ≡ s .slots .due - count)
-unfolding flushed
-flushed-counts s count = (refl, refl)
+-- ---- what a flush of this many leaves
+module _ (s : Standby) (count : ℕ) where
+  flushed-counts : (flushed (s .slots) count .staged ≡ s .slots .staged - count) × (flushed (s .slots) count .due ≡ s .slots .due - count)
+  unfolding flushed
+  flushed-counts = (refl, refl)
 
-pub flushed-reached : (s : Standby) (count : ℕ) → count ≤ s .slots .due → StandbyReached s → StandbyReached (withSlotsBlocks s (flushed (s .slots) count) (s .blocks))
-flushed-reached s count low r =
-    let t = standby-tests s (r .inRange) in
-    let f = standby-facts s (r .inRange) in
-    let k = flushed-counts s count in
-    reached-slots s r (flushed (s .slots) count) (s .blocks)
-    (slots-flushed (s .slots) (s .settings .s) (s .settings .d) (r .numbers) (f .settings .slots .s-high) count (t .slots-ok) low)
-    (array-flushed (s .slots) (r .numbers) count (omega arith) (omega arith)) (t .blocks-high) (omega (arith, r .notDue, k .0, k .1))
+  module _ (low : count ≤ s .slots .due) where
+    pub flushed-in-range : StandbyInRange s → StandbyInRange (withSlotsBlocks s (flushed (s .slots) count) (s .blocks))
+    flushed-in-range r =
+        let t = standby-tests s (r .inRange) in
+        let f = standby-facts s (r .inRange) in
+        in-range-slots s (flushed (s .slots) count) (s .blocks) r
+        (slots-flushed (s .slots) (s .settings .s) (s .settings .d) (r .numbers) (f .settings .slots .s-high) count (t .slots-ok) low)
+        (array-flushed (s .slots) (r .numbers) count (omega arith) (omega arith)) (t .blocks-high)
 
--- after a flush, accepted or refused
-pub flush-reached : (s : Standby) (slots disk n : ℕ) → StandbyReached s → StandbyReached (flushReply s slots disk n .state)
-unfolding flushReply
-flush-reached s slots disk n r =
-    pick-cases StandbyReached (flushRefusal s slots disk) (withSlotsBlocks s (flushed (s .slots) (flushCount (s .slots) n)) (s .blocks)) s
-    (λ e. flushed-reached s (flushCount (s .slots) n) (omega arith) r) (λ e. r)
+    pub flushed-reached : StandbyReached s → StandbyReached (withSlotsBlocks s (flushed (s .slots) count) (s .blocks))
+    flushed-reached r =
+        let k = flushed-counts in
+        reached-slots s (flushed (s .slots) count) (s .blocks) r (flushed-in-range (r .range)) (omega (arith, r .notDue, k .0, k .1))

@@ -1,4 +1,5 @@
--- What a read keeps: a state stays reached whatever record is judged, and what is cut short or refused changes nothing. Assumes nothing.
+-- What a read keeps: a state stays in range, and reached, whatever record is judged, and what is cut short or refused
+-- changes nothing. Assumes nothing.
 use mathlib.Core.Path.{_≡_, refl, _∙_}
 use mathlib.Core.List.{List}
 use Prim.Native.Nat.{ℕ, _+_, _-_, _≤_, _<_}
@@ -21,9 +22,9 @@ use Rattle.rules.specs.StandbyState.{isReceiving, withPagesNext, withSlo
 use Rattle.rules.specs.Reply.{numberOf, valueOf, usedOf, answerOf}
 use Rattle.rules.specs.Judge.{judged}
 use Rattle.rules.specs.Read.{bytesAt, sealedState, installedState, readState, memoryAfter, stagedPagesAfter, stagedMarksAfter, stagedBlocksAfter, replyAfter, readReply}
-use Rattle.rules.specs.Reached.{StandbyReached}
+use Rattle.rules.specs.Reached.{StandbyInRange, StandbyReached}
 use Rattle.rules.proofs.DetectorFacts.{detector-of, reset-facts}
-use Rattle.rules.proofs.StandbyFacts.{standby-tests, standby-tested, standby-facts, reached-slots}
+use Rattle.rules.proofs.StandbyFacts.{standby-tests, standby-tested, standby-facts, in-range-slots, reached-slots}
 use Rattle.rules.proofs.JudgeLaws.{PageTests, BlockTests, JudgedFacts, judged-cases, judged-facts}
 
 -- the field of bytes of a record has its size
@@ -32,54 +33,38 @@ bytes-length c bytes size span inside =
     let e : c .end - c .start ≡ size = omega arith in
     length-part (c .start) (c .end - c .start) bytes (omega arith) ∙ e
 
--- ---- the state stays reached, by the record that is accepted
-module _ (s : Standby) (h : StandbyReached s) where
-  pub page-reached : (e p : ℕ) → PageTests s e p → StandbyReached (withPagesNext s (s .pages + 1) (p + 1))
-  page-reached e p f =
+-- ---- the state stays in range, by the record that is accepted
+module _ (s : Standby) (h : StandbyInRange s) where
+  -- a page is not below those received, so that with it they are at most M
+  pub page-in-range : (e p : ℕ) → PageTests s e p → StandbyInRange (withPagesNext s (s .pages + 1) (p + 1))
+  page-in-range e p f =
       let t = standby-tests s (h .inRange) in
-      let a = f .rising in
-      let b = f .page-low in
-      let k = h .pagesBelow in
       record {
         inRange = standby-tested (withPagesNext s (s .pages + 1) (p + 1))
-            (record { settings-ok = t .settings-ok; slots-ok = t .slots-ok; blocks-high = t .blocks-high; pages-high = omega arith; detector-ok = t .detector-ok });
+            (record { settings-ok = t .settings-ok; slots-ok = t .slots-ok; blocks-high = t .blocks-high; pages-high = omega (arith, f .not-below, f .page-low); detector-ok = t .detector-ok });
         numbers = h .numbers;
-        stagedProcessor = h .stagedProcessor;
-        processor = h .processor;
-        pagesBelow = omega arith;
-        nextBelow = omega arith;
-        notDue = h .notDue;
       }
 
-  pub block-reached : (e n : ℕ) → BlockTests s e n → StandbyReached (withSlotsBlocks s (withBlock (s .slots) n) (s .blocks + 1))
-  unfolding withBlock
-  block-reached e n f =
+  pub block-in-range : (e n : ℕ) → BlockTests s e n → StandbyInRange (withSlotsBlocks s (withBlock (s .slots) n) (s .blocks + 1))
+  block-in-range e n f =
       let t = standby-tests s (h .inRange) in
       let g = standby-facts s (h .inRange) in
-      let a = f .allowed in
-      let b = g .slots .due-high in
-      let d = h .notDue in
-      reached-slots s h (withBlock (s .slots) n) (s .blocks + 1)
+      in-range-slots s (withBlock (s .slots) n) (s .blocks + 1) h
       (slots-with-block (s .slots) (s .settings .s) (s .settings .d) (h .numbers) (g .settings .slots .s-high) n (t .slots-ok) (f .slot-free) (f .block-low))
-      (array-with-block (s .slots) (h .numbers) n) (omega arith) (omega arith)
+      (array-with-block (s .slots) (h .numbers) n) (omega (arith, f .allowed))
 
-  pub state-reached : (processor : List ℕ) → length processor ≡ processorBytes → StandbyReached (withPendingSeen s processor)
-  state-reached processor size =
+  pub state-in-range : (processor : List ℕ) → StandbyInRange (withPendingSeen s processor)
+  state-in-range processor =
       let t = standby-tests s (h .inRange) in
       record {
         inRange = standby-tested (withPendingSeen s processor)
             (record { settings-ok = t .settings-ok; slots-ok = t .slots-ok; blocks-high = t .blocks-high; pages-high = t .pages-high; detector-ok = t .detector-ok });
         numbers = h .numbers;
-        stagedProcessor = size;
-        processor = h .processor;
-        pagesBelow = h .pagesBelow;
-        nextBelow = h .nextBelow;
-        notDue = h .notDue;
       }
 
-  pub commit-reached : (epoch : ℕ) → StandbyReached (withDetector (installedState (sealedState s) epoch) (reset (s .detector)))
+  pub commit-in-range : (epoch : ℕ) → StandbyInRange (withDetector (installedState (sealedState s) epoch) (reset (s .detector)))
   unfolding allDue
-  commit-reached epoch =
+  commit-in-range epoch =
       let t = standby-tests s (h .inRange) in
       let d = reset-facts (s .detector) (isReceiving (s .mode)) (standby-facts s (h .inRange) .detector) in
       record {
@@ -92,6 +77,44 @@ module _ (s : Standby) (h : StandbyReached s) where
               detector-ok = detector-of (reset (s .detector)) (isReceiving (s .mode)) d;
             });
         numbers = h .numbers;
+      }
+
+-- ---- and reached
+module _ (s : Standby) (h : StandbyReached s) where
+  pub page-reached : (e p : ℕ) → PageTests s e p → StandbyReached (withPagesNext s (s .pages + 1) (p + 1))
+  page-reached e p f =
+      record {
+        range = page-in-range s (h .range) e p f;
+        stagedProcessor = h .stagedProcessor;
+        processor = h .processor;
+        pagesBelow = omega (arith, f .not-below);
+        nextBelow = omega (arith, f .page-low);
+        notDue = h .notDue;
+      }
+
+  pub block-reached : (e n : ℕ) → BlockTests s e n → StandbyReached (withSlotsBlocks s (withBlock (s .slots) n) (s .blocks + 1))
+  unfolding withBlock
+  block-reached e n f =
+      let b = standby-facts s (h .range .inRange) .slots .due-high in
+      let d = h .notDue in
+      reached-slots s (withBlock (s .slots) n) (s .blocks + 1) h (block-in-range s (h .range) e n f) (omega arith)
+
+  pub state-reached : (processor : List ℕ) → length processor ≡ processorBytes → StandbyReached (withPendingSeen s processor)
+  state-reached processor size =
+      record {
+        range = state-in-range s (h .range) processor;
+        stagedProcessor = size;
+        processor = h .processor;
+        pagesBelow = h .pagesBelow;
+        nextBelow = h .nextBelow;
+        notDue = h .notDue;
+      }
+
+  pub commit-reached : (epoch : ℕ) → StandbyReached (withDetector (installedState (sealedState s) epoch) (reset (s .detector)))
+  unfolding allDue
+  commit-reached epoch =
+      record {
+        range = commit-in-range s (h .range) epoch;
         stagedProcessor = h .stagedProcessor;
         processor = h .stagedProcessor;
         pagesBelow = omega arith;
@@ -99,19 +122,32 @@ module _ (s : Standby) (h : StandbyReached s) where
         notDue = omega arith;
       }
 
-  module _ (l : ReadLent) (bytes : List ℕ) where
-    record-reached : (r : Record) → JudgedFacts s l bytes r → StandbyReached (readState s bytes r)
-    record-reached (Page e p c) f = page-reached e p (f .tests)
-    record-reached (Block e n c) f = block-reached e n (f .tests)
-    record-reached (State e c) f = state-reached (bytesAt c bytes) (bytes-length c bytes processorBytes (f .field .span) (f .field .inside))
-    record-reached (Commit e p b c) f = commit-reached e
-    record-reached (Ack e c) f = absurd f
-    record-reached Short f = h
-    record-reached (Refused n) f = h
+-- ---- a fact of the state is kept by a read, where each accepted record keeps it
+module _ (P : Standby → Type 0) (s : Standby) (h : P s)
+    (page : (e p : ℕ) → PageTests s e p → P (withPagesNext s (s .pages + 1) (p + 1)))
+    (block : (e n : ℕ) → BlockTests s e n → P (withSlotsBlocks s (withBlock (s .slots) n) (s .blocks + 1)))
+    (state : (processor : List ℕ) → length processor ≡ processorBytes → P (withPendingSeen s processor))
+    (commit : (epoch : ℕ) → P (withDetector (installedState (sealedState s) epoch) (reset (s .detector))))
+    (l : ReadLent) (bytes : List ℕ) where
+  record-kept : (r : Record) → JudgedFacts s l bytes r → P (readState s bytes r)
+  record-kept (Page e p c) f = page e p (f .tests)
+  record-kept (Block e n c) f = block e n (f .tests)
+  record-kept (State e c) f = state (bytesAt c bytes) (bytes-length c bytes processorBytes (f .field .span) (f .field .inside))
+  record-kept (Commit e p b c) f = commit e
+  record-kept (Ack e c) f = absurd f
+  record-kept Short f = h
+  record-kept (Refused n) f = h
 
-    pub read-reached : StandbyReached (readReply s l bytes .state)
-    unfolding readReply
-    read-reached = record-reached (judged s l bytes) (judged-facts s l bytes)
+  read-kept : P (readReply s l bytes .state)
+  unfolding readReply
+  read-kept = record-kept (judged s l bytes) (judged-facts s l bytes)
+
+module _ (s : Standby) (l : ReadLent) (bytes : List ℕ) where
+  pub read-in-range : StandbyInRange s → StandbyInRange (readReply s l bytes .state)
+  read-in-range h = read-kept StandbyInRange s h (page-in-range s h) (block-in-range s h) (λ processor size. state-in-range s h processor) (commit-in-range s h) l bytes
+
+  pub read-reached : StandbyReached s → StandbyReached (readReply s l bytes .state)
+  read-reached h = read-kept StandbyReached s h (page-reached s h) (block-reached s h) (state-reached s h) (commit-reached s h) l bytes
 
 -- ---- after the last epoch there is no next one: no record is accepted
 module _ (s : Standby) (l : ReadLent) (bytes : List ℕ) (low : (j : ℕ) → getD bytes j 0 < 256) where

@@ -14,7 +14,7 @@ use Rattle.staging.proofs.SlotLaws.{SlotsTests, slots-tests}
 use Rattle.rules.specs.declared.Standby.{Standby}
 use Rattle.detector.specs.Range.{detectorOk}
 use Rattle.rules.specs.StandbyState.{isReceiving, standbyOk, withSlotsBlocks}
-use Rattle.rules.specs.Reached.{StandbyReached}
+use Rattle.rules.specs.Reached.{StandbyInRange, StandbyReached}
 use Rattle.rules.proofs.DetectorFacts.{DetectorFacts, detector-facts}
 
 -- ---- test by test
@@ -69,18 +69,26 @@ module _ (s : Standby) where
         detector = detector-facts (s .detector) (isReceiving (s .mode)) (t .detector-ok);
       }
 
--- ---- the staged blocks and the epoch's count of them replaced: the state stays reached
-pub reached-slots : (s : Standby) → StandbyReached s → (slots : Slots) (blocks : ℕ) → slotsOk slots (s .settings .s) (s .settings .d) ≡ true → length (slots .numbers) ≡ mostSlots
-    → blocks ≤ s .settings .b → blocks ≡ slots .staged - slots .due → StandbyReached (withSlotsBlocks s slots blocks)
-reached-slots s r slots blocks ok array high e =
-    let f = standby-tests s (r .inRange) in
-    record {
-      inRange = standby-tested (withSlotsBlocks s slots blocks)
-          (record { settings-ok = f .settings-ok; slots-ok = ok; blocks-high = high; pages-high = f .pages-high; detector-ok = f .detector-ok });
-      numbers = array;
-      stagedProcessor = r .stagedProcessor;
-      processor = r .processor;
-      pagesBelow = r .pagesBelow;
-      nextBelow = r .nextBelow;
-      notDue = e;
-    }
+-- ---- the staged blocks and the epoch's count of them replaced: the state stays in range, and reached
+module _ (s : Standby) (slots : Slots) (blocks : ℕ) where
+  pub in-range-slots : StandbyInRange s → slotsOk slots (s .settings .s) (s .settings .d) ≡ true → length (slots .numbers) ≡ mostSlots
+      → blocks ≤ s .settings .b → StandbyInRange (withSlotsBlocks s slots blocks)
+  in-range-slots r ok array high =
+      let f = standby-tests s (r .inRange) in
+      record {
+        inRange = standby-tested (withSlotsBlocks s slots blocks)
+            (record { settings-ok = f .settings-ok; slots-ok = ok; blocks-high = high; pages-high = f .pages-high; detector-ok = f .detector-ok });
+        numbers = array;
+      }
+
+  pub reached-slots : StandbyReached s → StandbyInRange (withSlotsBlocks s slots blocks) → blocks ≡ slots .staged - slots .due
+      → StandbyReached (withSlotsBlocks s slots blocks)
+  reached-slots r range e =
+      record {
+        range = range;
+        stagedProcessor = r .stagedProcessor;
+        processor = r .processor;
+        pagesBelow = r .pagesBelow;
+        nextBelow = r .nextBelow;
+        notDue = e;
+      }

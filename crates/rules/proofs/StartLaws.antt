@@ -135,15 +135,17 @@ module _ (g : Settings) (e : settingsOk g ≡ true) where
   pub opened-standby : (processor : List ℕ) → length processor ≡ processorBytes → StandbyReached (openedStandby g processor)
   opened-standby processor size =
       record {
-        inRange = standby-tested (openedStandby g processor)
-            (record {
-              settings-ok = standby-of-settings g e;
-              slots-ok = slots-empty (g .s) (g .d);
-              blocks-high = omega arith;
-              pages-high = omega arith;
-              detector-ok = detector-of (record { patience = g .t; count = 0 }) true watches;
-            });
-        numbers = refl;
+        range = record {
+          inRange = standby-tested (openedStandby g processor)
+              (record {
+                settings-ok = standby-of-settings g e;
+                slots-ok = slots-empty (g .s) (g .d);
+                blocks-high = omega arith;
+                pages-high = omega arith;
+                detector-ok = detector-of (record { patience = g .t; count = 0 }) true watches;
+              });
+          numbers = refl;
+        };
         stagedProcessor = refl;
         processor = size;
         pagesBelow = omega arith;

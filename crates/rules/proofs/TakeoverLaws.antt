@@ -1,5 +1,5 @@
--- Laws of the standby's tick, of activation and of the guest's writes: what acceptance says, the tick by cases, and that what holds of a state reached
--- holds after each of them. Assumes nothing.
+-- Laws of the standby's tick, of activation and of the guest's writes: what acceptance says, the tick by cases, and
+-- that a state stays in range, and reached. Assumes nothing.
 use mathlib.Core.Path.{_≡_, refl, ap, _∙_}
 use mathlib.Core.Bool.{Bool, true, false, cond, false≢true}
 use Prim.Native.Nat.{ℕ, _+_, _≤_, _<_}
@@ -19,11 +19,10 @@ use Rattle.rules.specs.declared.Standby.{Standby}
 use Rattle.detector.specs.Range.{detectorOk}
 use Rattle.rules.specs.Common.{insidePage}
 use Rattle.rules.specs.StandbyState.{standbyOk, isReceiving, isTakingOver, isActive, memoryLength, diskLength, marksLength, withDetector, withMode}
-use Rattle.rules.specs.Takeover.{standbyTickTests, activationTests, activeWriteTests, standbyTickRefusal, dropped, takesOver, standbyTickState, standbyTickReply, activationRefusal, activationReply, activeMemoryWriteRefusal, activeMemoryWriteReply, activeDiskWriteRefusal, activeDiskWriteReply}
-use Rattle.rules.specs.Reached.{StandbyReached}
+use Rattle.rules.specs.Takeover.{standbyTickTests, activationTests, activeWriteTests, standbyTickRefusal, dropped, takesOver, standbyTickState, activationRefusal, activeMemoryWriteRefusal, activeDiskWriteRefusal}
+use Rattle.rules.specs.Reached.{StandbyInRange, StandbyReached}
 use Rattle.rules.proofs.DetectorFacts.{detector-of, ticked-facts}
 use Rattle.rules.proofs.StandbyFacts.{standby-tests, standby-tested, standby-facts}
-use Rattle.rules.proofs.ReplyLaws.{pick-cases}
 
 -- ---- acceptance: what it says, and of the calls of a takeover that it follows from that
 pub record TickAccepted (s : Standby) (marks : ℕ) : Type 0 where
@@ -122,87 +121,100 @@ module _ (s : Standby) where
   unfolding standbyTickState
   tick-takes-over e x = rw (e, x) (refl, refl)
 
--- ---- reached states
+-- ---- what a tick and an activation keep
 
 -- another detector and mode
-with-detector-mode : (s : Standby) (d : Detector) (mode : Mode) → detectorOk d (isReceiving mode) ≡ true → StandbyReached s → StandbyReached (withMode (withDetector s d) mode)
-with-detector-mode s d mode ok r =
-    let t = standby-tests s (r .inRange) in
-    record {
-      inRange = standby-tested (withMode (withDetector s d) mode)
-          (record { settings-ok = t .settings-ok; slots-ok = t .slots-ok; blocks-high = t .blocks-high; pages-high = t .pages-high; detector-ok = ok });
-      numbers = r .numbers;
-      stagedProcessor = r .stagedProcessor;
-      processor = r .processor;
-      pagesBelow = r .pagesBelow;
-      nextBelow = r .nextBelow;
-      notDue = r .notDue;
-    }
+module _ (s : Standby) (d : Detector) (mode : Mode) (ok : detectorOk d (isReceiving mode) ≡ true) where
+  watched-in-range : StandbyInRange s → StandbyInRange (withMode (withDetector s d) mode)
+  watched-in-range r =
+      let t = standby-tests s (r .inRange) in
+      record {
+        inRange = standby-tested (withMode (withDetector s d) mode)
+            (record { settings-ok = t .settings-ok; slots-ok = t .slots-ok; blocks-high = t .blocks-high; pages-high = t .pages-high; detector-ok = ok });
+        numbers = r .numbers;
+      }
 
-only-due-counts : (s : Standby) → (onlyDue (s .slots) .staged ≡ s .slots .due) × (onlyDue (s .slots) .due ≡ s .slots .due)
-unfolding onlyDue
-only-due-counts s = (refl, refl)
+  watched-reached : StandbyReached s → StandbyReached (withMode (withDetector s d) mode)
+  watched-reached r =
+      record {
+        range = watched-in-range (r .range);
+        stagedProcessor = r .stagedProcessor;
+        processor = r .processor;
+        pagesBelow = r .pagesBelow;
+        nextBelow = r .nextBelow;
+        notDue = r .notDue;
+      }
 
-dropped-reached : (s : Standby) → StandbyReached s → StandbyReached (dropped s)
-dropped-reached s r =
-    let t = standby-tests s (r .inRange) in
-    let k = only-due-counts s in
-    record {
-      inRange = standby-tested (dropped s)
-          (record {
-            settings-ok = t .settings-ok;
-            slots-ok = slots-only-due (s .slots) (s .settings .s) (s .settings .d) (t .slots-ok);
-            blocks-high = omega arith;
-            pages-high = omega arith;
-            detector-ok = t .detector-ok;
-          });
-      numbers = ap length (numbers-only-due (s .slots)) ∙ r .numbers;
-      stagedProcessor = r .stagedProcessor;
-      processor = r .processor;
-      pagesBelow = omega arith;
-      nextBelow = omega arith;
-      notDue = omega (arith, k .0, k .1);
-    }
+module _ (s : Standby) where
+  only-due-counts : (onlyDue (s .slots) .staged ≡ s .slots .due) × (onlyDue (s .slots) .due ≡ s .slots .due)
+  unfolding onlyDue
+  only-due-counts = (refl, refl)
 
--- after a tick of a receiving standby, whether it still receives then or not
-ticked-ok : (s : Standby) (still : Bool) → StandbyReached s → (still ≡ true → expired (ticked (s .detector) true) ≡ false) → detectorOk (ticked (s .detector) true) still ≡ true
-ticked-ok s still r below =
-    detector-of (ticked (s .detector) true) still (ticked-facts (s .detector) (isReceiving (s .mode)) (standby-facts s (r .inRange) .detector) true still below)
+  dropped-in-range : StandbyInRange s → StandbyInRange (dropped s)
+  dropped-in-range r =
+      let t = standby-tests s (r .inRange) in
+      record {
+        inRange = standby-tested (dropped s)
+            (record {
+              settings-ok = t .settings-ok;
+              slots-ok = slots-only-due (s .slots) (s .settings .s) (s .settings .d) (t .slots-ok);
+              blocks-high = omega arith;
+              pages-high = omega arith;
+              detector-ok = t .detector-ok;
+            });
+        numbers = ap length (numbers-only-due (s .slots)) ∙ r .numbers;
+      }
 
--- once active its ticks do not count
-pub activated-reached : (s : Standby) → StandbyReached s → StandbyReached (withMode s Active)
-activated-reached s r =
-    let f = standby-facts s (r .inRange) .detector in
-    with-detector-mode s (s .detector) Active
-    (detector-of (s .detector) false (record { t-low = f .t-low; t-high = f .t-high; count-high = f .count-high; below = λ e. absurd (false≢true e) })) r
+  dropped-reached : StandbyReached s → StandbyReached (dropped s)
+  dropped-reached r =
+      let k = only-due-counts in
+      record {
+        range = dropped-in-range (r .range);
+        stagedProcessor = r .stagedProcessor;
+        processor = r .processor;
+        pagesBelow = omega arith;
+        nextBelow = omega arith;
+        notDue = omega (arith, k .0, k .1);
+      }
 
-pub ticked-reached : (s : Standby) → StandbyReached s → StandbyReached (standbyTickState s)
-ticked-reached s r =
-    go (isReceiving (s .mode)) (expired (ticked (s .detector) true)) refl refl
-  where
-    go : (a b : Bool) → isReceiving (s .mode) ≡ a → expired (ticked (s .detector) true) ≡ b → StandbyReached (standbyTickState s)
-    go false b e x = rw (tick-rests s e .0) r
-    go true false e x =
-        rw (tick-counts s e x .0)
-        (with-detector-mode s (ticked (s .detector) true) (s .mode) (ticked-ok s (isReceiving (s .mode)) r (λ w. x)) r)
-    go true true e x =
-        rw (tick-takes-over s e x .0)
-        (with-detector-mode (dropped s) (ticked (s .detector) true) TakingOver (ticked-ok s false r (λ w. absurd (false≢true w))) (dropped-reached s r))
+-- a fact of states in range that another detector and mode keep, and dropping
+module _ (P : Standby → Type 0) (range : (s : Standby) → P s → standbyOk s ≡ true)
+    (watched : (s : Standby) (d : Detector) (mode : Mode) → detectorOk d (isReceiving mode) ≡ true → P s → P (withMode (withDetector s d) mode))
+    (drops : (s : Standby) → P s → P (dropped s)) (s : Standby) (r : P s) where
+  -- after a tick of a receiving standby, whether it still receives then or not
+  ticked-ok : (still : Bool) → (still ≡ true → expired (ticked (s .detector) true) ≡ false) → detectorOk (ticked (s .detector) true) still ≡ true
+  ticked-ok still below =
+      detector-of (ticked (s .detector) true) still (ticked-facts (s .detector) (isReceiving (s .mode)) (standby-facts s (range s r) .detector) true still below)
 
--- ---- after each call, accepted or refused
-pub standby-tick-reached : (s : Standby) (marks : ℕ) → StandbyReached s → StandbyReached (standbyTickReply s marks .state)
-unfolding standbyTickReply
-standby-tick-reached s marks r = pick-cases StandbyReached (standbyTickRefusal s marks) (standbyTickState s) s (λ e. ticked-reached s r) (λ e. r)
+  ticked-kept : P (standbyTickState s)
+  ticked-kept =
+      go (isReceiving (s .mode)) (expired (ticked (s .detector) true)) refl refl
+    where
+      go : (a b : Bool) → isReceiving (s .mode) ≡ a → expired (ticked (s .detector) true) ≡ b → P (standbyTickState s)
+      go false b e x = rw (tick-rests s e .0) r
+      go true false e x =
+          rw (tick-counts s e x .0)
+          (watched s (ticked (s .detector) true) (s .mode) (ticked-ok (isReceiving (s .mode)) (λ w. x)) r)
+      go true true e x =
+          rw (tick-takes-over s e x .0)
+          (watched (dropped s) (ticked (s .detector) true) TakingOver (ticked-ok false (λ w. absurd (false≢true w))) (drops s r))
 
-pub activation-reached : (s : Standby) (area : ℕ) → StandbyReached s → StandbyReached (activationReply s area .state)
-unfolding activationReply
-activation-reached s area r = pick-cases StandbyReached (activationRefusal s area) (withMode s Active) s (λ e. activated-reached s r) (λ e. r)
+  -- once active its ticks do not count
+  activated-kept : P (withMode s Active)
+  activated-kept =
+      let f = standby-facts s (range s r) .detector in
+      watched s (s .detector) Active
+      (detector-of (s .detector) false (record { t-low = f .t-low; t-high = f .t-high; count-high = f .count-high; below = λ e. absurd (false≢true e) })) r
 
--- a guest's write leaves the state
-pub active-memory-write-reached : (s : Standby) (memory page offset n : ℕ) → StandbyReached s → StandbyReached (activeMemoryWriteReply s memory page offset n .state)
-unfolding activeMemoryWriteReply
-active-memory-write-reached s memory page offset n r = pick-cases StandbyReached (activeMemoryWriteRefusal s memory page offset n) s s (λ e. r) (λ e. r)
+module _ (s : Standby) where
+  pub ticked-in-range : StandbyInRange s → StandbyInRange (standbyTickState s)
+  ticked-in-range = ticked-kept StandbyInRange (λ s r. r .inRange) watched-in-range dropped-in-range s
 
-pub active-disk-write-reached : (s : Standby) (disk block n : ℕ) → StandbyReached s → StandbyReached (activeDiskWriteReply s disk block n .state)
-unfolding activeDiskWriteReply
-active-disk-write-reached s disk block n r = pick-cases StandbyReached (activeDiskWriteRefusal s disk block n) s s (λ e. r) (λ e. r)
+  pub ticked-reached : StandbyReached s → StandbyReached (standbyTickState s)
+  ticked-reached = ticked-kept StandbyReached (λ s r. r .range .inRange) watched-reached dropped-reached s
+
+  pub activated-in-range : StandbyInRange s → StandbyInRange (withMode s Active)
+  activated-in-range = activated-kept StandbyInRange (λ s r. r .inRange) watched-in-range dropped-in-range s
+
+  pub activated-reached : StandbyReached s → StandbyReached (withMode s Active)
+  activated-reached = activated-kept StandbyReached (λ s r. r .range .inRange) watched-reached dropped-reached s

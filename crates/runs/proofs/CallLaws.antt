@@ -1,19 +1,30 @@
--- Demands 1 and 2 over all calls: Reached holds after an accepted start and is kept by every call, and a refused or cut-short call changes nothing. Assumes nothing.
+-- Demands 1 and 2 over all calls: no call leaves number 1's ranges, Reached holds after an accepted start and is kept
+-- by every call, and a refused or cut-short call changes nothing. Assumes nothing.
 use mathlib.Core.Path.{_≡_, refl}
-use mathlib.Core.List.{[]}
+use mathlib.Core.Bool.{true, false}
+use mathlib.Core.List.{List, []}
+use Prim.Native.Nat.{ℕ, _≤_}
+use native.Mathlib.Omega.{arith}
 use borrow.Author.Tests.{ne-eqb}
-use lib.ListN.{take}
+use lib.ListN.{length, take}
+use Rattle.records.specs.Number.{outOfOrder}
 use Rattle.settings.specs.declared.Settings.{Settings}
+use Rattle.staging.specs.Slot.{flushCount, flushed}
+use Rattle.rules.specs.declared.Mode.the-variants.{Active}
+use Rattle.rules.specs.declared.Standby.{Standby}
+use Rattle.rules.specs.declared.ReadLent.{ReadLent}
+use Rattle.rules.specs.StandbyState.{standbyOk, withPagesNext, withSlotsBlocks, withMode}
+use Rattle.rules.specs.Start.{openedStandby}
 use Rattle.rules.specs.PrimaryWrites.{memoryWriteReply, diskWriteReply}
 use Rattle.rules.specs.Packets.{packetReply, takeReply, takeDestination}
 use Rattle.rules.specs.Checkpoint.{checkpointReply}
 use Rattle.rules.specs.Stream.{drainReply, drainDestination, ackJudged, ackReply}
 use Rattle.rules.specs.PrimaryTick.{primaryTickReply}
-use Rattle.rules.specs.Judge.{judged}
+use Rattle.rules.specs.Judge.{pageRefusal, judged}
 use Rattle.rules.specs.Read.{readLent, readReply, readReplyBytes}
-use Rattle.rules.specs.Flush.{flushReply}
-use Rattle.rules.specs.Takeover.{standbyTickReply, activationReply, activeMemoryWriteReply, activeDiskWriteReply}
-use Rattle.rules.specs.Reached.{PrimaryReached, StandbyReached}
+use Rattle.rules.specs.Flush.{flushRefusal, flushReply}
+use Rattle.rules.specs.Takeover.{standbyTickRefusal, standbyTickState, standbyTickReply, activationRefusal, activationReply, activeMemoryWriteRefusal, activeMemoryWriteReply, activeDiskWriteRefusal, activeDiskWriteReply}
+use Rattle.rules.specs.Reached.{PrimaryReached, StandbyInRange, StandbyReached, StaysInRange}
 use Rattle.rules.specs.World.{World, Call, Processor, Buffers, startLent, startNumber, startWorld}
 use Rattle.rules.specs.World as call
 use Rattle.rules.specs.Step.{step}
@@ -22,10 +33,12 @@ use Rattle.rules.proofs.CheckpointLaws.{checkpoint-reached}
 use Rattle.rules.proofs.PacketLaws.{packet-reached, take-reached}
 use Rattle.rules.proofs.StreamLaws.{drain-reached, ack-reached}
 use Rattle.rules.proofs.PrimaryTickLaws.{primary-tick-reached}
-use Rattle.rules.proofs.ReadLaws.{read-reached, nothing-read}
-use Rattle.rules.proofs.FlushLaws.{flush-reached}
-use Rattle.rules.proofs.TakeoverLaws.{standby-tick-reached, activation-reached, active-memory-write-reached, active-disk-write-reached}
-use Rattle.rules.proofs.ReplyLaws.{answer-refused}
+use Rattle.rules.proofs.ReadLaws.{read-in-range, read-reached, nothing-read}
+use Rattle.rules.proofs.FlushLaws.{flushed-in-range, flushed-reached}
+use Rattle.rules.proofs.TakeoverLaws.{ticked-in-range, ticked-reached, activated-in-range, activated-reached}
+use Rattle.rules.proofs.ReplyLaws.{pick-cases, answer-refused}
+use Rattle.runs.proofs.Compute.{allSteps}
+use Rattle.runs.proofs.Small.{small, processorOf}
 use Rattle.runs.proofs.Refused.{NotAccepted, refused-world}
 use Rattle.rules.proofs.StartLaws.{started-primary, started-standby}
 
@@ -33,22 +46,80 @@ pub record BothReached (w : World) : Type 0 where
   pub primary : PrimaryReached (w .primary .state)
   pub standby : StandbyReached (w .standby .state)
 
-pub step-reached : (w : World) (c : Call) → BothReached w → BothReached (step w c .next)
+-- every call keeps what the primary's own calls keep: of the primary
+primary-kept : (w : World) (c : Call) → PrimaryReached (w .primary .state) → PrimaryReached (step w c .next .primary .state)
 unfolding step
-step-reached w (call.memoryWrite page offset bytes) r = record { primary = memory-write-reached _ _ _ _ _ _ (r .primary); standby = r .standby }
-step-reached w (call.diskWrite block bytes) r = record { primary = disk-write-reached _ _ _ _ _ (r .primary); standby = r .standby }
-step-reached w (call.packet bytes) r = record { primary = packet-reached _ _ _ (r .primary); standby = r .standby }
-step-reached w (call.checkpoint processor) r = record { primary = checkpoint-reached _ _ _ _ _ (r .primary); standby = r .standby }
-step-reached w (call.drain n destination) r = record { primary = drain-reached _ _ _ _ (r .primary); standby = r .standby }
-step-reached w (call.ack n) r = record { primary = ack-reached _ _ (r .primary); standby = r .standby }
-step-reached w (call.take destination) r = record { primary = take-reached _ _ _ (r .primary); standby = r .standby }
-step-reached w call.primaryTick r = record { primary = primary-tick-reached _ (r .primary); standby = r .standby }
-step-reached w (call.read n reply) r = record { primary = r .primary; standby = read-reached _ (r .standby) _ _ }
-step-reached w (call.flush n) r = record { primary = r .primary; standby = flush-reached _ _ _ _ (r .standby) }
-step-reached w call.standbyTick r = record { primary = r .primary; standby = standby-tick-reached _ _ (r .standby) }
-step-reached w call.activation r = record { primary = r .primary; standby = activation-reached _ _ (r .standby) }
-step-reached w (call.activeMemoryWrite page offset bytes) r = record { primary = r .primary; standby = active-memory-write-reached _ _ _ _ _ (r .standby) }
-step-reached w (call.activeDiskWrite block bytes) r = record { primary = r .primary; standby = active-disk-write-reached _ _ _ _ (r .standby) }
+primary-kept w (call.memoryWrite page offset bytes) r = memory-write-reached _ _ _ _ _ _ r
+primary-kept w (call.diskWrite block bytes) r = disk-write-reached _ _ _ _ _ r
+primary-kept w (call.packet bytes) r = packet-reached _ _ _ r
+primary-kept w (call.checkpoint processor) r = checkpoint-reached _ _ _ _ _ r
+primary-kept w (call.drain n destination) r = drain-reached _ _ _ _ r
+primary-kept w (call.ack n) r = ack-reached _ _ r
+primary-kept w (call.take destination) r = take-reached _ _ _ r
+primary-kept w call.primaryTick r = primary-tick-reached _ r
+primary-kept w (call.read n reply) r = r
+primary-kept w (call.flush n) r = r
+primary-kept w call.standbyTick r = r
+primary-kept w call.activation r = r
+primary-kept w (call.activeMemoryWrite page offset bytes) r = r
+primary-kept w (call.activeDiskWrite block bytes) r = r
+
+-- and of the standby; a guest's write leaves its state
+module _ (P : Standby → Type 0)
+    (read : (s : Standby) (l : ReadLent) (bytes : List ℕ) → P s → P (readReply s l bytes .state))
+    (flushes : (s : Standby) (count : ℕ) → count ≤ s .slots .due → P s → P (withSlotsBlocks s (flushed (s .slots) count) (s .blocks)))
+    (ticks : (s : Standby) → P s → P (standbyTickState s))
+    (activates : (s : Standby) → P s → P (withMode s Active)) where
+  standby-kept : (w : World) (c : Call) → P (w .standby .state) → P (step w c .next .standby .state)
+  unfolding step flushReply standbyTickReply activationReply activeMemoryWriteReply activeDiskWriteReply
+  standby-kept w (call.memoryWrite page offset bytes) r = r
+  standby-kept w (call.diskWrite block bytes) r = r
+  standby-kept w (call.packet bytes) r = r
+  standby-kept w (call.checkpoint processor) r = r
+  standby-kept w (call.drain n destination) r = r
+  standby-kept w (call.ack n) r = r
+  standby-kept w (call.take destination) r = r
+  standby-kept w call.primaryTick r = r
+  standby-kept w (call.read n reply) r = read _ _ _ r
+  standby-kept w (call.flush n) r =
+      let e = w .standby in
+      pick-cases P (flushRefusal (e .state) (length (e .stagedBlocks)) (length (e .disk))) _ (e .state)
+      (λ _. flushes (e .state) (flushCount (e .state .slots) n) (omega arith) r) (λ _. r)
+  standby-kept w call.standbyTick r =
+      let e = w .standby in
+      pick-cases P (standbyTickRefusal (e .state) (length (e .stagedMarks))) _ (e .state) (λ _. ticks (e .state) r) (λ _. r)
+  standby-kept w call.activation r =
+      let e = w .standby in
+      pick-cases P (activationRefusal (e .state) (length (e .area))) _ (e .state) (λ _. activates (e .state) r) (λ _. r)
+  standby-kept w (call.activeMemoryWrite page offset bytes) r =
+      let e = w .standby in
+      pick-cases P (activeMemoryWriteRefusal (e .state) (length (e .memory)) page offset (length bytes)) (e .state) (e .state) (λ _. r) (λ _. r)
+  standby-kept w (call.activeDiskWrite block bytes) r =
+      let e = w .standby in
+      pick-cases P (activeDiskWriteRefusal (e .state) (length (e .disk)) block (length bytes)) (e .state) (e .state) (λ _. r) (λ _. r)
+
+pub stays-in-range : (w : World) (c : Call) → StaysInRange w c
+stays-in-range w c =
+    record {
+      primary = λ packets ok. primary-kept w c (record { inRange = ok; packets = packets }) .inRange;
+      standby = λ numbers ok. standby-kept StandbyInRange read-in-range flushed-in-range ticked-in-range activated-in-range w c (record { inRange = ok; numbers = numbers }) .inRange;
+    }
+
+-- why a PAGE below the count of pages is refused: this standby has its M pages and the next page 0, in range though no
+-- run reaches it. With no page counted the same PAGE is accepted; counted as one page more it leaves the range
+abbrev full : Standby
+full = withPagesNext (openedStandby small (processorOf 1 .bytes)) 2 0
+
+pub page-below-count : (standbyOk full ≡ true) × (pageRefusal full 1 0 ≡ outOfOrder) × (pageRefusal (withPagesNext full 0 0) 1 0 ≡ 0) × (standbyOk (withPagesNext full 3 1) ≡ false)
+unfolding allSteps
+page-below-count = (refl, refl, refl, refl)
+
+pub step-reached : (w : World) (c : Call) → BothReached w → BothReached (step w c .next)
+step-reached w c r =
+    record {
+      primary = primary-kept w c (r .primary);
+      standby = standby-kept StandbyReached read-reached flushed-reached ticked-reached activated-reached w c (r .standby);
+    }
 
 pub start-reached : (g : Settings) (processor : Processor) (b : Buffers) → startNumber g b ≡ 0 → BothReached (startWorld g processor b)
 unfolding startWorld

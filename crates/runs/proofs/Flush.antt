@@ -62,7 +62,7 @@ module _ (n : ℕ) where
     stored-is : stored (g .u) (slots .numbers) (b .world .standby .stagedBlocks) (b .world .standby .disk) (flushCount slots n)
         ≡ storeAll (g .u) (b .world .standby .disk) (take (flushCount slots n) (slotList (g .u) slots (b .world .standby .stagedBlocks)))
     stored-is =
-        stored-slots (g .u) slots (b .world .standby .stagedBlocks) (b .world .standby .disk) (i .holds .standbyKept .reached .numbers) (fits .few) (flushCount slots n) (omega (arith, fits .due-high))
+        stored-slots (g .u) slots (b .world .standby .stagedBlocks) (b .world .standby .disk) (i .holds .standbyKept .reached .range .numbers) (fits .few) (flushCount slots n) (omega (arith, fits .due-high))
 
     -- the disk with all staged blocks, and with all due ones, is as before
     staged-disk : storeAll (g .u) (stored (g .u) (slots .numbers) (b .world .standby .stagedBlocks) (b .world .standby .disk) (flushCount slots n))
@@ -72,7 +72,7 @@ module _ (n : ℕ) where
         let e = b .world .standby in
         let c = flushCount slots n in
         ap₂ (λ (d : List ℕ) (l : List Staged). storeAll (g .u) d l) stored-is
-        (list-flushed (g .u) slots (e .stagedBlocks) (i .holds .standbyKept .reached .numbers) c (omega (arith, fits .due-high)) (fits .few) (fits .in-slots))
+        (list-flushed (g .u) slots (e .stagedBlocks) (i .holds .standbyKept .reached .range .numbers) c (omega (arith, fits .due-high)) (fits .few) (fits .in-slots))
         ∙ stored-rest (g .u) (e .disk) (slotList (g .u) slots (e .stagedBlocks)) c
 
     due-disk : storeAll (g .u) (stored (g .u) (slots .numbers) (b .world .standby .stagedBlocks) (b .world .standby .disk) (flushCount slots n))
@@ -83,7 +83,7 @@ module _ (n : ℕ) where
         let c = flushCount slots n in
         ap₂ (λ (d : List ℕ) (l : List Staged). storeAll (g .u) d l)
         (stored-is ∙ ap (storeAll (g .u) (e .disk)) (sym (take-due-list (g .u) slots (e .stagedBlocks) c (omega arith))))
-        (due-flushed (g .u) slots (e .stagedBlocks) (i .holds .standbyKept .reached .numbers) c (omega (arith, fits .due-high)) (fits .few) (fits .in-slots))
+        (due-flushed (g .u) slots (e .stagedBlocks) (i .holds .standbyKept .reached .range .numbers) c (omega (arith, fits .due-high)) (fits .few) (fits .in-slots))
         ∙ stored-rest (g .u) (e .disk) (dueList (g .u) slots (e .stagedBlocks)) c
 
     -- nothing is due: nothing is stored
@@ -121,7 +121,7 @@ module _ (n : ℕ) where
           disk = length-stored (g .u) (slots .numbers) (e .stagedBlocks) (e .disk) c (store-of-flush (g .u) slots n (length (e .stagedBlocks)) (length (e .disk)) fits) ∙ k .disk;
           stagedPages = k .stagedPages;
           stagedMarks = k .stagedMarks;
-          stagedBlocks = length-bytes (g .u) slots (e .stagedBlocks) (k .reached .numbers) c (omega (arith, fits .due-high)) (fits .few) (fits .in-slots) ∙ k .stagedBlocks;
+          stagedBlocks = length-bytes (g .u) slots (e .stagedBlocks) (k .reached .range .numbers) c (omega (arith, fits .due-high)) (fits .few) (fits .in-slots) ∙ k .stagedBlocks;
           area = k .area;
         })
 

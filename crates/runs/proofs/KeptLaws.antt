@@ -62,7 +62,7 @@ module _ (g : Settings) (s : StandbyEnd) (k : StandbyKept g s) where
   lent-blocks = k .stagedBlocks ∙ ap (λ (x : StandbySettings). x .s * x .u) (sym (k .settings))
 
   pub standby-settings : StandbySettingsFacts (ofStandby g)
-  standby-settings = subst StandbySettingsFacts (k .settings) (standby-facts (s .state) (k .reached .inRange) .settings)
+  standby-settings = subst StandbySettingsFacts (k .settings) (standby-facts (s .state) (k .reached .range .inRange) .settings)
 
   pub standby-unit : unitOk (g .u) ≡ true
   standby-unit = shared-unit (standby-settings .shared)
@@ -74,7 +74,7 @@ module _ (g : Settings) (s : StandbyEnd) (k : StandbyKept g s) where
   pub slots-fit : FlushFits (g .u) (s .state .slots) (length (s .stagedBlocks)) (length (s .disk))
   slots-fit =
       subst (λ (u : ℕ). FlushFits u (s .state .slots) (length (s .stagedBlocks)) (length (s .disk))) standby-u
-      (flush-room (s .state) (length (s .stagedBlocks)) (length (s .disk)) (k .reached .numbers) (record { inRange = k .reached .inRange; slotsLent = lent-blocks; diskLent = lent-disk }))
+      (flush-room (s .state) (length (s .stagedBlocks)) (length (s .disk)) (k .reached .range .numbers) (record { inRange = k .reached .range .inRange; slotsLent = lent-blocks; diskLent = lent-disk }))
 
 -- ---- a call that changes only the standby, and the plain standby with it: of the invariant the two groups about it are to be shown
 pub standby-inv : (g : Settings) (b : Both) (i : Inv g b) (s : StandbyEnd) (activated : Bool) (memory disk : List ℕ)

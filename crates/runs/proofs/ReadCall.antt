@@ -137,7 +137,7 @@ module _ (g : Settings) (b : Both) (i : Inv g b) (n : ℕ) (reply : List ℕ) wh
       seen : (r : Record) → readRecord reader.Standby u (take n (b .world .link)) ≡ r → readSeen (b .world) n reply ≡ unlessRefused (recordRefusal (b .world .standby .state) (length reply) r) r
       seen r z =
           let e = b .world .standby in
-          judged-number (e .state) (readLent (e .memory) (e .stagedPages) (e .stagedMarks) (e .stagedBlocks) reply) (take n (b .world .link)) (i .holds .standbyKept .reached .inRange) lent on r (sym z)
+          judged-number (e .state) (readLent (e .memory) (e .stagedPages) (e .stagedMarks) (e .stagedBlocks) reply) (take n (b .world .link)) (i .holds .standbyKept .reached .range .inRange) lent on r (sym z)
           (recordRefusal (e .state) (length reply) r) refl
 
       by-next : (pending : List Message) → i .ghost .pending ≡ pending → All (Readable (g .u)) pending
@@ -172,6 +172,6 @@ read-keeps g n reply b i e =
     (subst (λ (v : ℕ). All (Readable v) (h .pending)) back (i .holds .link .readable)) (i .holds .link .bytes)))
     (λ (off : isReceiving (s .state .mode) ≡ false).
     let a : _≡_ {A = ℕ} 13 0
-    = sym (ap (λ (r : Record). numberOf (answerOf r)) (judged-mode (s .state) l (take n (b .world .link)) (k .reached .inRange) (lent g b i n reply) off)) ∙ accepted in
+    = sym (ap (λ (r : Record). numberOf (answerOf r)) (judged-mode (s .state) l (take n (b .world .link)) (k .reached .range .inRange) (lent g b i n reply) off)) ∙ accepted in
     absurd (omega arith))
     (by-test (isReceiving (s .state .mode))))

@@ -146,7 +146,7 @@ module _ (g : Settings) (b : Both) (epoch p n : ℕ) (xs : List Message) (on : i
             modeIs = t .modeIs;
             processorIs = t .stagedProcessor on seen ∙ ap (λ (y : Checkpoint). y .processor) same;
             memoryIs = λ z. memory;
-            diskIs = λ z. ap (storeAll (g .u) (e .disk)) (due-all-due (g .u) (s .slots) (e .stagedBlocks) (omega (arith, k .reached .numbers))) ∙ disk;
+            diskIs = λ z. ap (storeAll (g .u) (e .disk)) (due-all-due (g .u) (s .slots) (e .stagedBlocks) (omega (arith, k .reached .range .numbers))) ∙ disk;
             stagedMemory = λ z.
                 installed-none (installed (e .memory) (e .stagedPages) (e .stagedMarks) (g .u) (g .m)) (e .stagedPages) (e .stagedMarks) (g .u) (g .m) long (k .stagedPages) ∙ memory;
             stagedDisk = λ z. ap (storeAll (g .u) (e .disk)) (list-all-due (g .u) (s .slots) (e .stagedBlocks)) ∙ disk;

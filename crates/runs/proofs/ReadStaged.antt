@@ -163,14 +163,14 @@ module _ (g : Settings) (b : Both) (i : Inv g b) where
       let room : s .slots .staged * g .u + g .u ≤ length (e .stagedBlocks) = omega (arith, page-end (s .slots .staged) (g .s) (g .u) free, k .stagedBlocks) in
       let less : s .slots .staged < 64 = omega arith in
       let one : Staged = record { number = m; bytes = bs } in
-      let more = list-with-block (g .u) (s .slots) (e .stagedBlocks) (r .numbers) m bs less whole room in
+      let more = list-with-block (g .u) (s .slots) (e .stagedBlocks) (r .range .numbers) m bs less whole room in
       staged-inv x xs n (blockEnd (g .u) m bs)
       (record {
         receivedIs = t .receivedIs;
         modeIs = t .modeIs;
         processorIs = t .processorIs;
         memoryIs = t .memoryIs;
-        diskIs = λ z. ap (storeAll (g .u) (e .disk)) (due-with-block (g .u) (s .slots) (e .stagedBlocks) (r .numbers) m bs less whole room (slots-fit g e k .due-high)) ∙ t .diskIs z;
+        diskIs = λ z. ap (storeAll (g .u) (e .disk)) (due-with-block (g .u) (s .slots) (e .stagedBlocks) (r .range .numbers) m bs less whole room (slots-fit g e k .due-high)) ∙ t .diskIs z;
         stagedMemory = λ z. t .stagedMemory z ∙ memory-done x xs n;
         stagedDisk = λ z.
             ap (storeAll (g .u) (e .disk)) more

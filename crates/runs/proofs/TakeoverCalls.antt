@@ -51,19 +51,19 @@ module _ (g : Settings) where
   module _ (b : Both) (k : StandbyKept g (b .world .standby)) where
     tick-accepted : Accepted b call.standbyTick
     unfolding step standbyTickReply
-    tick-accepted = let e = b .world .standby in tick-accepts (e .state) (length (e .stagedMarks)) (record { inRange = k .reached .inRange; marksLent = lent-marks g e k })
+    tick-accepted = let e = b .world .standby in tick-accepts (e .state) (length (e .stagedMarks)) (record { inRange = k .reached .range .inRange; marksLent = lent-marks g e k })
 
     flush-accepted : (n : ℕ) → Accepted b (call.flush n)
     unfolding step flushReply
     flush-accepted n =
         let e = b .world .standby in
-        flush-accepts (e .state) (length (e .stagedBlocks)) (length (e .disk)) (record { inRange = k .reached .inRange; slotsLent = lent-blocks g e k; diskLent = lent-disk g e k })
+        flush-accepts (e .state) (length (e .stagedBlocks)) (length (e .disk)) (record { inRange = k .reached .range .inRange; slotsLent = lent-blocks g e k; diskLent = lent-disk g e k })
 
     activation-accepted : isTakingOver (b .world .standby .state .mode) ≡ true → b .world .standby .state .slots .due ≡ 0 → Accepted b call.activation
     unfolding step activationReply
     activation-accepted t z =
         let e = b .world .standby in
-        activation-accepts (e .state) (length (e .area)) (record { inRange = k .reached .inRange; areaLent = k .area; takingOver = t; noneDue = z })
+        activation-accepts (e .state) (length (e .area)) (record { inRange = k .reached .range .inRange; areaLent = k .area; takingOver = t; noneDue = z })
 
   -- its value is the last received epoch
   activation-value : (b : Both) → Accepted b call.activation → step (b .world) call.activation .outcome .value ≡ b .world .standby .state .received
@@ -103,7 +103,7 @@ module _ (g : Settings) where
   fresh-at b i on =
       let s = b .world .standby .state in
       let k = i .holds .standbyKept in
-      let d = standby-facts s (k .reached .inRange) .detector in
+      let d = standby-facts s (k .reached .range .inRange) .detector in
       omega (arith, d .below on, k .patience)
 
   after-ticks : (k : ℕ) (b : Both) → Inv g b → Waits k (b .world .standby .state) → After b (replicate k call.standbyTick) (b .world .standby .state .slots .due) (run steps (g .u) b (replicate k call.standbyTick))
