@@ -17,16 +17,14 @@ use Rattle.records.specs.Write.{unitRecord, blockRecord}
 use Rattle.records.proofs.ReadLaws.{frame-read}
 use Rattle.settings.proofs.RangeLaws.{shared-unit}
 use Rattle.rules.specs.declared.Standby.{Standby}
+use Rattle.rules.specs.PrimaryState.{diskLength as primaryDiskLength}
 use Rattle.rules.specs.StandbyState.{isReceiving, diskLength}
-use Rattle.rules.specs.PrimaryWrites.{diskWriteRefusal, diskWriteReply}
+use Rattle.rules.specs.PrimaryWrites.{diskWriteRefusal}
 use Rattle.rules.specs.Judge.{blockRefusal}
 use Rattle.rules.specs.Takeover.{activeDiskWriteRefusal}
-use Rattle.rules.specs.World.{startWorld}
-use Rattle.rules.specs.Step.{step}
 use Rattle.rules.proofs.StandbyFacts.{standby-facts}
 use Rattle.rules.proofs.JudgeLaws.{judged-number}
 use Rattle.examples.specs.Table.{NoBlocks}
-use Rattle.examples.proofs.StartLaws.{opened, in-range, lent}
 
 -- no number is below 0
 below-zero : (n d : ℕ) → d ≡ 0 → ltb n d ≡ false
@@ -51,12 +49,11 @@ unfolding blockRefusal
 refused s epoch block e = rw (below-zero block (s .settings .d) e)
 
 pub no-blocks : NoBlocks
-unfolding step startWorld diskWriteReply diskWriteRefusal activeDiskWriteRefusal
+unfolding diskWriteRefusal activeDiskWriteRefusal
 no-blocks =
     record {
-      primary = λ g c b block content e h.
-          let f = lent g b h in
-          rw (opened g b h c, in-range g b h, eq-eqb _ _ (f .disk-is), eq-eqb _ _ (f .stream-is), below-zero block (g .d) e);
+      primary = λ p block n e ok.
+          rw (ok, eq-eqb (primaryDiskLength p) (primaryDiskLength p) refl, eq-eqb (p .settings .l) (p .settings .l) refl, below-zero block (p .settings .d) e);
       active = λ s block n e ok active.
           rw (ok, eq-eqb (diskLength s) (diskLength s) refl, active, below-zero block (s .settings .d) e);
       received = λ s l epoch block content rest e ok exact mode size.

@@ -4,18 +4,14 @@ use mathlib.Core.Bool.{true}
 use Rattle.settings.specs.declared.Settings.{Settings}
 use Rattle.settings.specs.Range.{settingsOk}
 use Rattle.rules.specs.declared.Started.{Started}
-use Rattle.rules.specs.PrimaryState.{primaryOk}
 use Rattle.rules.specs.Start.{startLentOk, startRefusal, openedPrimary}
 use Rattle.rules.specs.World.{Processor, Buffers, startLent, startNumber, startWorld}
-use Rattle.rules.proofs.StartLaws.{StartLentFacts, start-accepted, started-accepted, opened-primary}
+use Rattle.rules.proofs.StartLaws.{StartLentFacts, start-accepted, started-accepted}
 
 module _ (g : Settings) (b : Buffers) (h : startNumber g b ≡ 0) where
   pub opened : (c : Processor) → startWorld g c b .primary .state ≡ openedPrimary g
   unfolding startWorld
   opened c = ap (λ (s : Started). s .primary) (started-accepted g (startLent b) (c .bytes) h)
-
-  pub in-range : primaryOk (openedPrimary g) ≡ true
-  in-range = opened-primary g (start-accepted g (startLent b) h .inRange) .inRange
 
   pub lent : StartLentFacts g (startLent b)
   lent = start-accepted g (startLent b) h .lent

@@ -8,15 +8,18 @@ use Rattle.records.specs.declared.Record.the-variants as record-of
 use Rattle.records.specs.Write.{blockRecord, commitRecord, ackRecord, activationRecord}
 use Rattle.settings.specs.declared.Settings.{Settings}
 use Rattle.rules.specs.declared.Mode.the-variants.{Receiving, Active}
+use Rattle.rules.specs.declared.Primary.{Primary}
 use Rattle.rules.specs.declared.Standby.{Standby}
 use Rattle.rules.specs.declared.ReadLent.{ReadLent}
 use Rattle.rules.specs.declared.Answer.the-variants.{Accepted, Refused}
+use Rattle.rules.specs.PrimaryState.{primaryOk, diskLength as primaryDiskLength}
 use Rattle.rules.specs.StandbyState.{standbyOk, diskLength}
+use Rattle.rules.specs.PrimaryWrites.{diskWriteRefusal}
 use Rattle.rules.specs.Stream.{ackReply}
 use Rattle.rules.specs.Judge.{readLentOk, judged}
 use Rattle.rules.specs.Takeover.{activeDiskWriteRefusal}
 use Rattle.rules.specs.Start.{startLentOk}
-use Rattle.rules.specs.World.{Processor, Buffers, startLent, startNumber, startWorld, diskWrite, packet, checkpoint}
+use Rattle.rules.specs.World.{Processor, Buffers, startLent, startNumber, startWorld, packet, checkpoint}
 use Rattle.rules.specs.Step.{step, outcome}
 use Rattle.script.specs.Pair.{pairSettings, pairStart}
 use Rattle.script.specs.Output.{outputOf}
@@ -40,9 +43,9 @@ Exact g b = startLentOk g (startLent b) ≡ true
 
 -- E10: wherever a block comes to, for every number and every content
 pub record NoBlocks : Type 0 where
-  -- written at the primary, after any accepted start
-  pub primary : (g : Settings) (c : Processor) (b : Buffers) (block : ℕ) (content : List ℕ) → g .d ≡ 0 → startNumber g b ≡ 0 →
-      step (startWorld g c b) (diskWrite block content) .outcome ≡ outcome 2 0
+  -- written at any primary in range, under protection or alone
+  pub primary : (p : Primary) (block n : ℕ) → p .settings .d ≡ 0 → primaryOk p ≡ true →
+      diskWriteRefusal p (primaryDiskLength p) (p .settings .l) block n ≡ 2
   -- written at any active standby in range
   pub active : (s : Standby) (block n : ℕ) → s .settings .d ≡ 0 → standbyOk s ≡ true → s .mode ≡ Active →
       activeDiskWriteRefusal s (diskLength s) block n ≡ 2
