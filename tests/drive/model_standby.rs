@@ -42,6 +42,12 @@ fn is_next(s: &Standby, epoch: u32) -> bool {
     s.received.checked_add(1) == Some(epoch)
 }
 
+/// The lowest page that is above the last one of this epoch. Pages come in rising order, so that the last is never
+/// below their count less 1, whatever the next page says.
+fn lowest_page(s: &Standby) -> u64 {
+    s.next_page.max(s.pages)
+}
+
 /// A record's kind and the bytes used, or the number of the refusal.
 type Read = Result<(u64, u64), u64>;
 
@@ -52,7 +58,7 @@ fn read_page(s: &mut Standby, lent: &mut Staging, epoch: u32, page: u64, bytes: 
     if !is_next(s, epoch) {
         return Err(8);
     }
-    if s.state_seen || page < s.next_page {
+    if s.state_seen || page < lowest_page(s) {
         return Err(9);
     }
     lent.pages[part(page, s.u)].copy_from_slice(bytes);
@@ -69,7 +75,7 @@ fn read_block(s: &mut Standby, lent: &mut Staging, epoch: u32, block: u64, bytes
     if !is_next(s, epoch) {
         return Err(8);
     }
-    if s.state_seen || s.next_page > 0 {
+    if s.state_seen || lowest_page(s) > 0 {
         return Err(9);
     }
     if s.blocks >= s.b {

@@ -1,6 +1,6 @@
 //! Where every call goes: it is made by the model, and its lines are gathered for the program.
 use crate::form::{put_input, put_output};
-use crate::model::{Reply, CUT_SHORT};
+use crate::model::{Reply, Standby, CUT_SHORT};
 use crate::world::{code, run, Args, World};
 use std::sync::mpsc::SyncSender;
 
@@ -25,6 +25,8 @@ pub struct Sink {
     pub seen: [[u64; code::ALL]; 22],
     /// How many records of each kind were accepted by a read.
     pub records: [u64; 5],
+    /// How many PAGEs and BLOCKs were out of order by the count of pages alone.
+    pub by_count: [u64; 2],
 }
 
 fn empty(first: u64) -> Batch {
@@ -33,7 +35,7 @@ fn empty(first: u64) -> Batch {
 
 impl Sink {
     pub fn new(to: SyncSender<Batch>) -> Sink {
-        Sink { batch: empty(1), to, calls: 0, text: 0, seen: [[0; code::ALL]; 22], records: [0; 5] }
+        Sink { batch: empty(1), to, calls: 0, text: 0, seen: [[0; code::ALL]; 22], records: [0; 5], by_count: [0; 2] }
     }
 
     /// Makes one call on the world and notes what the program must answer.
@@ -52,10 +54,23 @@ impl Sink {
         }
         let after = batch.input.len() + batch.expected.len();
         self.text += (after - before) as u64;
+        if which == code::READ && reply.number == 9 {
+            self.note_order(&w.standby, &a.data);
+        }
         if after > BATCH_BYTES {
             self.send();
         }
         reply
+    }
+
+    /// Counts a PAGE or a BLOCK refused with 9 that is in order by STATE and by the next page.
+    fn note_order(&mut self, s: &Standby, data: &[u8]) {
+        let page = u16::from_le_bytes([data[8], data[9]]) as u64;
+        match data[2] {
+            1 if !s.state_seen && s.next_page <= page => self.by_count[0] += 1,
+            2 if !s.state_seen && s.next_page == 0 => self.by_count[1] += 1,
+            _ => {}
+        }
     }
 
     /// Hands over what was gathered. The receiver ends the whole program at a difference, so it is always there.
