@@ -28,10 +28,10 @@ pub struct Queue {
 }
 
 // A packet's length, in the width of the other counts of bytes.
-pub fn size(length: u32) -> usize
-    ensures { λ r. ⌜ r ≡ length ⌝ }
+pub fn size(n: u32) -> usize
+    ensures { λ r. ⌜ r ≡ n ⌝ }
 {
-    length as usize
+    n as usize
 }
 
 // What was seen of the first packets: the epoch of the last of them, their bytes together, and whether their lengths were in range and no epoch fell.
