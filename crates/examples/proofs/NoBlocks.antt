@@ -19,7 +19,7 @@ use Rattle.settings.proofs.RangeLaws.{shared-unit}
 use Rattle.rules.specs.declared.Standby.{Standby}
 use Rattle.rules.specs.PrimaryState.{diskLength as primaryDiskLength}
 use Rattle.rules.specs.StandbyState.{isReceiving, diskLength}
-use Rattle.rules.specs.PrimaryWrites.{diskWriteRefusal}
+use Rattle.rules.specs.PrimaryWrites.{diskWriteRefusal, diskWriteReply}
 use Rattle.rules.specs.Judge.{blockRefusal}
 use Rattle.rules.specs.Takeover.{activeDiskWriteRefusal}
 use Rattle.rules.proofs.StandbyFacts.{standby-facts}
@@ -49,7 +49,7 @@ unfolding blockRefusal
 refused s epoch block e = rw (below-zero block (s .settings .d) e)
 
 pub no-blocks : NoBlocks
-unfolding diskWriteRefusal activeDiskWriteRefusal
+unfolding diskWriteRefusal diskWriteReply activeDiskWriteRefusal
 no-blocks =
     record {
       primary = λ p block n e ok.

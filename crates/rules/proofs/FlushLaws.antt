@@ -1,15 +1,12 @@
 -- Laws of flush: what its acceptance says, and that a state stays in range, and reached. Assumes nothing.
 use mathlib.Core.Path.{_≡_, refl}
 use mathlib.Core.Bool.{true, _&&_}
-use mathlib.Core.List.{List, [], _∷_}
 use Prim.Native.Nat.{ℕ, _-_, _≤_}
 use native.Mathlib.Omega.{arith}
 use lib.Dec.{eqb}
 use lib.ListN.{length}
 use borrow.Author.Tests.{eqb-true, eq-eqb}
-use Rattle.lists.specs.Refusal.{Test, test}
 use Rattle.lists.proofs.TestLaws.{both, join, accepted, accepts}
-use Rattle.records.specs.Number.{outOfRange}
 use Rattle.settings.specs.Range.{mostSlots}
 use Rattle.staging.specs.Slot.{flushed}
 use Rattle.staging.specs.Fits.{FlushFits}
@@ -17,7 +14,7 @@ use Rattle.staging.proofs.SlotLaws.{array-flushed, slots-flushed}
 use Rattle.staging.proofs.StoreLaws.{flush-fits}
 use Rattle.rules.specs.declared.Standby.{Standby}
 use Rattle.rules.specs.StandbyState.{standbyOk, diskLength, slotsLength, withSlotsBlocks}
-use Rattle.rules.specs.Flush.{flushRefusal}
+use Rattle.rules.specs.Flush.{flushTests, flushRefusal}
 use Rattle.rules.specs.Reached.{StandbyInRange, StandbyReached}
 use Rattle.rules.proofs.StandbyFacts.{standby-tests, standby-facts, in-range-slots, reached-slots}
 
@@ -28,13 +25,10 @@ pub record FlushAccepted (s : Standby) (slots disk : ℕ) : Type 0 where
   pub diskLent : disk ≡ diskLength s
 
 module _ (s : Standby) (slots disk : ℕ) where
-  abbrev flushTests : List Test
-  flushTests = test outOfRange (standbyOk s && eqb slots (slotsLength s) && eqb disk (diskLength s)) ∷ []
-
   pub flush-accepted : flushRefusal s slots disk ≡ 0 → FlushAccepted s slots disk
   unfolding flushRefusal
   flush-accepted e =
-      let t = accepted flushTests refl e in
+      let t = accepted (flushTests s slots disk) refl e in
       let d = both (standbyOk s && eqb slots (slotsLength s)) (eqb disk (diskLength s)) (t .0) in
       let k = both (standbyOk s) (eqb slots (slotsLength s)) (d .0) in
       record { inRange = k .0; slotsLent = eqb-true slots (slotsLength s) (k .1); diskLent = eqb-true disk (diskLength s) (d .1) }
@@ -42,7 +36,7 @@ module _ (s : Standby) (slots disk : ℕ) where
   pub flush-accepts : FlushAccepted s slots disk → flushRefusal s slots disk ≡ 0
   unfolding flushRefusal
   flush-accepts f =
-      accepts flushTests
+      accepts (flushTests s slots disk)
       (join _ _ (join _ _ (f .inRange) (eq-eqb slots (slotsLength s) (f .slotsLent))) (eq-eqb disk (diskLength s) (f .diskLent)), tt)
 
   -- what the move of the blocks and of the bytes requires

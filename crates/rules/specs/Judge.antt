@@ -28,8 +28,9 @@ readLentOk s l =
 abbrev pub isNext : Standby → ℕ → Bool
 isNext s epoch = eqb epoch (s .received + 1)
 
--- PAGE: 2 8 9 ("PAGE not above the last or after STATE"). Of pages that came in rising order the last is at least their count less 1, so that one
--- below their count is not above the last: with it every accepted PAGE leaves at most M pages, also where the next page is no run's
+-- PAGE: 2 8 9 ("PAGE not above the last or after STATE"). Of pages that came in rising order the last is at least their
+-- count less 1, so that a page below their count is not above the last: an accepted PAGE leaves at most M pages, also in
+-- a state that no run reaches
 abbrev pub pageTests : Standby → ℕ → ℕ → List Test
 pageTests s epoch page =
     test noSuchUnit (ltb page (s .settings .m))
@@ -40,7 +41,7 @@ pageTests s epoch page =
 unfoldable pub pageRefusal : Standby → ℕ → ℕ → ℕ
 pageRefusal s epoch page = refusal (pageTests s epoch page)
 
--- BLOCK: 2 8 9 ("BLOCK after PAGE or STATE": a page came where the next page is not 0 or pages are counted) 14 17
+-- BLOCK: 2 8 9 ("BLOCK after PAGE or STATE": a page came where the next page is not 0, or where pages are counted) 14 17
 abbrev pub blockTests : Standby → ℕ → ℕ → List Test
 blockTests s epoch block =
     test noSuchUnit (ltb block (s .settings .d))
