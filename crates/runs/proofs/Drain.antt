@@ -18,13 +18,8 @@ use Rattle.rules.proofs.PrimaryFacts.{primary-facts}
 use Rattle.runs.specs.Plain.{plainAccepted, plainStep}
 use Rattle.runs.specs.Run.{Both, steps, runCall}
 use Rattle.runs.proofs.Invariant.{Inv}
+use Rattle.runs.proofs.LinkLaws.{bytes-moved}
 use Rattle.runs.proofs.Frame.{Accepted, KeepsAccepted}
-
--- the first c bytes waiting move to the link
-moved : (link waiting lost : List ℕ) (c : ℕ) → (link ++ take c waiting) ++ (drop c waiting ++ lost) ≡ link ++ (waiting ++ lost)
-moved link waiting lost c =
-    append-assoc link (take c waiting) (drop c waiting ++ lost)
-    ∙ ap (λ (l : List ℕ). link ++ l) (sym (append-assoc (take c waiting) (drop c waiting) lost) ∙ ap (λ (l : List ℕ). l ++ lost) (take-append-drop c waiting))
 
 module _ (n : ℕ) (destination : List ℕ) where
   abbrev countOf : Both → ℕ
@@ -73,6 +68,18 @@ module _ (n : ℕ) (destination : List ℕ) where
         take-put-front destination (take c s) c l
         ∙ sym (take-take c (b .world .primary .state .waiting) s (omega arith))
 
+    -- the bytes on the link and those waiting are as before
+    drained : after b .world .link ++ take (after b .world .primary .state .waiting) (after b .world .primary .stream) ≡ b .world .link ++ take (b .world .primary .state .waiting) (b .world .primary .stream)
+    drained =
+        let w = b .world in
+        let p = w .primary in
+        let c = countOf b in
+        let waiting = p .state .waiting in
+        let out = take waiting (p .stream) in
+        ap₂ (λ (x y : List ℕ). (w .link ++ x) ++ y) given (take-removed c waiting (p .stream) (omega arith) waits)
+        ∙ append-assoc (w .link) (take c out) (drop c out)
+        ∙ ap (λ (l : List ℕ). w .link ++ l) (take-append-drop c out)
+
     after-inv : Inv g (after b)
     after-inv =
         let w = b .world in
@@ -81,16 +88,14 @@ module _ (n : ℕ) (destination : List ℕ) where
         let v = i .holds in
         let k = v .primaryKept in
         let waiting = p .state .waiting in
-        let rest : take (waiting - c) (removed 0 c waiting (p .stream)) ≡ drop c (take waiting (p .stream)) = take-removed c waiting (p .stream) (omega arith) waits in
         record {
           ghost = i .ghost;
           holds = record {
             history = v .history;
             link = record {
               records = v .link .records;
-              bytes = ap₂ (λ (x y : List ℕ). (w .link ++ x) ++ (y ++ i .ghost .lost)) given rest
-                  ∙ moved (w .link) (take waiting (p .stream)) (i .ghost .lost) c
-                  ∙ v .link .bytes;
+              bytes =
+                  bytes-moved (w .link) (take waiting (p .stream)) (after b .world .link) (take (waiting - c) (removed 0 c waiting (p .stream))) (i .ghost .lost) drained ∙ v .link .bytes;
               lossless = v .link .lossless;
               readable = v .link .readable;
               consumedBefore = v .link .consumedBefore;

@@ -26,7 +26,9 @@ pub mod Packet
 pub mod Take
 pub mod Drain
 pub mod PrimaryTick
+pub mod WholeRecords
 pub mod Reading
+pub mod ReadStep
 pub mod Ack
 pub mod StandbyTick
 pub mod Flush

@@ -1,6 +1,6 @@
 -- The Link group: records appended to the stream. Assumes nothing.
 use Prim.Native.Nat.{ℕ, _+_, _≤_}
-use mathlib.Core.Path.{_≡_, refl, sym, ap, ap₂, _∙_}
+use mathlib.Core.Path.{_≡_, refl, sym, ap, _∙_}
 use mathlib.Core.Bool.{Bool, false}
 use mathlib.Core.List.{List, [], _∷_, _++_, append-assoc, append-nil}
 use native.Mathlib.Omega.{arith}
@@ -50,21 +50,31 @@ unfolding put
 take-put-end s at bs h =
     take-at (take at s ++ bs) (drop (at + length bs) s) (at + length bs) (length-append (take at s) bs ∙ ap (λ (n : ℕ). n + length bs) (length-take-le at s h))
 
+-- ---- the bytes under way, waiting and lost: some of those waiting moved to the link
+pub bytes-moved : (link out link′ out′ lost : List ℕ) → link′ ++ out′ ≡ link ++ out → link′ ++ (out′ ++ lost) ≡ link ++ (out ++ lost)
+bytes-moved link out link′ out′ lost same = sym (append-assoc link′ out′ lost) ∙ ap (λ (l : List ℕ). l ++ lost) same ∙ append-assoc link out lost
+
+-- with those of more records behind the ones waiting
+pub bytes-append : (link out lost : List ℕ) (pending ms : List Message) → lost ≡ [] → link ++ (out ++ lost) ≡ encodeAll pending
+    → link ++ ((out ++ encodeAll ms) ++ lost) ≡ encodeAll (pending ++ ms)
+bytes-append link out lost pending ms none bytes =
+    ap (λ (l : List ℕ). link ++ ((out ++ encodeAll ms) ++ l)) none
+    ∙ ap (λ (l : List ℕ). link ++ l) (append-nil (out ++ encodeAll ms))
+    ∙ sym (append-assoc link out (encodeAll ms))
+    ∙ ap (λ (l : List ℕ). (link ++ l) ++ encodeAll ms) (sym (append-nil out) ∙ ap (λ (l : List ℕ). out ++ l) (sym none))
+    ∙ ap (λ (l : List ℕ). l ++ encodeAll ms) bytes
+    ∙ sym (encodeAll-append pending ms)
+
 module _ (u : ℕ) (ahead ahead′ : List Epoch) (opened opened′ consumed pending : List Message) (link stream lost : List ℕ) (waiting : ℕ) (ms : List Message) where
   pub link-append : (alone : Bool) → alone ≡ false → sent ahead opened ++ ms ≡ sent ahead′ opened′ → AllBefore ahead′ → All Before opened′ → All (Readable u) ms
       → waiting ≤ length stream → Link u ahead opened consumed pending link stream lost waiting alone
       → Link u ahead′ opened′ consumed (pending ++ ms) link (put stream waiting (encodeAll ms)) lost (waiting + length (encodeAll ms)) alone
   link-append alone on e ba bo f h k =
-      let none = k .lossless on in
       record {
         records = sym (append-assoc consumed pending ms) ∙ ap (λ (l : List Message). l ++ ms) (k .records) ∙ e;
         bytes =
-            ap₂ (λ (x y : List ℕ). link ++ (x ++ y)) (take-put-end stream waiting (encodeAll ms) h) none
-            ∙ ap (λ (l : List ℕ). link ++ l) (append-nil (take waiting stream ++ encodeAll ms))
-            ∙ sym (append-assoc link (take waiting stream) (encodeAll ms))
-            ∙ ap (λ (l : List ℕ). (link ++ l) ++ encodeAll ms) (sym (append-nil (take waiting stream)) ∙ ap (λ (l : List ℕ). take waiting stream ++ l) (sym none))
-            ∙ ap (λ (l : List ℕ). l ++ encodeAll ms) (k .bytes)
-            ∙ sym (encodeAll-append pending ms);
+            ap (λ (l : List ℕ). link ++ (l ++ lost)) (take-put-end stream waiting (encodeAll ms) h)
+            ∙ bytes-append link (take waiting stream) lost pending ms (k .lossless on) (k .bytes);
         lossless = k .lossless;
         readable = all-append (Readable u) pending ms (k .readable) f;
         consumedBefore = k .consumedBefore;

@@ -6,12 +6,9 @@ use mathlib.Core.Bool.{true, false, false≢true}
 use mathlib.Core.List.{List, [], _∷_, _++_, append-nil}
 use native.Mathlib.Omega.{arith}
 use lib.ListN.{length, take, drop}
-use Rattle.lists.proofs.TestLaws.{by-test, eq-or-ne}
+use Rattle.lists.proofs.TestLaws.{by-test}
 use Rattle.records.specs.declared.Record.{Record}
-use Rattle.records.specs.declared.Record.the-variants as record-of
-use Rattle.records.specs.declared.Reader.the-variants as reader
-use Rattle.records.specs.Kind.{unitOk}
-use Rattle.records.specs.Read.{readRecord, usedOf}
+use Rattle.records.specs.Read.{usedOf}
 use Rattle.records.specs.Write.{ackRecord}
 use Rattle.records.specs.Message.{Message, encode, encodeAll, readAs}
 use Rattle.records.specs.Message as message
@@ -21,24 +18,22 @@ use Rattle.settings.specs.declared.Settings.{Settings}
 use Rattle.settings.specs.declared.StandbySettings.{StandbySettings}
 use Rattle.rules.specs.declared.Standby.{Standby}
 use Rattle.rules.specs.StandbyState.{isReceiving}
-use Rattle.rules.specs.Reply.{answerOf, numberOf, unlessRefused}
-use Rattle.rules.specs.Judge.{readLentOk, recordRefusal}
-use Rattle.rules.specs.Read.{bytesAt, readLent}
+use Rattle.rules.specs.Judge.{recordRefusal}
+use Rattle.rules.specs.Read.{bytesAt}
 use Rattle.rules.specs.World.{StandbyEnd}
 use Rattle.rules.specs.World as call
 use Rattle.rules.specs.Step.{Stepped}
-use Rattle.rules.proofs.ReplyLaws.{unless-accepted, unless-refused}
-use Rattle.rules.proofs.JudgeLaws.{read-lent-of, page-accepted, block-accepted, commit-accepted, judged-mode, judged-number}
+use Rattle.rules.proofs.JudgeLaws.{page-accepted, block-accepted, commit-accepted}
 use Rattle.runs.specs.Plain.{plainAccepted, plainStep}
 use Rattle.runs.specs.Run.{Both, steps, runCall}
 use Rattle.runs.proofs.Effects.{All, Readable}
 use Rattle.runs.proofs.Invariant.{Inv}
-use Rattle.runs.proofs.KeptLaws.{standby-u, standby-unit, lent-memory, lent-pages, lent-marks, lent-blocks}
+use Rattle.runs.proofs.KeptLaws.{standby-u}
 use Rattle.runs.proofs.RecordSteps.{readSeen, readBy, read-step}
-use Rattle.runs.proofs.Reading.{Reading, none, one, read-next}
+use Rattle.runs.proofs.ReadStep.{ReadFound, short, next, read-off, read-found}
 use Rattle.runs.proofs.ReadStaged.{stagedAfter, pageEnd, blockEnd, stateEnd, page-inv, block-inv, state-inv}
 use Rattle.runs.proofs.ReadCommit.{commitAfter, commit-inv}
-use Rattle.runs.proofs.Frame.{KeepsAccepted}
+use Rattle.runs.proofs.Frame.{Accepted, KeepsAccepted}
 
 module _ (g : Settings) (b : Both) (i : Inv g b) (n : ℕ) (reply : List ℕ) where
   abbrev u : ℕ
@@ -94,14 +89,6 @@ module _ (g : Settings) (b : Both) (i : Inv g b) (n : ℕ) (reply : List ℕ) wh
       let x = message.commit e p m in
       ap₂ (commitAfter b e (b .world .standby .state .settings)) (used-message u x fits) (ack-written u e reply)
 
-  -- ---- "Lent lengths are exact"
-  lent : readLentOk (b .world .standby .state) (readLent (b .world .standby .memory) (b .world .standby .stagedPages) (b .world .standby .stagedMarks) (b .world .standby .stagedBlocks) reply) ≡ true
-  lent =
-      let e = b .world .standby in
-      let k = i .holds .standbyKept in
-      read-lent-of (e .state) (readLent (e .memory) (e .stagedPages) (e .stagedMarks) (e .stagedBlocks) reply)
-      (record { memory-is = lent-memory g e k; pages-is = lent-pages g e k; marks-is = lent-marks g e k; blocks-is = lent-blocks g e k })
-
   same-u : u ≡ g .u
   same-u = standby-u g (b .world .standby) (i .holds .standbyKept)
 
@@ -132,46 +119,21 @@ module _ (g : Settings) (b : Both) (i : Inv g b) (n : ℕ) (reply : List ℕ) wh
         (commit-inv g b e p m xs on (t .after-state) (t .epoch-next) i first rest)
     by-message (message.ack e) xs first f whole rest z = absurd (false≢true (f .1))
 
-    -- ---- what is judged is the record read, or its refusal
-    module _ (accepted : numberOf (answerOf (readSeen (b .world) n reply)) ≡ 0) where
-      seen : (r : Record) → readRecord reader.Standby u (take n (b .world .link)) ≡ r → readSeen (b .world) n reply ≡ unlessRefused (recordRefusal (b .world .standby .state) (length reply) r) r
-      seen r z =
-          let e = b .world .standby in
-          judged-number (e .state) (readLent (e .memory) (e .stagedPages) (e .stagedMarks) (e .stagedBlocks) reply) (take n (b .world .link)) (i .holds .standbyKept .reached .range .inRange) lent on r (sym z)
-          (recordRefusal (e .state) (length reply) r) refl
-
-      by-next : (pending : List Message) → i .ghost .pending ≡ pending → All (Readable (g .u)) pending
-          → Reading reader.Standby u pending (b .world .link) (take (b .world .primary .state .waiting) (b .world .primary .stream) ++ i .ghost .lost) (take n (b .world .link))
-          → Inv g (bothBy (readSeen (b .world) n reply))
-      by-next pending same f (none z) = let a : _≡_ {A = ℕ} 256 0 = sym (ap (λ (r : Record). numberOf (answerOf r)) (seen record-of.Short z)) ∙ accepted in absurd (omega arith)
-      by-next pending same f (one x xs q z whole rest) =
-          let r = readAs u x in
-          let m = recordRefusal state (length reply) r in
-          let fx : All (Readable (g .u)) (x ∷ xs) = subst (All (Readable (g .u))) q f in
-          ⊎-elim
-          (λ (a : recordRefusal state (length reply) (readAs u x) ≡ 0).
-          subst (λ (y : Record). Inv g (bothBy y)) (sym (seen r z ∙ unless-accepted m r a)) (by-message x xs (same ∙ q) (fx .0) whole rest a))
-          (λ (a : recordRefusal state (length reply) (readAs u x) ≡ 0 → ⊥).
-          absurd (a (sym (ap (λ (y : Record). numberOf (answerOf y)) (seen r z ∙ unless-refused m r a)) ∙ accepted)))
-          (eq-or-ne m 0)
+    -- ---- an accepted read is of the next record
+    by-found : Accepted b (call.read n reply) → ReadFound g (b .world) (i .holds .standbyKept) n reply (i .ghost .pending) (take (b .world .primary .state .waiting) (b .world .primary .stream) ++ i .ghost .lost)
+        → Inv g (bothBy (readSeen (b .world) n reply))
+    by-found accepted (short s z) = absurd (omega arith)
+    by-found accepted (next x xs f z seen) =
+        let readable : All (Readable (g .u)) (x ∷ xs) = subst (All (Readable (g .u))) (f .first) (i .holds .link .readable) in
+        subst (λ (y : Record). Inv g (bothBy y)) (sym (seen accepted)) (by-message x xs (f .first) (readable .0) (f .begins) (f .behind) (sym z ∙ accepted))
 
 pub read-keeps : (g : Settings) (n : ℕ) (reply : List ℕ) → KeepsAccepted g (call.read n reply)
 read-keeps g n reply b i e =
-    let s = b .world .standby in
+    let s = b .world .standby .state in
     let k = i .holds .standbyKept in
-    let h = i .ghost in
-    let behind = take (b .world .primary .state .waiting) (b .world .primary .stream) ++ h .lost in
-    let l = readLent (s .memory) (s .stagedPages) (s .stagedMarks) (s .stagedBlocks) reply in
-    let back = sym (same-u g b i n reply) in
-    let accepted : numberOf (answerOf (readSeen (b .world) n reply)) ≡ 0 = sym (ap (λ (x : Stepped). x .outcome .number) (read-step (b .world) n reply)) ∙ e in
+    let l = i .holds .link in
     subst (Inv g) (sym (run-is g b i n reply))
     (⊎-elim
-    (λ (on : isReceiving (s .state .mode) ≡ true).
-    by-next g b i n reply on accepted (h .pending) refl (i .holds .link .readable)
-    (read-next reader.Standby (s .state .settings .u) (subst (λ (v : ℕ). unitOk v ≡ true) back (standby-unit g s k)) behind n (h .pending) (b .world .link)
-    (subst (λ (v : ℕ). All (Readable v) (h .pending)) back (i .holds .link .readable)) (i .holds .link .bytes)))
-    (λ (off : isReceiving (s .state .mode) ≡ false).
-    let a : _≡_ {A = ℕ} 13 0
-    = sym (ap (λ (r : Record). numberOf (answerOf r)) (judged-mode (s .state) l (take n (b .world .link)) (k .reached .range .inRange) (lent g b i n reply) off)) ∙ accepted in
-    absurd (omega arith))
-    (by-test (isReceiving (s .state .mode))))
+    (λ (on : isReceiving (s .mode) ≡ true). by-found g b i n reply on e (read-found g (b .world) k n reply on (i .ghost .pending) _ (l .readable) (l .bytes)))
+    (λ (off : isReceiving (s .mode) ≡ false). absurd (omega (arith, read-off g (b .world) k n reply off)))
+    (by-test (isReceiving (s .mode))))

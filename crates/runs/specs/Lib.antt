@@ -3,3 +3,4 @@ pub mod Run
 pub mod Cut
 pub mod Demand3
 pub mod Corollaries
+pub mod Progress
