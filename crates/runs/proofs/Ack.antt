@@ -33,7 +33,7 @@ use Rattle.runs.proofs.ReadStep.{AckFound, short, next, ack-off, ack-fo
 use Rattle.runs.proofs.Frame.{Accepted, KeepsAccepted}
 
 -- ---- the ACKs under way are readable
-acks-readable : (u a r : ℕ) (es : List ℕ) → r < 2 ^ 32 → Rising a r es → All (ReadableBy reader.Primary u) (map message.ack es)
+pub acks-readable : (u a r : ℕ) (es : List ℕ) → r < 2 ^ 32 → Rising a r es → All (ReadableBy reader.Primary u) (map message.ack es)
 acks-readable u a r [] h f = tt
 acks-readable u a r (e ∷ es) h f = let l = rising-le e r es (f .1) in ((omega arith, refl), acks-readable u e r es h (f .1))
 
@@ -53,7 +53,7 @@ after e used b =
     }
 
 module _ (g : Settings) (b : Both) (i : Inv g b) where
-  r-low : b .plain .r < 2 ^ 32
+  pub r-low : b .plain .r < 2 ^ 32
   r-low = let h = i .holds .history in omega (arith, received-exists g b i, h .count, h .high)
 
   fits : (e : ℕ) (es : List ℕ) → i .ghost .acks ≡ e ∷ es → e < 2 ^ 32

@@ -31,7 +31,7 @@ use Rattle.runs.proofs.ModeLaws.{taking-not-active}
 use Rattle.runs.proofs.KeptLaws.{standby-inv}
 use Rattle.runs.proofs.Frame.{Accepted, KeepsAccepted}
 
-abbrev after : Both → Both
+abbrev pub after : Both → Both
 after b =
     let e = b .world .standby in
     record {
@@ -47,7 +47,7 @@ after b =
       plain = withActivatedStandbyImages (b .plain) true (receivedCheckpoint (b .plain) .memory) (receivedCheckpoint (b .plain) .disk);
     }
 
-after-is : (u : ℕ) (b : Both) → Accepted b call.activation → runCall steps u b call.activation ≡ after b
+pub after-is : (u : ℕ) (b : Both) → Accepted b call.activation → runCall steps u b call.activation ≡ after b
 unfolding step activationReply activationArea plainStep plainAccepted
 after-is u b e = rw (eq-eqb _ _ e)
 

@@ -69,12 +69,12 @@ images-inv g b memory disk memory′ disk′ on em ed lm ld i =
 
 -- ---- memory write
 module _ (page offset : ℕ) (bytes : List ℕ) where
-  abbrev afterMemory : ℕ → ℕ → Both → Both
+  abbrev pub afterMemory : ℕ → ℕ → Both → Both
   afterMemory v u b =
       let e = b .world .standby in
       after (written v (e .memory) page offset bytes) (e .disk) (written u (b .plain .standbyMemory) page offset bytes) (b .plain .standbyDisk) b
 
-  after-memory : (u : ℕ) (b : Both) → Accepted b (call.activeMemoryWrite page offset bytes)
+  pub after-memory : (u : ℕ) (b : Both) → Accepted b (call.activeMemoryWrite page offset bytes)
       → runCall steps u b (call.activeMemoryWrite page offset bytes) ≡ afterMemory (b .world .standby .state .settings .u) u b
   unfolding step activeMemoryWriteReply activeMemoryWriteMemory plainStep plainAccepted
   after-memory u b e = rw (eq-eqb _ _ e)
@@ -106,12 +106,12 @@ active-memory-write-keeps g page offset bytes b i e =
 
 -- ---- disk write
 module _ (block : ℕ) (bytes : List ℕ) where
-  abbrev afterDisk : ℕ → ℕ → Both → Both
+  abbrev pub afterDisk : ℕ → ℕ → Both → Both
   afterDisk v u b =
       let e = b .world .standby in
       after (e .memory) (withPage v (e .disk) block bytes) (b .plain .standbyMemory) (withPage u (b .plain .standbyDisk) block bytes) b
 
-  after-disk : (u : ℕ) (b : Both) → Accepted b (call.activeDiskWrite block bytes)
+  pub after-disk : (u : ℕ) (b : Both) → Accepted b (call.activeDiskWrite block bytes)
       → runCall steps u b (call.activeDiskWrite block bytes) ≡ afterDisk (b .world .standby .state .settings .u) u b
   unfolding step activeDiskWriteReply activeDiskWriteDisk plainStep plainAccepted
   after-disk u b e = rw (eq-eqb _ _ e)

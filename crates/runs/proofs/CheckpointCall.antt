@@ -43,13 +43,13 @@ use Rattle.runs.proofs.DirtyEffects.{effects-dirty, dirty-before}
 use Rattle.runs.proofs.KeptLaws.{primary-settings}
 use Rattle.runs.proofs.Frame.{Accepted, KeepsAccepted}
 
-abbrev Facts : Both → Type 0
+abbrev pub Facts : Both → Type 0
 Facts b = let p = b .world .primary in CheckpointRoom (p .state) (length (p .memory)) (length (p .dirty)) (length (p .stream)) (dirtyCount (p .state) (p .dirty))
 
 -- ---- the pair after it; x is the primary's settings
 module _ (processor : Processor) where
   -- the bytes appended
-  abbrev bytesOf : Both → PrimarySettings → List ℕ
+  abbrev pub bytesOf : Both → PrimarySettings → List ℕ
   bytesOf b x =
       let p = b .world .primary in
       let e = p .state .epoch in
@@ -58,7 +58,7 @@ module _ (processor : Processor) where
   abbrev new : Both → Checkpoint
   new b = record { memory = b .plain .memory; disk = b .plain .disk; processor = processor .bytes; packets = b .plain .accepted }
 
-  abbrev after : Both → PrimarySettings → Both
+  abbrev pub after : Both → PrimarySettings → Both
   after b x =
       let p = b .world .primary in
       record {
@@ -73,29 +73,29 @@ module _ (processor : Processor) where
         plain = withCheckpoint (b .plain) (new b);
       }
 
-  after-is : (u : ℕ) (b : Both) → Accepted b (call.checkpoint processor) → runCall steps u b (call.checkpoint processor) ≡ after b (b .world .primary .state .settings)
+  pub after-is : (u : ℕ) (b : Both) → Accepted b (call.checkpoint processor) → runCall steps u b (call.checkpoint processor) ≡ after b (b .world .primary .state .settings)
   unfolding step checkpointReply checkpointState checkpointDirty checkpointStream checkpointBytes plainStep plainAccepted
   after-is u b e = rw (eq-eqb _ _ e)
 
-  facts : (b : Both) → Accepted b (call.checkpoint processor) → Facts b
+  pub facts : (b : Both) → Accepted b (call.checkpoint processor) → Facts b
   unfolding step checkpointReply
   facts b e = let p = b .world .primary in checkpoint-accepted (p .state) (length (p .memory)) (length (p .dirty)) (length (p .stream)) (dirtyCount (p .state) (p .dirty)) e
 
   module _ (g : Settings) (b : Both) (i : Inv g b) (f : Facts b) where
-    abbrev epoch : ℕ
+    abbrev pub epoch : ℕ
     epoch = b .world .primary .state .epoch
 
-    abbrev count : ℕ
+    abbrev pub count : ℕ
     count = countMarks (b .world .primary .dirty) (g .m)
 
-    abbrev dirties : List Message
+    abbrev pub dirties : List Message
     dirties = dirtyMessages (b .world .primary .memory) (b .world .primary .dirty) (g .u) (b .world .primary .state .epoch) (g .m)
 
     -- the records before the COMMIT, and the epoch that it closes
-    abbrev closing : List Message
+    abbrev pub closing : List Message
     closing = dirties ++ (message.state epoch (processor .bytes) ∷ [])
 
-    abbrev commit : Message
+    abbrev pub commit : Message
     commit = message.commit epoch count (b .world .primary .state .blocks)
 
     abbrev shut : Epoch
@@ -122,7 +122,7 @@ module _ (processor : Processor) where
         ∙ ap₂ (λ (x y : List ℕ). record { memory = x; disk = y; processor = processor .bytes; packets = b .plain .accepted }) (v .images .memoryIs) (v .images .stored alone ∙ v .images .diskIs)
 
     -- the bytes appended are those of its records
-    bytes-are : encodeAll (closing ++ (commit ∷ [])) ≡ bytesOf b (ofPrimary g)
+    pub bytes-are : encodeAll (closing ++ (commit ∷ [])) ≡ bytesOf b (ofPrimary g)
     bytes-are =
         let p = b .world .primary in
         let st = message.state epoch (processor .bytes) in
@@ -131,7 +131,7 @@ module _ (processor : Processor) where
         ∙ append-assoc (dirtyRecords (p .memory) (p .dirty) (g .u) epoch (g .m)) (encode st) (encode commit)
 
     -- in start's settings: their length, the room, and the state
-    long : length (bytesOf b (ofPrimary g)) ≡ checkpointLength (g .u) count
+    pub long : length (bytesOf b (ofPrimary g)) ≡ checkpointLength (g .u) count
     unfolding checkpointBytes
     long =
         let p = b .world .primary in
@@ -151,7 +151,7 @@ module _ (processor : Processor) where
         subst (λ (x : PrimarySettings). PrimaryReached (withEpochBlocksWaiting (p .state) (p .state .epoch + 1) 0 (p .state .waiting + checkpointLength (x .u) (countMarks (p .dirty) (x .m))))) (k .settings)
         (checkpoint-state-reached (p .state) (length (p .memory)) (length (p .dirty)) (length (p .stream)) (dirtyCount (p .state) (p .dirty)) f (k .reached))
 
-    readable : All (Readable (g .u)) (closing ++ (commit ∷ []))
+    pub readable : All (Readable (g .u)) (closing ++ (commit ∷ []))
     readable =
         let p = b .world .primary in
         let k = i .holds .primaryKept in

@@ -34,11 +34,11 @@ use Rattle.runs.proofs.KeptLaws.{primary-u, primary-d, primary-settings
 use Rattle.runs.proofs.Frame.{Accepted, KeepsAccepted}
 
 module _ (block : ℕ) (bytes : List ℕ) where
-  abbrev Facts : Both → Type 0
+  abbrev pub Facts : Both → Type 0
   Facts b = let p = b .world .primary in DiskWriteRoom (p .state) (length (p .disk)) (length (p .stream)) block (length bytes)
 
   -- the pair after it; v is the primary's U and u start's
-  abbrev after : Primary → List ℕ → ℕ → ℕ → Both → Both
+  abbrev pub after : Primary → List ℕ → ℕ → ℕ → Both → Both
   after s stream v u b =
       let p = b .world .primary in
       record {
@@ -46,19 +46,19 @@ module _ (block : ℕ) (bytes : List ℕ) where
         plain = withImages (b .plain) (b .plain .memory) (withPage u (b .plain .disk) block bytes);
       }
 
-  abbrev streamAfter : Both → List ℕ
+  abbrev pub streamAfter : Both → List ℕ
   streamAfter b = let p = b .world .primary in put (p .stream) (p .state .waiting) (blockRecord (p .state .epoch) block bytes)
 
-  abbrev stateAfter : Both → Primary
+  abbrev pub stateAfter : Both → Primary
   stateAfter b = let s = b .world .primary .state in withBlocksWaiting s (s .blocks + 1) (s .waiting + recordLength (s .settings .u) BLOCK)
 
-  after-is : (u : ℕ) (b : Both) (a : Bool) → b .world .primary .state .alone ≡ a → Accepted b (call.diskWrite block bytes)
+  pub after-is : (u : ℕ) (b : Both) (a : Bool) → b .world .primary .state .alone ≡ a → Accepted b (call.diskWrite block bytes)
       → runCall steps u b (call.diskWrite block bytes)
       ≡ after (cond a (b .world .primary .state) (stateAfter b)) (cond a (b .world .primary .stream) (streamAfter b)) (b .world .primary .state .settings .u) u b
   unfolding step diskWriteReply diskWriteState diskWriteDisk diskWriteStream plainStep plainAccepted
   after-is u b a z e = rw (eq-eqb _ _ e) (ap (λ (x : Bool). after (cond x (b .world .primary .state) (stateAfter b)) (cond x (b .world .primary .stream) (streamAfter b)) (b .world .primary .state .settings .u) u b) z)
 
-  facts : (b : Both) → Accepted b (call.diskWrite block bytes) → Facts b
+  pub facts : (b : Both) → Accepted b (call.diskWrite block bytes) → Facts b
   unfolding step diskWriteReply
   facts b e = let p = b .world .primary in disk-write-accepted (p .state) (length (p .disk)) (length (p .stream)) block (length bytes) e
 
@@ -106,16 +106,16 @@ module _ (block : ℕ) (bytes : List ℕ) where
         }
 
     -- protected: one BLOCK more
-    abbrev added : Message
+    abbrev pub added : Message
     added = message.block (b .world .primary .state .epoch) block bytes
 
-    fits : message.Fits (g .u) added
+    pub fits : message.Fits (g .u) added
     fits =
         let h = i .holds .history in
         let s = primary-settings g (b .world .primary) (i .holds .primaryKept) in
         (omega (arith, h .high), omega (arith, s .shared .d-high), whole)
 
-    long-record : length (encodeAll (added ∷ [])) ≡ recordLength (b .world .primary .state .settings .u) BLOCK
+    pub long-record : length (encodeAll (added ∷ [])) ≡ recordLength (b .world .primary .state .settings .u) BLOCK
     long-record =
         ap length (append-nil (encode added)) ∙ length-message (g .u) added fits
         ∙ ap (λ (u : ℕ). recordLength u BLOCK) (sym (primary-u g (b .world .primary) (i .holds .primaryKept)))

@@ -22,10 +22,10 @@ use Rattle.runs.proofs.LinkLaws.{bytes-moved}
 use Rattle.runs.proofs.Frame.{Accepted, KeepsAccepted}
 
 module _ (n : ℕ) (destination : List ℕ) where
-  abbrev countOf : Both → ℕ
+  abbrev pub countOf : Both → ℕ
   countOf b = drainCount (b .world .primary .state) n (length destination)
 
-  abbrev after : Both → Both
+  abbrev pub after : Both → Both
   after b =
       let w = b .world in
       let p = w .primary in
@@ -47,16 +47,16 @@ module _ (n : ℕ) (destination : List ℕ) where
         plain = b .plain;
       }
 
-  after-is : (u : ℕ) (b : Both) → Accepted b (call.drain n destination) → runCall steps u b (call.drain n destination) ≡ after b
+  pub after-is : (u : ℕ) (b : Both) → Accepted b (call.drain n destination) → runCall steps u b (call.drain n destination) ≡ after b
   unfolding step drainReply drainStream drainDestination plainStep plainAccepted
   after-is u b e = rw (eq-eqb _ _ e)
 
-  facts : (b : Both) → Accepted b (call.drain n destination) → DrainFacts (b .world .primary .state) (length (b .world .primary .stream))
+  pub facts : (b : Both) → Accepted b (call.drain n destination) → DrainFacts (b .world .primary .state) (length (b .world .primary .stream))
   unfolding step drainReply
   facts b e = drain-accepted (b .world .primary .state) (length (b .world .primary .stream)) e
 
   module _ (g : Settings) (b : Both) (i : Inv g b) (f : DrainFacts (b .world .primary .state) (length (b .world .primary .stream))) where
-    waits : b .world .primary .state .waiting ≤ length (b .world .primary .stream)
+    pub waits : b .world .primary .state .waiting ≤ length (b .world .primary .stream)
     waits = omega (arith, primary-facts (b .world .primary .state) (f .ok) .waiting, f .stream-is)
 
     -- what reaches the link
@@ -69,7 +69,7 @@ module _ (n : ℕ) (destination : List ℕ) where
         ∙ sym (take-take c (b .world .primary .state .waiting) s (omega arith))
 
     -- the bytes on the link and those waiting are as before
-    drained : after b .world .link ++ take (after b .world .primary .state .waiting) (after b .world .primary .stream) ≡ b .world .link ++ take (b .world .primary .state .waiting) (b .world .primary .stream)
+    pub drained : after b .world .link ++ take (after b .world .primary .state .waiting) (after b .world .primary .stream) ≡ b .world .link ++ take (b .world .primary .state .waiting) (b .world .primary .stream)
     drained =
         let w = b .world in
         let p = w .primary in

@@ -48,3 +48,12 @@ pub mod Proved
 pub mod Corollaries
 pub mod ActiveLaws
 pub mod CallLaws
+pub mod Walk
+pub mod AskedLaws
+pub mod Pending
+pub mod PendingCalls
+pub mod PendingSent
+pub mod PendingRead
+pub mod PendingAck
+pub mod FlushFrees
+pub mod ProgressProved

@@ -25,7 +25,7 @@ use Rattle.runs.proofs.Frame.{Accepted, KeepsAccepted}
 
 module _ (page offset : ℕ) (bytes : List ℕ) where
   -- the pair after it; v is the primary's U and u start's
-  abbrev after : ℕ → ℕ → Both → Both
+  abbrev pub after : ℕ → ℕ → Both → Both
   after v u b =
       let p = b .world .primary in
       record {
@@ -40,7 +40,7 @@ module _ (page offset : ℕ) (bytes : List ℕ) where
         plain = withImages (b .plain) (written u (b .plain .memory) page offset bytes) (b .plain .disk);
       }
 
-  after-is : (u : ℕ) (b : Both) → Accepted b (call.memoryWrite page offset bytes)
+  pub after-is : (u : ℕ) (b : Both) → Accepted b (call.memoryWrite page offset bytes)
       → runCall steps u b (call.memoryWrite page offset bytes) ≡ after (b .world .primary .state .settings .u) u b
   unfolding step memoryWriteReply memoryWriteMemory memoryWriteDirty plainStep plainAccepted
   after-is u b e = rw (eq-eqb _ _ e)

@@ -22,7 +22,7 @@ use Rattle.runs.proofs.PacketsLaws.{packets-more}
 use Rattle.runs.proofs.Frame.{Accepted, KeepsAccepted}
 
 module _ (bytes : List ℕ) where
-  abbrev after : Both → Both
+  abbrev pub after : Both → Both
   after b =
       let p = b .world .primary in
       record {
@@ -37,7 +37,7 @@ module _ (bytes : List ℕ) where
         plain = withPackets (b .plain) (b .plain .accepted ++ (bytes ∷ [])) (b .plain .taken);
       }
 
-  after-is : (u : ℕ) (b : Both) → Accepted b (call.packet bytes) → runCall steps u b (call.packet bytes) ≡ after b
+  pub after-is : (u : ℕ) (b : Both) → Accepted b (call.packet bytes) → runCall steps u b (call.packet bytes) ≡ after b
   unfolding step packetReply packetHeld plainStep plainAccepted
   after-is u b e = rw (eq-eqb _ _ e)
 

@@ -26,7 +26,7 @@ use Rattle.runs.proofs.Conclusions.{received-exists, acknowledged-recei
 use Rattle.runs.proofs.Frame.{Accepted, KeepsAccepted}
 
 -- the pair with this state and this plain count
-abbrev after : Primary → ℕ → Both → Both
+abbrev pub after : Primary → ℕ → Both → Both
 after s n b =
     let p = b .world .primary in
     record {
@@ -34,7 +34,7 @@ after s n b =
       plain = withCounts (b .plain) (b .plain .r) (b .plain .a) n;
     }
 
-after-is : (u : ℕ) (b : Both) → Accepted b call.primaryTick
+pub after-is : (u : ℕ) (b : Both) → Accepted b call.primaryTick
     → runCall steps u b call.primaryTick ≡ after (primaryTickState (b .world .primary .state)) (cond (unacknowledged (b .plain)) (b .plain .count + 1) (b .plain .count)) b
 unfolding step primaryTickReply plainStep plainAccepted
 after-is u b e = rw (eq-eqb _ _ e)

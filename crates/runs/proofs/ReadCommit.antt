@@ -59,7 +59,7 @@ rising-more : (a r : ℕ) (es : List ℕ) → Rising a r es → Rising a (r + 1)
 rising-more a r [] h = (omega arith, omega arith)
 rising-more a r (e ∷ es) h = (h .0, rising-more e r es (h .1))
 
-acks-more : (es : List ℕ) (e : ℕ) → encodeAll (map message.ack (es ++ (e ∷ []))) ≡ encodeAll (map message.ack es) ++ ackRecord e
+pub acks-more : (es : List ℕ) (e : ℕ) → encodeAll (map message.ack (es ++ (e ∷ []))) ≡ encodeAll (map message.ack es) ++ ackRecord e
 acks-more es e =
     ap encodeAll (map-append message.ack es (e ∷ [])) ∙ encodeAll-append (map message.ack es) (message.ack e ∷ []) ∙ ap (λ (l : List ℕ). encodeAll (map message.ack es) ++ l) (append-nil (ackRecord e))
 

@@ -37,7 +37,7 @@ abbrev rest : Both → List Held
 rest b = let p = b .world .primary in heldList (withoutOldest (p .state .queue)) (withoutOldestBytes (p .state .queue) (p .held))
 
 module _ (destination : List ℕ) where
-  abbrev after : Both → Both
+  abbrev pub after : Both → Both
   after b =
       let p = b .world .primary in
       record {
@@ -52,7 +52,7 @@ module _ (destination : List ℕ) where
         plain = withPackets (b .plain) (b .plain .accepted) (b .plain .taken + 1);
       }
 
-  after-is : (u : ℕ) (b : Both) → Accepted b (call.take destination) → runCall steps u b (call.take destination) ≡ after b
+  pub after-is : (u : ℕ) (b : Both) → Accepted b (call.take destination) → runCall steps u b (call.take destination) ≡ after b
   unfolding step takeReply takeHeld plainStep plainAccepted
   after-is u b e = rw (eq-eqb _ _ e)
 

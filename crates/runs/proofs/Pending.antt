@@ -1,0 +1,152 @@
+-- The second invariant, beside `Inv`: each record under way is the one that the standby asks for, up to what the primary has sent; the ACKs under way lead
+-- from the acknowledged epoch to the received one. Assumes nothing.
+use Prim.Native.Nat.{ℕ, _+_, _<_}
+use mathlib.Core.Path.{_≡_, sym, _∙_, subst}
+use mathlib.Core.Bool.{Bool, true, false, false≢true}
+use mathlib.Core.List.{List, [], _∷_, _++_, map}
+use lib.ListN.{take}
+use Rattle.records.specs.Message.{Message, encodeAll}
+use Rattle.records.specs.Message as message
+use Rattle.settings.specs.declared.Settings.{Settings}
+use Rattle.rules.specs.declared.Standby.{Standby}
+use Rattle.rules.specs.StandbyState.{isReceiving}
+use Rattle.rules.specs.World.{PrimaryEnd, World, Call}
+use Rattle.rules.specs.Step.{step}
+use Rattle.runs.specs.Run.{Both}
+use Rattle.runs.proofs.Effects.{All, all-append, Readable}
+use Rattle.runs.proofs.Invariant.{Inv}
+use Rattle.runs.proofs.LinkLaws.{bytes-moved, bytes-append}
+use Rattle.runs.proofs.Frame.{Accepted}
+use Rattle.runs.proofs.Walk.{Counts, countsOf, blocksOnly, Walk, walk-append}
+
+-- ---- what it speaks of: `out` is the bytes waiting
+pub record Sender : Type 0 where
+  pub out : List ℕ
+  pub alone : Bool
+  pub epoch : ℕ
+  pub blocks : ℕ
+  pub acknowledged : ℕ
+
+pub record Receiver : Type 0 where
+  pub receiving : Bool
+  pub counts : Counts
+
+pub record View : Type 0 where
+  pub sender : Sender
+  pub receiver : Receiver
+  pub link : List ℕ
+  pub acks : List ℕ
+
+abbrev pub senderOf : PrimaryEnd → Sender
+senderOf p = record { out = take (p .state .waiting) (p .stream); alone = p .state .alone; epoch = p .state .epoch; blocks = p .state .blocks; acknowledged = p .state .acknowledged }
+
+abbrev pub receiverOf : Standby → Receiver
+receiverOf s = record { receiving = isReceiving (s .mode); counts = countsOf s }
+
+abbrev pub viewOf : World → View
+viewOf w = record { sender = senderOf (w .primary); receiver = receiverOf (w .standby .state); link = w .link; acks = w .acks }
+
+-- ---- the ACKs under way: their epochs rise from the acknowledged one to the one before that which is asked for
+abbrev pub Leads : ℕ → ℕ → List ℕ → Type 0
+Leads a asked [] = a + 1 ≡ asked
+Leads a asked (e ∷ es) = (a < e) × Leads e asked es
+
+pub record Trail (acks : List ℕ) (acknowledged asked : ℕ) : Type 0 where
+  pub epochs : List ℕ
+  pub are : acks ≡ encodeAll (map message.ack epochs)
+  pub leads : Leads acknowledged asked epochs
+
+-- ---- the invariant
+pub record Pending (g : Settings) (v : View) : Type 0 where
+  -- the records sent and not yet accepted, and the bytes of them that were dropped
+  pub pending : List Message
+  pub lost : List ℕ
+  pub bytes : v .link ++ (v .sender .out ++ lost) ≡ encodeAll pending
+  pub lossless : v .sender .alone ≡ false → lost ≡ []
+  pub readable : All (Readable (g .u)) pending
+  pub walk : v .receiver .receiving ≡ true → Walk g (v .receiver .counts) pending (blocksOnly (v .sender .epoch) (v .sender .blocks))
+  pub trail : Trail (v .acks) (v .sender .acknowledged) (v .receiver .counts .epoch)
+
+-- both invariants
+pub record Agree (g : Settings) (b : Both) : Type 0 where
+  pub inv : Inv g b
+  pub pending : Pending g (viewOf (b .world))
+
+-- an accepted call keeps it
+abbrev pub KeepsPending : Settings → Call → Type 0
+KeepsPending g c = (b : Both) → Inv g b → Accepted b c → Pending g (viewOf (b .world)) → Pending g (viewOf (step (b .world) c .next))
+
+-- ---- what calls do to it
+abbrev pub withSender : View → Sender → View
+withSender v s = record { sender = s; receiver = v .receiver; link = v .link; acks = v .acks }
+
+abbrev pub withReceiver : View → Receiver → View
+withReceiver v r = record { sender = v .sender; receiver = r; link = v .link; acks = v .acks }
+
+-- with other bytes waiting, and another open epoch with its blocks
+abbrev pub sending : Sender → List ℕ → ℕ → ℕ → Sender
+sending s out epoch blocks = record { out = out; alone = s .alone; epoch = epoch; blocks = blocks; acknowledged = s .acknowledged }
+
+-- with bytes moved from the primary to the link
+abbrev pub movedTo : View → List ℕ → List ℕ → View
+movedTo v link out = record { sender = sending (v .sender) out (v .sender .epoch) (v .sender .blocks); receiver = v .receiver; link = link; acks = v .acks }
+
+module _ (g : Settings) (v : View) (p : Pending g v) where
+  -- the standby no longer receives
+  pub pending-stopped : (c : Counts) → c .epoch ≡ v .receiver .counts .epoch → Pending g (withReceiver v (record { receiving = false; counts = c }))
+  pending-stopped c same =
+      record {
+        pending = p .pending;
+        lost = p .lost;
+        bytes = p .bytes;
+        lossless = p .lossless;
+        readable = p .readable;
+        walk = λ z. absurd (false≢true z);
+        trail = subst (Trail (v .acks) (v .sender .acknowledged)) (sym same) (p .trail);
+      }
+
+  -- the primary is alone, and what waits is dropped
+  pub pending-dropped : Pending g (withSender v (record { out = []; alone = true; epoch = v .sender .epoch; blocks = v .sender .blocks; acknowledged = v .sender .acknowledged }))
+  pending-dropped =
+      record {
+        pending = p .pending;
+        lost = v .sender .out ++ p .lost;
+        bytes = p .bytes;
+        lossless = λ z. absurd (false≢true (sym z));
+        readable = p .readable;
+        walk = p .walk;
+        trail = p .trail;
+      }
+
+  pub pending-moved : (link out : List ℕ) → link ++ out ≡ v .link ++ v .sender .out → Pending g (movedTo v link out)
+  pending-moved link out same =
+      record {
+        pending = p .pending;
+        lost = p .lost;
+        bytes = bytes-moved (v .link) (v .sender .out) link out (p .lost) same ∙ p .bytes;
+        lossless = p .lossless;
+        readable = p .readable;
+        walk = p .walk;
+        trail = p .trail;
+      }
+
+  -- records are appended: they lead from the primary's counts to its next ones
+  pub pending-appended : (ms : List Message) (epoch blocks : ℕ) → v .sender .alone ≡ false → All (Readable (g .u)) ms
+      → Walk g (blocksOnly (v .sender .epoch) (v .sender .blocks)) ms (blocksOnly epoch blocks)
+      → Pending g (withSender v (sending (v .sender) (v .sender .out ++ encodeAll ms) epoch blocks))
+  pending-appended ms epoch blocks on readable more =
+      record {
+        pending = p .pending ++ ms;
+        lost = p .lost;
+        bytes = bytes-append (v .link) (v .sender .out) (p .lost) (p .pending) ms (p .lossless on) (p .bytes);
+        lossless = p .lossless;
+        readable = all-append (Readable (g .u)) (p .pending) ms (p .readable) readable;
+        walk = λ z. walk-append g (v .receiver .counts) (p .pending) (blocksOnly (v .sender .epoch) (v .sender .blocks)) ms (blocksOnly epoch blocks) (p .walk z) more;
+        trail = p .trail;
+      }
+
+  -- the primary takes the next ACK
+  pub pending-acked : (e : ℕ) (acks : List ℕ) → Trail acks e (v .receiver .counts .epoch)
+      → Pending g (record { sender = record { out = v .sender .out; alone = v .sender .alone; epoch = v .sender .epoch; blocks = v .sender .blocks; acknowledged = e }; receiver = v .receiver; link = v .link; acks = acks })
+  pending-acked e acks t =
+      record { pending = p .pending; lost = p .lost; bytes = p .bytes; lossless = p .lossless; readable = p .readable; walk = p .walk; trail = t }

@@ -1,0 +1,173 @@
+-- A read under the second invariant: its number, and that an accepted one keeps the invariant. Assumes nothing.
+use Prim.Native.Nat.{ℕ, _+_, _≤_, _<_}
+use mathlib.Core.Path.{_≡_, refl, sym, ap, _∙_, subst}
+use mathlib.Core.Logic.{⊎-elim}
+use mathlib.Core.Bool.{true, false, false≢true}
+use mathlib.Core.List.{List, [], _∷_, _++_, append-nil}
+use native.Mathlib.Omega.{arith}
+use lib.ListN.{length, take, drop, length-drop}
+use Rattle.lists.specs.LittleEndian.{leAt}
+use Rattle.lists.proofs.TestLaws.{by-test, cond-true, cond-false}
+use Rattle.records.specs.declared.Reader.the-variants as reader
+use Rattle.records.specs.Read.{cutShort, usedOf}
+use Rattle.records.specs.Number.{slotsFull}
+use Rattle.records.specs.Message.{Message, messageKind, encode, encodeAll, readAs}
+use Rattle.records.specs.Message as message
+use Rattle.records.specs.Write.{ackRecord}
+use Rattle.records.proofs.MessageLaws.{length-message, used-message}
+use Rattle.records.proofs.ReadLaws.{for-test, record-ge}
+use Rattle.records.proofs.WriteLaws.{ack-written}
+use Rattle.settings.specs.declared.Settings.{Settings}
+use Rattle.rules.specs.StandbyState.{isReceiving}
+use Rattle.rules.specs.Judge.{recordRefusal}
+use Rattle.rules.specs.World.{World}
+use Rattle.rules.specs.World as call
+use Rattle.rules.specs.Step.{Stepped, step}
+use Rattle.runs.specs.Progress.{wholeRecord, readNumber}
+use Rattle.runs.proofs.Effects.{All, Readable}
+use Rattle.runs.proofs.Invariant.{StandbyKept}
+use Rattle.runs.proofs.KeptLaws.{standby-u}
+use Rattle.runs.proofs.RecordSteps.{readBy, read-step}
+use Rattle.runs.proofs.ReadStep.{ReadFound, short, next, next-inside, read-off, read-found}
+use Rattle.runs.proofs.ReadCommit.{acks-more}
+use Rattle.runs.proofs.Walk.{Counts, countsOf, blocksOnly, Asked, counted, Walk}
+use Rattle.runs.proofs.AskedLaws.{kindNumber, asked-number, asked-full}
+use Rattle.runs.proofs.Pending.{View, viewOf, Leads, Trail, Pending, KeepsPending}
+
+-- ---- the view after a record: a COMMIT writes an ACK
+abbrev written : Message → List ℕ
+written (message.page e p bs) = []
+written (message.block e n bs) = []
+written (message.state e bs) = []
+written (message.commit e p b) = ackRecord e
+written (message.ack e) = []
+
+-- with these counts, so many bytes used and these ACKs more
+abbrev used : View → Counts → ℕ → List ℕ → View
+used v c n acks = record { sender = v .sender; receiver = record { receiving = v .receiver .receiving; counts = c }; link = drop n (v .link); acks = v .acks ++ acks }
+
+abbrev taken : View → Message → View
+taken v x = used v (counted (v .receiver .counts) x) (length (encode x)) (written x)
+
+module _ (w : World) (bytes reply : List ℕ) where
+  abbrev unit : ℕ
+  unit = w .standby .state .settings .u
+
+  -- the bytes used are the record's own
+  used-own : (c : Counts) (acks : List ℕ) (x : Message) → message.Fits unit x → used (viewOf w) c (usedOf (readAs unit x)) acks ≡ used (viewOf w) c (length (encode x)) acks
+  used-own c acks x f = ap (λ (n : ℕ). used (viewOf w) c n acks) (used-message unit x f)
+
+  taken-view : (x : Message) → Readable unit x → viewOf (readBy w bytes reply (readAs unit x) .next) ≡ taken (viewOf w) x
+  taken-view (message.page e p bs) f = used-own _ [] (message.page e p bs) (f .0)
+  taken-view (message.block e n bs) f = used-own _ [] (message.block e n bs) (f .0)
+  taken-view (message.state e bs) f = used-own _ [] (message.state e bs) (f .0)
+  taken-view (message.commit e p b) f =
+      let x = message.commit e p b in
+      ap (used (viewOf w) (blocksOnly (e + 1) 0) (usedOf (readAs unit x))) (ack-written unit e reply) ∙ used-own (blocksOnly (e + 1) 0) (ackRecord e) x (f .0)
+  taken-view (message.ack e) f = absurd (false≢true (f .1))
+
+-- ---- the ACKs with one more, of the epoch asked for
+leads-more : (a e asked : ℕ) (es : List ℕ) → e ≡ asked → Leads a asked es → Leads a (e + 1) (es ++ (e ∷ []))
+leads-more a e asked [] same h = (omega arith, refl)
+leads-more a e asked (x ∷ es) same h = (h .0, leads-more x e asked es same (h .1))
+
+-- or none
+trail-none : (acks : List ℕ) (a asked : ℕ) → Trail acks a asked → Trail (acks ++ []) a asked
+trail-none acks a asked t = rw append-nil t
+
+trail-taken : (g : Settings) (acks : List ℕ) (a : ℕ) (c : Counts) (x : Message) → Asked g c x → Trail acks a (c .epoch) → Trail (acks ++ written x) a (counted c x .epoch)
+trail-taken g acks a c (message.page e p bs) f t = trail-none acks a (c .epoch) t
+trail-taken g acks a c (message.block e n bs) f t = trail-none acks a (c .epoch) t
+trail-taken g acks a c (message.state e bs) f t = trail-none acks a (c .epoch) t
+trail-taken g acks a c (message.commit e p b) f t =
+    record {
+      epochs = t .epochs ++ (e ∷ []);
+      are = ap (λ (l : List ℕ). l ++ ackRecord e) (t .are) ∙ sym (acks-more (t .epochs) e);
+      leads = leads-more a e (c .epoch) (t .epochs) (f .0) (t .leads);
+    }
+trail-taken g acks a c (message.ack e) f t = absurd f
+
+-- every record has a byte
+pub some-bytes : (u : ℕ) (x : Message) → Readable u x → 0 < length (encode x)
+some-bytes u x f = omega (arith, length-message u x (f .0), record-ge u (messageKind x) (for-test reader.Standby (messageKind x) (f .1)))
+
+-- ---- a standby that receives
+module _ (g : Settings) (w : World) (k : StandbyKept g (w .standby)) (p : Pending g (viewOf w)) (on : isReceiving (w .standby .state .mode) ≡ true) (n : ℕ) (reply : List ℕ) where
+  abbrev rest : List ℕ
+  rest = take (w .primary .state .waiting) (w .primary .stream) ++ p .lost
+
+  found : ReadFound g w k n reply (p .pending) rest
+  found = read-found g w k n reply on (p .pending) rest (p .readable) (p .bytes)
+
+  walk : (x : Message) (xs : List Message) → p .pending ≡ x ∷ xs → Walk g (countsOf (w .standby .state)) (x ∷ xs) (blocksOnly (w .primary .state .epoch) (w .primary .state .blocks))
+  walk x xs first = rw first at (p .walk on)
+
+  -- a whole record's number is by its kind
+  whole-number : (x : Message) → wholeRecord (take n (w .link)) ≡ true → leAt 2 (take n (w .link)) 2 ≡ messageKind x
+      → readNumber g w n reply ≡ kindNumber g (w .standby .state .slots .staged) (length reply) (messageKind x)
+  whole-number x whole kind = cond-true (wholeRecord (take n (w .link))) _ cutShort whole ∙ ap (kindNumber g (w .standby .state .slots .staged) (length reply)) kind
+
+  short-number : wholeRecord (take n (w .link)) ≡ false → readNumber g w n reply ≡ cutShort
+  short-number s = cond-false (wholeRecord (take n (w .link))) _ cutShort s
+
+  -- the number of what is judged
+  refused-as : (x : Message) (xs : List Message) → p .pending ≡ x ∷ xs
+      → recordRefusal (w .standby .state) (length reply) (readAs (w .standby .state .settings .u) x) ≡ kindNumber g (w .standby .state .slots .staged) (length reply) (messageKind x)
+  refused-as x xs first = asked-number g (w .standby .state) (k .settings) (k .reached .pagesBelow) (length reply) x (walk x xs first .0)
+
+  number-by : ReadFound g w k n reply (p .pending) rest → step w (call.read n reply) .outcome .number ≡ readNumber g w n reply
+  number-by (short s z) = z ∙ sym (short-number s)
+  number-by (next x xs f z seen) = z ∙ refused-as x xs (f .first) ∙ sym (whole-number x (f .whole) (f .kind))
+
+  pub read-number : step w (call.read n reply) .outcome .number ≡ readNumber g w n reply
+  read-number = number-by found
+
+  -- 17
+  full-by : ReadFound g w k n reply (p .pending) rest → readNumber g w n reply ≡ slotsFull → (g .s ≤ w .standby .state .slots .staged) × (w .standby .state .blocks < g .b)
+  full-by (short s z) e = absurd (omega (arith, short-number s))
+  full-by (next x xs f z seen) e =
+      asked-full g (w .standby .state) (k .settings) (k .reached .pagesBelow) (length reply) x (walk x xs (f .first) .0) (sym (whole-number x (f .whole) (f .kind)) ∙ e)
+
+  pub read-full : readNumber g w n reply ≡ slotsFull → (g .s ≤ w .standby .state .slots .staged) × (w .standby .state .blocks < g .b)
+  read-full e = full-by found e
+
+  -- an accepted one keeps the invariant, and leaves fewer bytes on the link
+  abbrev Kept : View → Type 0
+  Kept v = Pending g v × (length (v .link) < length (w .link))
+
+  pending-taken : (x : Message) (xs : List Message) → p .pending ≡ x ∷ xs → length (encode x) ≤ length (w .link) → drop (length (encode x)) (w .link) ++ rest ≡ encodeAll xs → Kept (taken (viewOf w) x)
+  pending-taken x xs first inside behind =
+      let readable : All (Readable (g .u)) (x ∷ xs) = rw first at (p .readable) in
+      let asked = walk x xs first in (
+        record {
+          pending = xs;
+          lost = p .lost;
+          bytes = behind;
+          lossless = p .lossless;
+          readable = readable .1;
+          walk = λ z. asked .1;
+          trail = trail-taken g (w .acks) (w .primary .state .acknowledged) (countsOf (w .standby .state)) x (asked .0) (p .trail);
+        },
+        simp length-drop (omega (arith, some-bytes (g .u) x (readable .0))),
+      )
+
+  accepted-by : step w (call.read n reply) .outcome .number ≡ 0 → ReadFound g w k n reply (p .pending) rest → Kept (viewOf (step w (call.read n reply) .next))
+  accepted-by e (short s z) = absurd (omega arith)
+  accepted-by e (next x xs f z seen) =
+      let u = w .standby .state .settings .u in
+      let readable : All (Readable (g .u)) (x ∷ xs) = rw (f .first) at (p .readable) in
+      let fits : Readable u x = subst (λ (v : ℕ). Readable v x) (sym (standby-u g (w .standby) k)) (readable .0) in
+      subst Kept
+      (sym (ap (λ (t : Stepped). viewOf (t .next)) (read-step w n reply ∙ ap (readBy w (take n (w .link)) reply) (seen e)) ∙ taken-view w (take n (w .link)) reply x fits))
+      (pending-taken x xs (f .first) (next-inside (p .pending) (w .link) rest n x xs f) (f .behind))
+
+  pub read-kept : step w (call.read n reply) .outcome .number ≡ 0 → Pending g (viewOf (step w (call.read n reply) .next)) × (length (step w (call.read n reply) .next .link) < length (w .link))
+  read-kept e = accepted-by e found
+
+pub read-pending : (g : Settings) (n : ℕ) (reply : List ℕ) → KeepsPending g (call.read n reply)
+read-pending g n reply b i e p =
+    let k = i .holds .standbyKept in
+    ⊎-elim
+    (λ (on : isReceiving (b .world .standby .state .mode) ≡ true). read-kept g (b .world) k p on n reply e .0)
+    (λ (off : isReceiving (b .world .standby .state .mode) ≡ false). absurd (omega (arith, read-off g (b .world) k n reply off)))
+    (by-test (isReceiving (b .world .standby .state .mode)))
