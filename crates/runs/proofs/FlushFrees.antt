@@ -1,11 +1,12 @@
 -- A read waits for a slot only until a flush of one block or more. Assumes nothing.
-use Prim.Native.Nat.{ℕ, _-_, _<_}
+use Prim.Native.Nat.{ℕ, _-_, _≤_, _<_}
 use mathlib.Core.Path.{_≡_, refl, sym, ap, _∙_}
-use mathlib.Core.Bool.{Bool, true, false, _||_, not}
+use mathlib.Core.Bool.{Bool, true, false, _||_, not, or-true}
 use mathlib.Core.List.{List, [], _∷_}
 use native.Mathlib.Omega.{arith}
 use lib.Dec.{leb, ltb}
 use lib.ListN.{length, take}
+use borrow.Author.Tests.{le-leb}
 use Rattle.lists.specs.Refusal.{test, refusal}
 use Rattle.records.specs.Kind.{BLOCK, COMMIT, ACK, recordLength}
 use Rattle.records.specs.Read.{cutShort}
@@ -46,6 +47,9 @@ accepted-tests whole room false w r f = absurd (f (rw (w, r)))
 
 pub read-accepts : (g : Settings) (w : World) (n : ℕ) (reply : List ℕ) → wholeRecord (take n (w .link)) ≡ true → roomFor g w n reply ≡ true → (readNumber g w n reply ≡ slotsFull → ⊥) → readNumber g w n reply ≡ 0
 read-accepts g w n reply = accepted-tests (wholeRecord (take n (w .link))) (roomFor g w n reply) (not (isOfKind BLOCK (take n (w .link))) || ltb (w .standby .state .slots .staged) (g .s))
+
+pub room-enough : (g : Settings) (w : World) (n : ℕ) (reply : List ℕ) → recordLength (g .u) ACK ≤ length reply → roomFor g w n reply ≡ true
+room-enough g w n reply room = rw (le-leb (recordLength (g .u) ACK) (length reply) room) (or-true (not (isOfKind COMMIT (take n (w .link)))))
 
 module _ (g : Settings) (b : Both) (a : Agree g b) where
   -- every flush is accepted

@@ -32,6 +32,13 @@ module _ (g : Settings) (p : PrimaryEnd) (k : PrimaryKept g p) where
   pub primary-d : p .state .settings .d ≡ g .d
   primary-d = ap (λ (x : PrimarySettings). x .d) (k .settings)
 
+  -- "Lent lengths are exact", in the state's own settings
+  pub lent-held : length (p .held) ≡ p .state .settings .q
+  lent-held = k .held ∙ ap (λ (x : PrimarySettings). x .q) (sym (k .settings))
+
+  pub lent-stream : length (p .stream) ≡ p .state .settings .l
+  lent-stream = k .stream ∙ ap (λ (x : PrimarySettings). x .l) (sym (k .settings))
+
   pub primary-settings : PrimarySettingsFacts (ofPrimary g)
   primary-settings = subst PrimarySettingsFacts (k .settings) (primary-facts (p .state) (k .reached .inRange) .settings)
 

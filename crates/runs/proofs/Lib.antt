@@ -57,3 +57,6 @@ pub mod PendingRead
 pub mod PendingAck
 pub mod FlushFrees
 pub mod ProgressProved
+pub mod TakesLaws
+pub mod DriveLaws
+pub mod CatchUpProved

@@ -1,28 +1,32 @@
 -- An ACK call under the second invariant: its number, and that an accepted one keeps the invariant. Assumes nothing.
-use Prim.Native.Nat.{ℕ, _+_, _<_, _^_}
-use mathlib.Core.Path.{_≡_, refl, sym, _∙_, subst}
+use Prim.Native.Nat.{ℕ, _+_, _≤_, _<_, _^_}
+use mathlib.Core.Path.{_≡_, refl, sym, ap, _∙_, subst}
 use mathlib.Core.Logic.{⊎-elim}
 use mathlib.Core.Bool.{true, false}
-use mathlib.Core.List.{List, [], _∷_}
+use mathlib.Core.List.{List, [], _∷_, _++_, map}
 use native.Mathlib.Omega.{arith}
 use lib.ListN.{length, take, drop}
 use borrow.Author.Tests.{lt-ltb}
 use Rattle.lists.proofs.TestLaws.{by-test, join, accepts, cond-true, cond-false}
 use Rattle.records.specs.Read.{cutShort}
-use Rattle.records.specs.Message.{encode, readAs}
+use Rattle.records.specs.declared.Reader.the-variants as reader
+use Rattle.records.specs.Kind.{ACK, recordLength}
+use Rattle.records.specs.Message.{encode, encodeAll, readAs}
 use Rattle.records.specs.Message as message
-use Rattle.records.proofs.MessageLaws.{used-message}
+use Rattle.records.proofs.MessageLaws.{length-message, used-message}
 use Rattle.settings.specs.declared.Settings.{Settings}
+use Rattle.settings.proofs.RangeLaws.{shared-unit}
 use Rattle.rules.specs.PrimaryState.{protected}
 use Rattle.rules.specs.Stream.{ackTests, ackRefusal}
 use Rattle.rules.specs.World as call
 use Rattle.rules.specs.Step.{Stepped, step}
+use Rattle.rules.proofs.PrimaryFacts.{primary-facts}
 use Rattle.runs.specs.Run.{Both}
 use Rattle.runs.specs.Progress.{wholeRecord, ackNumber}
 use Rattle.runs.proofs.Invariant.{Rising, Inv}
 use Rattle.runs.proofs.Conclusions.{received-exists, rising-le}
 use Rattle.runs.proofs.RecordSteps.{ackSeen, ackBy, ack-step}
-use Rattle.runs.proofs.ReadStep.{AckFound, short, next, ack-off, ack-found}
+use Rattle.runs.proofs.ReadStep.{AckFound, short, next, whole-given, ack-off, ack-found}
 use Rattle.runs.proofs.Ack.{acks-readable, r-low}
 use Rattle.runs.proofs.Pending.{View, viewOf, Leads, Pending, KeepsPending, pending-acked}
 
@@ -38,12 +42,16 @@ module _ (g : Settings) (b : Both) (i : Inv g b) (p : Pending g (viewOf (b .worl
   rising : (es : List ℕ) → p .trail .epochs ≡ es → Rising (b .world .primary .state .acknowledged) (b .world .standby .state .received) es
   rising es same = leads-rising _ _ es (rw same at (p .trail .leads))
 
+  -- their epochs fit
+  low : (e : ℕ) (es : List ℕ) → p .trail .epochs ≡ e ∷ es → e < 2 ^ 32
+  low e es same = omega (arith, rising-le e (b .world .standby .state .received) es (rising (e ∷ es) same .1), r-low g b i, i .holds .taker .receivedIs)
+
   found : AckFound (b .world) n (p .trail .epochs)
   found =
       let s = b .world .primary .state in
       let r = b .world .standby .state .received in
-      let low : r < 2 ^ 32 = omega (arith, r-low g b i, i .holds .taker .receivedIs) in
-      ack-found (b .world) (i .holds .primaryKept .reached) n on (p .trail .epochs) (acks-readable (s .settings .u) (s .acknowledged) r (p .trail .epochs) low (rising (p .trail .epochs) refl)) (p .trail .are)
+      let fits : r < 2 ^ 32 = omega (arith, r-low g b i, i .holds .taker .receivedIs) in
+      ack-found (b .world) (i .holds .primaryKept .reached) n on (p .trail .epochs) (acks-readable (s .settings .u) (s .acknowledged) r (p .trail .epochs) fits (rising (p .trail .epochs) refl)) (p .trail .are)
 
   -- the oldest is above the acknowledged and below the open epoch, and so accepted
   oldest-accepts : (e : ℕ) (es : List ℕ) → p .trail .epochs ≡ e ∷ es → ackRefusal (b .world .primary .state) (readAs u (message.ack e)) ≡ 0
@@ -60,6 +68,17 @@ module _ (g : Settings) (b : Both) (i : Inv g b) (p : Pending g (viewOf (b .worl
   pub ack-number : step (b .world) (call.ack n) .outcome .number ≡ ackNumber (b .world) n
   ack-number = number-by found
 
+  -- where one is under way, and enough bytes are given, it is accepted
+  pub oldest-made : (e : ℕ) (es : List ℕ) → p .trail .epochs ≡ e ∷ es → recordLength (g .u) ACK ≤ n → step (b .world) (call.ack n) .outcome .number ≡ 0
+  oldest-made e es same long =
+      let x = message.ack e in
+      let fits = low e es same in
+      let is : b .world .acks ≡ encode x ++ encodeAll (map message.ack es) = p .trail .are ∙ ap (λ (l : List ℕ). encodeAll (map message.ack l)) same in
+      let ok = shared-unit (primary-facts (b .world .primary .state) (i .holds .primaryKept .reached .inRange) .settings .shared) in
+      let whole : wholeRecord (take n (b .world .acks)) ≡ true
+      = ap (λ (l : List ℕ). wholeRecord (take n l)) is ∙ whole-given reader.Primary u ok n x (encodeAll (map message.ack es)) (fits, refl) (omega (arith, length-message (g .u) x fits)) in
+      ack-number ∙ cond-true (wholeRecord (take n (b .world .acks))) 0 cutShort whole
+
   -- an accepted one keeps the invariant, and raises the acknowledged epoch
   abbrev Kept : View → Type 0
   Kept v = Pending g v × (b .world .primary .state .acknowledged < v .sender .acknowledged)
@@ -70,9 +89,7 @@ module _ (g : Settings) (b : Both) (i : Inv g b) (p : Pending g (viewOf (b .worl
       let w = b .world in
       let x = message.ack e in
       let leads : Leads (w .primary .state .acknowledged) (w .standby .state .received + 1) (e ∷ es) = rw same at (p .trail .leads) in
-      let r = rising (e ∷ es) same in
-      let low : e < 2 ^ 32 = omega (arith, rising-le e (w .standby .state .received) es (r .1), r-low g b i, i .holds .taker .receivedIs) in
-      rw (seen accepted, used-message u x low)
+      rw (seen accepted, used-message u x (low e es same))
       (pending-acked g (viewOf w) p e (drop (length (encode x)) (w .acks)) (record { epochs = es; are = bytes; leads = leads .1 }), leads .0)
 
   pub ack-kept : step (b .world) (call.ack n) .outcome .number ≡ 0

@@ -16,6 +16,7 @@ use Rattle.records.specs.Read.{readRecord, kindOf, cutShort}
 use Rattle.records.specs.Read as records
 use Rattle.records.specs.Message.{Message, messageKind, encode, encodeAll, readAs}
 use Rattle.records.specs.Message as message
+use Rattle.records.proofs.MessageLaws.{whole-message}
 use Rattle.settings.specs.declared.Settings.{Settings}
 use Rattle.settings.proofs.RangeLaws.{shared-unit}
 use Rattle.rules.specs.declared.ReadLent.{ReadLent}
@@ -79,6 +80,11 @@ module _ (reader : Reader) (u : ℕ) (refuse : Record → ℕ) (pending : List M
       let t = tells reader u bytes .found (ap records.numberOf z ∙ back .0) in
       let m : number ≡ refuse r = is ∙ ap (λ (y : Record). numberOf (answerOf y)) (judged r z) ∙ message-number u (refuse r) x in
       next x xs (record { first = q; whole = t .0; kind = t .1 ∙ ap kindOf z ∙ back .2; begins = begins; behind = behind }) m (λ e. judged r z ∙ unless-accepted (refuse r) r (sym m ∙ e))
+
+-- bytes that begin with a record that is readable, enough of them
+pub whole-given : (reader : Reader) (u : ℕ) → unitOk u ≡ true → (n : ℕ) (x : Message) (rest : List ℕ) → ReadableBy reader u x → length (encode x) ≤ n → wholeRecord (take n (encode x ++ rest)) ≡ true
+whole-given reader u ok n x rest f long =
+    tells reader u (take n (encode x ++ rest)) .found (ap records.numberOf (whole-message reader u ok x (f .0) (f .1) n rest long) ∙ read-back u x .0) .0
 
 -- the next record lies in what is unread
 pub next-inside : (pending : List Message) (unread rest : List ℕ) (n : ℕ) (x : Message) (xs : List Message) → Next pending unread rest (take n unread) x xs → length (encode x) ≤ length unread

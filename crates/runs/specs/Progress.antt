@@ -1,17 +1,22 @@
 -- Progress: the two ends never disagree on what was sent. Demand 3 alone is true of ends that do: the standby would refuse for ever, and nothing would be
--- lost. After every list of calls the standby accepts the primary's next record, and the primary the next ACK, once it is given whole. Assumes nothing.
-use Prim.Native.Nat.{ℕ, _+_, _<_}
+-- lost. After every list of calls the standby accepts the primary's next record, and the primary the next ACK, once it is given whole; and with nothing
+-- more written the two catch up. Assumes nothing.
+use Prim.Native.Nat.{ℕ, zero, suc, _+_, _≤_, _<_, min}
 use mathlib.Core.Path.{_≡_}
-use mathlib.Core.Bool.{Bool, true, false, _&&_, _||_, not}
-use mathlib.Core.List.{List, [], _∷_}
+use mathlib.Core.Bool.{Bool, true, false, cond, _&&_, _||_, not}
+use mathlib.Core.List.{List, [], _∷_, _++_}
 use lib.Dec.{leb, ltb, eqb}
-use lib.ListN.{length, take}
+use lib.ListN.{length, take, replicate}
 use Rattle.lists.specs.LittleEndian.{leAt}
 use Rattle.lists.specs.Refusal.{Test, test, refusal}
-use Rattle.records.specs.Kind.{BLOCK, COMMIT, ACK, headerLength, recordLength}
+use Rattle.records.specs.Kind.{PAGE, BLOCK, COMMIT, ACK, headerLength, recordLength}
 use Rattle.records.specs.Read.{cutShort}
 use Rattle.records.specs.Number.{noRoom, slotsFull}
 use Rattle.settings.specs.declared.Settings.{Settings}
+use Rattle.settings.specs.Range.{mostPacketBytes}
+use Rattle.queue.specs.declared.Packet.{Packet}
+use Rattle.queue.specs.Held.{heldPackets}
+use Rattle.rules.specs.declared.Primary.{Primary}
 use Rattle.rules.specs.StandbyState.{isReceiving}
 use Rattle.rules.specs.World.{World, Processor, Call, Buffers}
 use Rattle.rules.specs.World as call
@@ -70,3 +75,62 @@ ProgressOf κ =
 
 abbrev pub Progress : Type 0
 Progress = ProgressOf steps
+
+-- ---- catching up: one drain of all that waits, rounds of a flush and a read, and ACK calls. The arguments of these calls
+pub record Drive : Type 0 where
+  pub drained : ℕ
+  pub destination : List ℕ
+  -- how many rounds; in each the flush's budget, the bytes given to the read, and its reply
+  pub turns : ℕ
+  pub budget : ℕ
+  pub given : ℕ
+  pub reply : List ℕ
+  -- how many ACK calls, and the bytes given to each
+  pub ackTurns : ℕ
+  pub ackGiven : ℕ
+
+abbrev pub rounds : ℕ → ℕ → ℕ → List ℕ → List Call
+rounds zero budget given reply = []
+rounds (suc k) budget given reply = call.flush budget ∷ (call.read given reply ∷ rounds k budget given reply)
+
+abbrev pub driveCalls : Drive → List Call
+driveCalls d = call.drain (d .drained) (d .destination) ∷ (rounds (d .turns) (d .budget) (d .given) (d .reply) ++ replicate (d .ackTurns) (call.ack (d .ackGiven)))
+
+-- they may be any that are enough at a world
+pub record Enough (g : Settings) (w : World) (d : Drive) : Type 0 where
+  -- the drain is of all that waits
+  pub drain : w .primary .state .waiting ≤ min (d .drained) (length (d .destination))
+  -- there are as many rounds as bytes to read; each flushes a block, is given a whole record, and has room for the ACK
+  pub turns : length (w .link) + w .primary .state .waiting ≤ d .turns
+  pub flush : 0 < d .budget
+  pub read : recordLength (g .u) PAGE ≤ d .given
+  pub room : recordLength (g .u) ACK ≤ length (d .reply)
+  -- there are as many ACK calls as closed epochs are not acknowledged; each is given a whole ACK
+  pub ackTurns : w .primary .state .epoch ≤ w .primary .state .acknowledged + 1 + d .ackTurns
+  pub ack : recordLength (g .u) ACK ≤ d .ackGiven
+
+-- how many of these packets are of an epoch before this one, and how many of those held are of a closed one
+abbrev pub packetsBefore : ℕ → List Packet → ℕ
+packetsBefore epoch [] = 0
+packetsBefore epoch (p ∷ ps) = let n = packetsBefore epoch ps in cond (ltb (p .epoch) epoch) (suc n) n
+
+abbrev pub closedPackets : Primary → ℕ
+closedPackets p = packetsBefore (p .epoch) (heldPackets (p .queue))
+
+-- the last closed epoch, which is the one before the open one, is received and acknowledged; so every packet of a closed epoch can then be taken
+pub record CaughtUp (κ : Steps) (before after : World) : Type 0 where
+  pub received : after .standby .state .received + 1 ≡ before .primary .state .epoch
+  pub acknowledged : after .primary .state .acknowledged + 1 ≡ before .primary .state .epoch
+  pub takes : (destination : List ℕ) → mostPacketBytes ≤ length destination → AllAccepted κ after (replicate (closedPackets (before .primary .state)) (call.take destination))
+
+-- after every accepted start and list of calls, at every cut, where the primary is protected and the standby receives
+abbrev pub CatchUpOf : Steps → Type 0
+CatchUpOf κ =
+    AfterStart (λ (g : Settings) (processor : Processor) (buffers : Buffers).
+    (calls : List Call) (cut : Cut) →
+    let b = run κ (g .u) (startBoth g processor buffers) (countedCalls cut calls) in
+    b .world .primary .state .alone ≡ false → isReceiving (b .world .standby .state .mode) ≡ true
+    → (d : Drive) → Enough g (b .world) d → CaughtUp κ (b .world) (run κ (g .u) b (driveCalls d) .world))
+
+abbrev pub CatchUp : Type 0
+CatchUp = CatchUpOf steps
