@@ -60,3 +60,4 @@ pub mod ProgressProved
 pub mod TakesLaws
 pub mod DriveLaws
 pub mod CatchUpProved
+pub mod ProgressRefutes

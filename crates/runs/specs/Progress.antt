@@ -20,7 +20,7 @@ use Rattle.rules.specs.declared.Primary.{Primary}
 use Rattle.rules.specs.StandbyState.{isReceiving}
 use Rattle.rules.specs.World.{World, Processor, Call, Buffers}
 use Rattle.rules.specs.World as call
-use Rattle.runs.specs.Run.{Steps, steps, run, startBoth}
+use Rattle.runs.specs.Run.{Both, Steps, steps, run, startBoth}
 use Rattle.runs.specs.Cut.{Cut, countedCalls}
 use Rattle.runs.specs.Demand3.{AllAccepted}
 use Rattle.runs.specs.Corollaries.{AfterStart}
@@ -123,14 +123,17 @@ pub record CaughtUp (κ : Steps) (before after : World) : Type 0 where
   pub acknowledged : after .primary .state .acknowledged + 1 ≡ before .primary .state .epoch
   pub takes : (destination : List ℕ) → mostPacketBytes ≤ length destination → AllAccepted κ after (replicate (closedPackets (before .primary .state)) (call.take destination))
 
--- after every accepted start and list of calls, at every cut, where the primary is protected and the standby receives
+-- where the primary is protected and the standby receives, every drive that is enough leads there
+abbrev pub CatchesUp : Steps → Settings → Both → Type 0
+CatchesUp κ g b =
+    b .world .primary .state .alone ≡ false → isReceiving (b .world .standby .state .mode) ≡ true
+    → (d : Drive) → Enough g (b .world) d → CaughtUp κ (b .world) (run κ (g .u) b (driveCalls d) .world)
+
+-- after every accepted start and every list of calls, wherever the pair is cut
 abbrev pub CatchUpOf : Steps → Type 0
 CatchUpOf κ =
     AfterStart (λ (g : Settings) (processor : Processor) (buffers : Buffers).
-    (calls : List Call) (cut : Cut) →
-    let b = run κ (g .u) (startBoth g processor buffers) (countedCalls cut calls) in
-    b .world .primary .state .alone ≡ false → isReceiving (b .world .standby .state .mode) ≡ true
-    → (d : Drive) → Enough g (b .world) d → CaughtUp κ (b .world) (run κ (g .u) b (driveCalls d) .world))
+    (calls : List Call) (cut : Cut) → CatchesUp κ g (run κ (g .u) (startBoth g processor buffers) (countedCalls cut calls)))
 
 abbrev pub CatchUp : Type 0
 CatchUp = CatchUpOf steps
