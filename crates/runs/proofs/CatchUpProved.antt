@@ -1,175 +1,29 @@
--- Catching up is proved: each round of a flush and a read takes a record off the link, and each ACK call raises the acknowledged epoch. Assumes nothing.
-use Prim.Native.Nat.{ℕ, zero, suc, _+_, _-_, _≤_, _<_}
+-- Catching up is proved: a drive that is enough, from its drain to the takes that it makes possible. Assumes nothing.
+use Prim.Native.Nat.{ℕ, _+_, _-_}
 use mathlib.Core.Path.{_≡_, refl, sym, ap, ap₂, _∙_, subst}
-use mathlib.Core.Logic.{⊎-elim}
-use mathlib.Core.Bool.{true, false, not}
-use mathlib.Core.List.{List, [], _∷_, _++_, append-nil}
+use mathlib.Core.Bool.{true, false}
+use mathlib.Core.List.{[]}
 use native.Mathlib.Nat.{le-refl}
 use native.Mathlib.Omega.{arith}
-use lib.ListN.{length, take, replicate, length-append, length-replicate}
-use Rattle.lists.proofs.TestLaws.{eq-or-ne}
-use Rattle.records.specs.declared.Reader.the-variants as reader
-use Rattle.records.specs.Kind.{PAGE, ACK, bodyLength, recordLength}
-use Rattle.records.specs.Message.{Message, encode, encodeAll}
-use Rattle.records.specs.Message as message
-use Rattle.records.proofs.MessageLaws.{length-message}
+use lib.ListN.{length, replicate, length-replicate}
+use Rattle.records.specs.Kind.{PAGE, ACK, recordLength}
 use Rattle.settings.specs.declared.Settings.{Settings}
 use Rattle.queue.specs.declared.Queue.{Queue}
 use Rattle.queue.specs.Held.{heldPackets}
 use Rattle.rules.specs.StandbyState.{isReceiving}
-use Rattle.rules.specs.PrimaryState.{protected}
 use Rattle.rules.specs.World.{World, PrimaryEnd}
 use Rattle.rules.specs.World as call
-use Rattle.rules.specs.Step.{step}
-use Rattle.rules.proofs.PrimaryFacts.{primary-facts}
 use Rattle.runs.specs.Run.{Both, steps, runCall, run, startBoth}
 use Rattle.runs.specs.Cut.{countedCalls}
-use Rattle.runs.specs.Progress.{wholeRecord, rounds, Drive, Enough, packetsBefore, closedPackets, CaughtUp, CatchUp}
-use Rattle.runs.proofs.Effects.{All, Readable}
-use Rattle.runs.proofs.KeptLaws.{standby-settings, standby-unit}
-use Rattle.runs.proofs.Refused.{refused-world}
+use Rattle.runs.specs.Progress.{rounds, Drive, Enough, packetsBefore, closedPackets, CaughtUp, CatchesUp, CatchUp}
 use Rattle.runs.proofs.PlainLaws.{run-append}
-use Rattle.runs.proofs.ReadStep.{whole-given}
-use Rattle.runs.proofs.Walk.{Counts, countsOf, blocksOnly}
-use Rattle.runs.proofs.Pending.{View, Agree}
-use Rattle.runs.proofs.PendingRead.{some-bytes, read-kept}
-use Rattle.runs.proofs.PendingAck.{oldest-made, ack-kept}
-use Rattle.runs.proofs.FlushFrees.{room-enough, same-view, flush-agree, read-flushed}
+use Rattle.runs.proofs.Pending.{Agree}
 use Rattle.runs.proofs.ProgressProved.{call-agree, run-agree, start-agree}
 use Rattle.runs.proofs.TakesLaws.{takes-made}
-use Rattle.runs.proofs.DriveLaws.{Still, stillOf, read-still, read-primary, read-less, ack-still, ack-link, flush-still, flush-primary, drain-still, drain-link, drain-acknowledged}
+use Rattle.runs.proofs.Driven.{Driven, received-is, rounds-law, acks-law}
+use Rattle.runs.proofs.DriveLaws.{Still, drain-still, drain-link, drain-acknowledged}
 
--- no record is longer than a PAGE
-record-few : (u : ℕ) (x : Message) → 64 ≤ u → Readable u x → length (encode x) ≤ recordLength u PAGE
-unfolding recordLength bodyLength
-record-few u (message.page e p bs) h f = omega (arith, length-message u (message.page e p bs) (f .0))
-record-few u (message.block e n bs) h f = omega (arith, length-message u (message.block e n bs) (f .0))
-record-few u (message.state e bs) h f = omega (arith, length-message u (message.state e bs) (f .0))
-record-few u (message.commit e p b) h f = omega (arith, length-message u (message.commit e p b) (f .0))
-record-few u (message.ack e) h f = omega (arith, length-message u (message.ack e) (f .0))
-
-none-pending : (u : ℕ) (ms : List Message) → All (Readable u) ms → length (encodeAll ms) ≤ 0 → ms ≡ []
-none-pending u [] f h = refl
-none-pending u (x ∷ xs) f h = absurd (omega (arith, length-append (encode x) (encodeAll xs), some-bytes u x (f .0)))
-
--- ---- from the drain on: nothing waits, both ends take part, the open epoch and the packets stay
-module _ (g : Settings) (s : Still) (nothing : s .out ≡ []) (protects : s .alone ≡ false) (receives : s .receiving ≡ true) where
-  record Driven (b : Both) : Type 0 where
-    agree : Agree g b
-    still : stillOf (b .world) ≡ s
-
-  on : (b : Both) → Driven b → isReceiving (b .world .standby .state .mode) ≡ true
-  on b d = ap (λ (x : Still). x .receiving) (d .still) ∙ receives
-
-  -- the link is what is pending
-  link-is : (b : Both) (d : Driven b) → b .world .link ≡ encodeAll (d .agree .pending .pending)
-  link-is b d =
-      let p = d .agree .pending in
-      let out = ap (λ (x : Still). x .out) (d .still) ∙ nothing in
-      let alone = ap (λ (x : Still). x .alone) (d .still) ∙ protects in
-      sym (append-nil (b .world .link)) ∙ ap₂ (λ (x y : List ℕ). b .world .link ++ (x ++ y)) (sym out) (sym (p .lossless alone)) ∙ p .bytes
-
-  -- nothing is on the link: the last closed epoch is received
-  received-is : (b : Both) → Driven b → length (b .world .link) ≤ 0 → b .world .standby .state .received + 1 ≡ s .epoch
-  received-is b d l =
-      let p = d .agree .pending in
-      let none = none-pending (g .u) (p .pending) (p .readable) (omega (arith, ap length (link-is b d))) in
-      let walk : countsOf (b .world .standby .state) ≡ blocksOnly (b .world .primary .state .epoch) (b .world .primary .state .blocks) = rw none at (p .walk (on b d)) in
-      ap (λ (c : Counts). c .epoch) walk ∙ ap (λ (x : Still). x .epoch) (d .still)
-
-  -- ---- rounds
-  module _ (budget given : ℕ) (reply : List ℕ) (some : 0 < budget) (long : recordLength (g .u) PAGE ≤ given) (room : recordLength (g .u) ACK ≤ length reply) where
-    abbrev flushed : Both → Both
-    flushed b = runCall steps (g .u) b (call.flush budget)
-
-    abbrev roundOf : Both → Both
-    roundOf b = runCall steps (g .u) (flushed b) (call.read given reply)
-
-    -- a round leaves fewer bytes on the link, or none were there
-    shorter : (b : Both) (d : Driven b) (ms : List Message) → d .agree .pending .pending ≡ ms → length (roundOf b .world .link) ≤ length (b .world .link) - 1
-    shorter b d [] e =
-        let link = ap (λ (v : View). v .link) (same-view g b (d .agree) budget) in
-        omega (arith, read-less (flushed b .world) given reply, ap length link, ap length (link-is b d ∙ ap encodeAll e))
-    shorter b d (x ∷ xs) e =
-        let a = d .agree in
-        let k = a .inv .holds .standbyKept in
-        let is : b .world .link ≡ encode x ++ encodeAll xs = link-is b d ∙ ap encodeAll e in
-        let readable : All (Readable (g .u)) (x ∷ xs) = rw e at (a .pending .readable) in
-        let few = record-few (g .u) x (standby-settings g (b .world .standby) k .shared .u-low) (readable .0) in
-        let whole : wholeRecord (take given (b .world .link)) ≡ true
-        = ap (λ (l : List ℕ). wholeRecord (take given l)) is ∙ whole-given reader.Standby (g .u) (standby-unit g (b .world .standby) k) given x (encodeAll xs) (readable .0) (omega arith) in
-        let made = read-flushed g b a (on b d) given reply budget some whole (room-enough g (b .world) given reply room) in
-        let f = flush-agree g b a budget in
-        let on′ = ap (λ (x : Still). x .receiving) (flush-still g b a budget) ∙ on b d in
-        omega (arith, read-kept g (flushed b .world) (f .inv .holds .standbyKept) (f .pending) on′ given reply made .1, ap length (ap (λ (v : View). v .link) (same-view g b a budget)))
-
-    round-driven : (b : Both) → Driven b → Driven (roundOf b)
-    round-driven b d =
-        record {
-          agree = call-agree g (call.read given reply) (flushed b) (flush-agree g b (d .agree) budget);
-          still = read-still (flushed b .world) given reply ∙ flush-still g b (d .agree) budget ∙ d .still;
-        }
-
-    round-primary : (b : Both) → Driven b → roundOf b .world .primary ≡ b .world .primary
-    round-primary b d = read-primary (flushed b .world) given reply ∙ flush-primary g b (d .agree) budget
-
-    -- as many rounds as bytes leave none
-    record Rounds (b next : Both) : Type 0 where
-      driven : Driven next
-      primary : next .world .primary ≡ b .world .primary
-      none : length (next .world .link) ≤ 0
-
-    rounds-law : (k : ℕ) (b : Both) → Driven b → length (b .world .link) ≤ k → Rounds b (run steps (g .u) b (rounds k budget given reply))
-    rounds-law zero b d l = record { driven = d; primary = refl; none = l }
-    rounds-law (suc k) b d l =
-        let r = rounds-law k (roundOf b) (round-driven b d) (omega (arith, shorter b d (d .agree .pending .pending) refl)) in
-        record { driven = r .driven; primary = r .primary ∙ round-primary b d; none = r .none }
-
-  -- ---- ACK calls
-  module _ (given : ℕ) (long : recordLength (g .u) ACK ≤ given) where
-    abbrev acked : Both → Both
-    acked b = runCall steps (g .u) b (call.ack given)
-
-    acked-driven : (b : Both) → Driven b → Driven (acked b)
-    acked-driven b d = record { agree = call-agree g (call.ack given) b (d .agree); still = ack-still (b .world) given ∙ d .still }
-
-    -- an ACK call lowers the acknowledged epoch never, and raises it where an ACK is under way
-    module _ (b : Both) (d : Driven b) where
-      protected-is : protected (b .world .primary .state) ≡ true
-      protected-is = ap not (ap (λ (x : Still). x .alone) (d .still) ∙ protects)
-
-      raised : step (b .world) (call.ack given) .outcome .number ≡ 0 → b .world .primary .state .acknowledged < acked b .world .primary .state .acknowledged
-      raised made = ack-kept g b (d .agree .inv) (d .agree .pending) protected-is given made .1
-
-      not-lower : b .world .primary .state .acknowledged ≤ acked b .world .primary .state .acknowledged
-      not-lower =
-          ⊎-elim (λ made. let r = raised made in omega arith)
-          (λ (ne : step (b .world) (call.ack given) .outcome .number ≡ 0 → ⊥). omega (arith, ap (λ (w : World). w .primary .state .acknowledged) (refused-world (b .world) (call.ack given) ne)))
-          (eq-or-ne (step (b .world) (call.ack given) .outcome .number) 0)
-
-      nearer : length (b .world .link) ≤ 0 → (j : ℕ) → s .epoch ≤ b .world .primary .state .acknowledged + 1 + suc j → (es : List ℕ) → d .agree .pending .trail .epochs ≡ es
-          → s .epoch ≤ acked b .world .primary .state .acknowledged + 1 + j
-      nearer l j h [] e =
-          let last : b .world .primary .state .acknowledged + 1 ≡ b .world .standby .state .received + 1 = rw e at (d .agree .pending .trail .leads) in
-          omega (arith, not-lower, received-is b d l)
-      nearer l j h (x ∷ es) e = omega (arith, raised (oldest-made g b (d .agree .inv) (d .agree .pending) protected-is given x es e long))
-
-    record Acknowledged (next : Both) : Type 0 where
-      driven : Driven next
-      none : length (next .world .link) ≤ 0
-      last : next .world .primary .state .acknowledged + 1 ≡ s .epoch
-
-    acks-law : (j : ℕ) (b : Both) → Driven b → length (b .world .link) ≤ 0 → s .epoch ≤ b .world .primary .state .acknowledged + 1 + j
-        → Acknowledged (run steps (g .u) b (replicate j (call.ack given)))
-    acks-law zero b d l h =
-        let p = b .world .primary .state in
-        let below = primary-facts p (d .agree .inv .holds .primaryKept .reached .inRange) .acknowledged in
-        let epoch = ap (λ (x : Still). x .epoch) (d .still) in
-        record { driven = d; none = l; last = omega arith }
-    acks-law (suc j) b d l h =
-        acks-law j (acked b) (acked-driven b d) (omega (arith, ap length (ack-link (b .world) given))) (nearer b d l j h (d .agree .pending .trail .epochs) refl)
-
--- ---- the whole drive
+-- ---- the whole drive: drained, read, acknowledged
 module _ (g : Settings) (b : Both) (a : Agree g b) (alone : b .world .primary .state .alone ≡ false) (receives : isReceiving (b .world .standby .state .mode) ≡ true) (d : Drive) (e : Enough g (b .world) d) where
   abbrev drained : Both
   drained = runCall steps (g .u) b (call.drain (d .drained) (d .destination))
@@ -199,14 +53,18 @@ module _ (g : Settings) (b : Both) (a : Agree g b) (alone : b .world .primary .s
         takes = λ destination room. takes-made g destination room (closedPackets p) acknowledged (k .driven .agree .inv) (k .last ∙ sym epoch) (ap₂ (λ (m : ℕ) (q : Queue). packetsBefore m (heldPackets q)) epoch queue);
       }
 
+-- from any pair with both invariants
+pub catches-up : (g : Settings) (b : Both) → Agree g b → CatchesUp steps g b
+catches-up g b a alone receives d e =
+    subst (λ (x : Both). CaughtUp steps (b .world) (x .world))
+    (sym (run-append steps (g .u) (rounds (d .turns) (d .budget) (d .given) (d .reply)) (replicate (d .ackTurns) (call.ack (d .ackGiven))) (runCall steps (g .u) b (call.drain (d .drained) (d .destination)))))
+    (caught-up g b a alone receives d e)
+
 pub catch-up : CatchUp
-catch-up g processor buffers e calls cut alone receives d enough =
+catch-up g processor buffers e calls cut =
     let b = startBoth g processor buffers in
     let cs = countedCalls cut calls in
-    let c = run steps (g .u) b cs in
-    subst (λ (x : Both). CaughtUp steps (c .world) (x .world))
-    (sym (run-append steps (g .u) (rounds (d .turns) (d .budget) (d .given) (d .reply)) (replicate (d .ackTurns) (call.ack (d .ackGiven))) (runCall steps (g .u) c (call.drain (d .drained) (d .destination)))))
-    (caught-up g c (run-agree g cs b (start-agree g processor buffers e)) alone receives d enough)
+    catches-up g (run steps (g .u) b cs) (run-agree g cs b (start-agree g processor buffers e))
 
 -- ---- there is always a drive that is enough, the least
 abbrev pub leastDrive : Settings → World → Drive

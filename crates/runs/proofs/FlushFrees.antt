@@ -1,55 +1,28 @@
 -- A read waits for a slot only until a flush of one block or more. Assumes nothing.
-use Prim.Native.Nat.{ℕ, _-_, _≤_, _<_}
-use mathlib.Core.Path.{_≡_, refl, sym, ap, _∙_}
-use mathlib.Core.Bool.{Bool, true, false, _||_, not, or-true}
-use mathlib.Core.List.{List, [], _∷_}
+use Prim.Native.Nat.{ℕ, _-_, _<_}
+use mathlib.Core.Path.{_≡_, sym, ap, _∙_}
+use mathlib.Core.Bool.{true}
+use mathlib.Core.List.{List}
 use native.Mathlib.Omega.{arith}
-use lib.Dec.{leb, ltb}
 use lib.ListN.{length, take}
-use borrow.Author.Tests.{le-leb}
-use Rattle.lists.specs.Refusal.{test, refusal}
-use Rattle.records.specs.Kind.{BLOCK, COMMIT, ACK, recordLength}
-use Rattle.records.specs.Read.{cutShort}
-use Rattle.records.specs.Number.{noRoom, slotsFull}
+use Rattle.records.specs.Number.{slotsFull}
 use Rattle.settings.specs.declared.Settings.{Settings}
 use Rattle.settings.specs.declared.StandbySettings.{StandbySettings}
 use Rattle.staging.specs.Slot.{flushCount, flushed}
 use Rattle.rules.specs.StandbyState.{isReceiving}
 use Rattle.rules.specs.Flush.{flushReply}
-use Rattle.rules.specs.World.{World}
 use Rattle.rules.specs.World as call
 use Rattle.rules.specs.Step.{step}
 use Rattle.rules.proofs.FlushLaws.{flush-accepts}
 use Rattle.rules.proofs.StandbyFacts.{standby-facts}
 use Rattle.runs.specs.Run.{Both, steps, runCall}
-use Rattle.runs.specs.Progress.{wholeRecord, isOfKind, readNumber, WaitsForFlush}
+use Rattle.runs.specs.Progress.{wholeRecord, readNumber, WaitsForFlush}
+use Rattle.runs.proofs.ReadTests.{roomFor, read-waits, read-accepts}
 use Rattle.runs.proofs.KeptLaws.{lent-disk, lent-blocks, standby-settings}
 use Rattle.runs.proofs.Flush as flush
 use Rattle.runs.proofs.Pending.{View, viewOf, Agree}
 use Rattle.runs.proofs.PendingCalls.{flush-pending}
 use Rattle.runs.proofs.PendingRead.{read-number, read-full}
-
--- ---- the tests of a read: 17 says that the first two hold, and these leave only 17
-abbrev pub roomFor : Settings → World → ℕ → List ℕ → Bool
-roomFor g w n reply = not (isOfKind COMMIT (take n (w .link))) || leb (recordLength (g .u) ACK) (length reply)
-
-abbrev number : Bool → Bool → Bool → ℕ
-number whole room slot = refusal (test cutShort whole ∷ test noRoom room ∷ test slotsFull slot ∷ [])
-
-full-tests : (whole room slot : Bool) → number whole room slot ≡ slotsFull → (whole ≡ true) × (room ≡ true)
-full-tests false room slot e = absurd (omega arith)
-full-tests true false slot e = absurd (omega arith)
-full-tests true true slot e = (refl, refl)
-
-accepted-tests : (whole room slot : Bool) → whole ≡ true → room ≡ true → (number whole room slot ≡ slotsFull → ⊥) → number whole room slot ≡ 0
-accepted-tests whole room true w r f = rw (w, r)
-accepted-tests whole room false w r f = absurd (f (rw (w, r)))
-
-pub read-accepts : (g : Settings) (w : World) (n : ℕ) (reply : List ℕ) → wholeRecord (take n (w .link)) ≡ true → roomFor g w n reply ≡ true → (readNumber g w n reply ≡ slotsFull → ⊥) → readNumber g w n reply ≡ 0
-read-accepts g w n reply = accepted-tests (wholeRecord (take n (w .link))) (roomFor g w n reply) (not (isOfKind BLOCK (take n (w .link))) || ltb (w .standby .state .slots .staged) (g .s))
-
-pub room-enough : (g : Settings) (w : World) (n : ℕ) (reply : List ℕ) → recordLength (g .u) ACK ≤ length reply → roomFor g w n reply ≡ true
-room-enough g w n reply room = rw (le-leb (recordLength (g .u) ACK) (length reply) room) (or-true (not (isOfKind COMMIT (take n (w .link)))))
 
 module _ (g : Settings) (b : Both) (a : Agree g b) where
   -- every flush is accepted
@@ -101,7 +74,7 @@ module _ (g : Settings) (b : Both) (a : Agree g b) (on : isReceiving (b .world .
       omega (arith, slots-after g b a k .0, slots-after g b a k .1, t .slots .staged-high)
 
   -- so one that is given a whole record, with room, is accepted
-  pub read-flushed : (k : ℕ) → 0 < k → wholeRecord (take n (b .world .link)) ≡ true → roomFor g (b .world) n reply ≡ true
+  pub read-flushed : (k : ℕ) → 0 < k → wholeRecord (take n (b .world .link)) ≡ true → roomFor g (take n (b .world .link)) reply ≡ true
       → step (flushedBoth g b a k .world) (call.read n reply) .outcome .number ≡ 0
   read-flushed k some whole room =
       let c = flushedBoth g b a k in
@@ -110,13 +83,12 @@ module _ (g : Settings) (b : Both) (a : Agree g b) (on : isReceiving (b .world .
       let agree = flush-agree g b a k in
       let link = ap (λ (v : View). v .link) same in
       read-number g (c .world) (agree .inv .holds .standbyKept) (agree .pending) on′ n reply
-      ∙ read-accepts g (c .world) n reply (ap (λ (l : List ℕ). wholeRecord (take n l)) link ∙ whole)
-      (ap (λ (l : List ℕ). not (isOfKind COMMIT (take n l)) || leb (recordLength (g .u) ACK) (length reply)) link ∙ room) (none-waits k some)
+      ∙ read-accepts g (c .world) n reply (ap (λ (l : List ℕ). wholeRecord (take n l)) link ∙ whole) (ap (λ (l : List ℕ). roomFor g (take n l) reply) link ∙ room) (none-waits k some)
 
   pub waits : step (b .world) (call.read n reply) .outcome .number ≡ slotsFull → WaitsForFlush steps g (b .world) n reply
   waits e =
       let w = b .world in
       let full : readNumber g (b .world) n reply ≡ slotsFull = sym (read-number g w (a .inv .holds .standbyKept) (a .pending) on n reply) ∙ e in
       let d = due-some g b a on n reply full in
-      let t = full-tests (wholeRecord (take n (w .link))) (roomFor g w n reply) (not (isOfKind BLOCK (take n (w .link))) || ltb (w .standby .state .slots .staged) (g .s)) full in
+      let t = read-waits g w n reply full in
       record { staged = d .0; due = d .1; flushed = λ k some. (flush-made g b a k, (read-flushed k some (t .0) (t .1), tt)) }

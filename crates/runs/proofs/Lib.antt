@@ -1,4 +1,4 @@
--- Runs that compute, the refutations of wrong programs, the proof of demand 3, and what follows from it.
+-- Runs that compute, the refutations of wrong programs, the proof of demand 3 and what follows from it, and the proofs of progress and of catching up.
 pub mod Compute
 pub mod CutLaws
 pub mod Small
@@ -55,9 +55,11 @@ pub mod PendingCalls
 pub mod PendingSent
 pub mod PendingRead
 pub mod PendingAck
+pub mod ReadTests
 pub mod FlushFrees
 pub mod ProgressProved
 pub mod TakesLaws
 pub mod DriveLaws
+pub mod Driven
 pub mod CatchUpProved
 pub mod ProgressRefutes

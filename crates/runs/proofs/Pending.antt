@@ -56,15 +56,18 @@ pub record Trail (acks : List ℕ) (acknowledged asked : ℕ) : Type 0 where
   pub are : acks ≡ encodeAll (map message.ack epochs)
   pub leads : Leads acknowledged asked epochs
 
+-- ---- the records in flight, sent and not yet accepted, and the bytes of them that were dropped
+pub record InFlight (u : ℕ) (link out : List ℕ) (alone : Bool) : Type 0 where
+  pub records : List Message
+  pub lost : List ℕ
+  pub bytes : link ++ (out ++ lost) ≡ encodeAll records
+  pub lossless : alone ≡ false → lost ≡ []
+  pub readable : All (Readable u) records
+
 -- ---- the invariant
 pub record Pending (g : Settings) (v : View) : Type 0 where
-  -- the records sent and not yet accepted, and the bytes of them that were dropped
-  pub pending : List Message
-  pub lost : List ℕ
-  pub bytes : v .link ++ (v .sender .out ++ lost) ≡ encodeAll pending
-  pub lossless : v .sender .alone ≡ false → lost ≡ []
-  pub readable : All (Readable (g .u)) pending
-  pub walk : v .receiver .receiving ≡ true → Walk g (v .receiver .counts) pending (blocksOnly (v .sender .epoch) (v .sender .blocks))
+  pub flight : InFlight (g .u) (v .link) (v .sender .out) (v .sender .alone)
+  pub walk : v .receiver .receiving ≡ true → Walk g (v .receiver .counts) (flight .records) (blocksOnly (v .sender .epoch) (v .sender .blocks))
   pub trail : Trail (v .acks) (v .sender .acknowledged) (v .receiver .counts .epoch)
 
 -- both invariants
@@ -94,38 +97,34 @@ movedTo v link out = record { sender = sending (v .sender) out (v .sender .epoch
 module _ (g : Settings) (v : View) (p : Pending g v) where
   -- the standby no longer receives
   pub pending-stopped : (c : Counts) → c .epoch ≡ v .receiver .counts .epoch → Pending g (withReceiver v (record { receiving = false; counts = c }))
-  pending-stopped c same =
-      record {
-        pending = p .pending;
-        lost = p .lost;
-        bytes = p .bytes;
-        lossless = p .lossless;
-        readable = p .readable;
-        walk = λ z. absurd (false≢true z);
-        trail = subst (Trail (v .acks) (v .sender .acknowledged)) (sym same) (p .trail);
-      }
+  pending-stopped c same = record { flight = p .flight; walk = λ z. absurd (false≢true z); trail = subst (Trail (v .acks) (v .sender .acknowledged)) (sym same) (p .trail) }
+
+  -- the primary takes the next ACK
+  pub pending-acked : (e : ℕ) (acks : List ℕ) → Trail acks e (v .receiver .counts .epoch)
+      → Pending g (record { sender = record { out = v .sender .out; alone = v .sender .alone; epoch = v .sender .epoch; blocks = v .sender .blocks; acknowledged = e }; receiver = v .receiver; link = v .link; acks = acks })
+  pending-acked e acks t = record { flight = p .flight; walk = p .walk; trail = t }
 
   -- the primary is alone, and what waits is dropped
   pub pending-dropped : Pending g (withSender v (record { out = []; alone = true; epoch = v .sender .epoch; blocks = v .sender .blocks; acknowledged = v .sender .acknowledged }))
   pending-dropped =
+      let f = p .flight in
       record {
-        pending = p .pending;
-        lost = v .sender .out ++ p .lost;
-        bytes = p .bytes;
-        lossless = λ z. absurd (false≢true (sym z));
-        readable = p .readable;
+        flight = record { records = f .records; lost = v .sender .out ++ f .lost; bytes = f .bytes; lossless = λ z. absurd (false≢true (sym z)); readable = f .readable };
         walk = p .walk;
         trail = p .trail;
       }
 
   pub pending-moved : (link out : List ℕ) → link ++ out ≡ v .link ++ v .sender .out → Pending g (movedTo v link out)
   pending-moved link out same =
+      let f = p .flight in
       record {
-        pending = p .pending;
-        lost = p .lost;
-        bytes = bytes-moved (v .link) (v .sender .out) link out (p .lost) same ∙ p .bytes;
-        lossless = p .lossless;
-        readable = p .readable;
+        flight = record {
+          records = f .records;
+          lost = f .lost;
+          bytes = bytes-moved (v .link) (v .sender .out) link out (f .lost) same ∙ f .bytes;
+          lossless = f .lossless;
+          readable = f .readable;
+        };
         walk = p .walk;
         trail = p .trail;
       }
@@ -135,18 +134,15 @@ module _ (g : Settings) (v : View) (p : Pending g v) where
       → Walk g (blocksOnly (v .sender .epoch) (v .sender .blocks)) ms (blocksOnly epoch blocks)
       → Pending g (withSender v (sending (v .sender) (v .sender .out ++ encodeAll ms) epoch blocks))
   pending-appended ms epoch blocks on readable more =
+      let f = p .flight in
       record {
-        pending = p .pending ++ ms;
-        lost = p .lost;
-        bytes = bytes-append (v .link) (v .sender .out) (p .lost) (p .pending) ms (p .lossless on) (p .bytes);
-        lossless = p .lossless;
-        readable = all-append (Readable (g .u)) (p .pending) ms (p .readable) readable;
-        walk = λ z. walk-append g (v .receiver .counts) (p .pending) (blocksOnly (v .sender .epoch) (v .sender .blocks)) ms (blocksOnly epoch blocks) (p .walk z) more;
+        flight = record {
+          records = f .records ++ ms;
+          lost = f .lost;
+          bytes = bytes-append (v .link) (v .sender .out) (f .lost) (f .records) ms (f .lossless on) (f .bytes);
+          lossless = f .lossless;
+          readable = all-append (Readable (g .u)) (f .records) ms (f .readable) readable;
+        };
+        walk = λ z. walk-append g (v .receiver .counts) (f .records) (blocksOnly (v .sender .epoch) (v .sender .blocks)) ms (blocksOnly epoch blocks) (p .walk z) more;
         trail = p .trail;
       }
-
-  -- the primary takes the next ACK
-  pub pending-acked : (e : ℕ) (acks : List ℕ) → Trail acks e (v .receiver .counts .epoch)
-      → Pending g (record { sender = record { out = v .sender .out; alone = v .sender .alone; epoch = v .sender .epoch; blocks = v .sender .blocks; acknowledged = e }; receiver = v .receiver; link = v .link; acks = acks })
-  pending-acked e acks t =
-      record { pending = p .pending; lost = p .lost; bytes = p .bytes; lossless = p .lossless; readable = p .readable; walk = p .walk; trail = t }

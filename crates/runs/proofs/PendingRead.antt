@@ -94,12 +94,12 @@ some-bytes u x f = omega (arith, length-message u x (f .0), record-ge u (message
 -- ---- a standby that receives
 module _ (g : Settings) (w : World) (k : StandbyKept g (w .standby)) (p : Pending g (viewOf w)) (on : isReceiving (w .standby .state .mode) ≡ true) (n : ℕ) (reply : List ℕ) where
   abbrev rest : List ℕ
-  rest = take (w .primary .state .waiting) (w .primary .stream) ++ p .lost
+  rest = take (w .primary .state .waiting) (w .primary .stream) ++ p .flight .lost
 
-  found : ReadFound g w k n reply (p .pending) rest
-  found = read-found g w k n reply on (p .pending) rest (p .readable) (p .bytes)
+  found : ReadFound g w k n reply (p .flight .records) rest
+  found = read-found g w k n reply on (p .flight .records) rest (p .flight .readable) (p .flight .bytes)
 
-  walk : (x : Message) (xs : List Message) → p .pending ≡ x ∷ xs → Walk g (countsOf (w .standby .state)) (x ∷ xs) (blocksOnly (w .primary .state .epoch) (w .primary .state .blocks))
+  walk : (x : Message) (xs : List Message) → p .flight .records ≡ x ∷ xs → Walk g (countsOf (w .standby .state)) (x ∷ xs) (blocksOnly (w .primary .state .epoch) (w .primary .state .blocks))
   walk x xs first = rw first at (p .walk on)
 
   -- a whole record's number is by its kind
@@ -111,11 +111,11 @@ module _ (g : Settings) (w : World) (k : StandbyKept g (w .standby)) (p : Pendin
   short-number s = cond-false (wholeRecord (take n (w .link))) _ cutShort s
 
   -- the number of what is judged
-  refused-as : (x : Message) (xs : List Message) → p .pending ≡ x ∷ xs
+  refused-as : (x : Message) (xs : List Message) → p .flight .records ≡ x ∷ xs
       → recordRefusal (w .standby .state) (length reply) (readAs (w .standby .state .settings .u) x) ≡ kindNumber g (w .standby .state .slots .staged) (length reply) (messageKind x)
   refused-as x xs first = asked-number g (w .standby .state) (k .settings) (k .reached .pagesBelow) (length reply) x (walk x xs first .0)
 
-  number-by : ReadFound g w k n reply (p .pending) rest → step w (call.read n reply) .outcome .number ≡ readNumber g w n reply
+  number-by : ReadFound g w k n reply (p .flight .records) rest → step w (call.read n reply) .outcome .number ≡ readNumber g w n reply
   number-by (short s z) = z ∙ sym (short-number s)
   number-by (next x xs f z seen) = z ∙ refused-as x xs (f .first) ∙ sym (whole-number x (f .whole) (f .kind))
 
@@ -123,7 +123,7 @@ module _ (g : Settings) (w : World) (k : StandbyKept g (w .standby)) (p : Pendin
   read-number = number-by found
 
   -- 17
-  full-by : ReadFound g w k n reply (p .pending) rest → readNumber g w n reply ≡ slotsFull → (g .s ≤ w .standby .state .slots .staged) × (w .standby .state .blocks < g .b)
+  full-by : ReadFound g w k n reply (p .flight .records) rest → readNumber g w n reply ≡ slotsFull → (g .s ≤ w .standby .state .slots .staged) × (w .standby .state .blocks < g .b)
   full-by (short s z) e = absurd (omega (arith, short-number s))
   full-by (next x xs f z seen) e =
       asked-full g (w .standby .state) (k .settings) (k .reached .pagesBelow) (length reply) x (walk x xs (f .first) .0) (sym (whole-number x (f .whole) (f .kind)) ∙ e)
@@ -135,31 +135,27 @@ module _ (g : Settings) (w : World) (k : StandbyKept g (w .standby)) (p : Pendin
   abbrev Kept : View → Type 0
   Kept v = Pending g v × (length (v .link) < length (w .link))
 
-  pending-taken : (x : Message) (xs : List Message) → p .pending ≡ x ∷ xs → length (encode x) ≤ length (w .link) → drop (length (encode x)) (w .link) ++ rest ≡ encodeAll xs → Kept (taken (viewOf w) x)
+  pending-taken : (x : Message) (xs : List Message) → p .flight .records ≡ x ∷ xs → length (encode x) ≤ length (w .link) → drop (length (encode x)) (w .link) ++ rest ≡ encodeAll xs → Kept (taken (viewOf w) x)
   pending-taken x xs first inside behind =
-      let readable : All (Readable (g .u)) (x ∷ xs) = rw first at (p .readable) in
+      let readable : All (Readable (g .u)) (x ∷ xs) = rw first at (p .flight .readable) in
       let asked = walk x xs first in (
         record {
-          pending = xs;
-          lost = p .lost;
-          bytes = behind;
-          lossless = p .lossless;
-          readable = readable .1;
+          flight = record { records = xs; lost = p .flight .lost; bytes = behind; lossless = p .flight .lossless; readable = readable .1 };
           walk = λ z. asked .1;
           trail = trail-taken g (w .acks) (w .primary .state .acknowledged) (countsOf (w .standby .state)) x (asked .0) (p .trail);
         },
         simp length-drop (omega (arith, some-bytes (g .u) x (readable .0))),
       )
 
-  accepted-by : step w (call.read n reply) .outcome .number ≡ 0 → ReadFound g w k n reply (p .pending) rest → Kept (viewOf (step w (call.read n reply) .next))
+  accepted-by : step w (call.read n reply) .outcome .number ≡ 0 → ReadFound g w k n reply (p .flight .records) rest → Kept (viewOf (step w (call.read n reply) .next))
   accepted-by e (short s z) = absurd (omega arith)
   accepted-by e (next x xs f z seen) =
       let u = w .standby .state .settings .u in
-      let readable : All (Readable (g .u)) (x ∷ xs) = rw (f .first) at (p .readable) in
+      let readable : All (Readable (g .u)) (x ∷ xs) = rw (f .first) at (p .flight .readable) in
       let fits : Readable u x = subst (λ (v : ℕ). Readable v x) (sym (standby-u g (w .standby) k)) (readable .0) in
       subst Kept
       (sym (ap (λ (t : Stepped). viewOf (t .next)) (read-step w n reply ∙ ap (readBy w (take n (w .link)) reply) (seen e)) ∙ taken-view w (take n (w .link)) reply x fits))
-      (pending-taken x xs (f .first) (next-inside (p .pending) (w .link) rest n x xs f) (f .behind))
+      (pending-taken x xs (f .first) (next-inside (p .flight .records) (w .link) rest n x xs f) (f .behind))
 
   pub read-kept : step w (call.read n reply) .outcome .number ≡ 0 → Pending g (viewOf (step w (call.read n reply) .next)) × (length (step w (call.read n reply) .next .link) < length (w .link))
   read-kept e = accepted-by e found

@@ -41,7 +41,11 @@ start-view g processor b e = rw (eq-eqb _ _ e)
 
 start-pending : (g : Settings) → Pending g startView
 start-pending g =
-    record { pending = []; lost = []; bytes = refl; lossless = λ z. refl; readable = tt; walk = λ z. refl; trail = record { epochs = []; are = refl; leads = refl } }
+    record {
+      flight = record { records = []; lost = []; bytes = refl; lossless = λ z. refl; readable = tt };
+      walk = λ z. refl;
+      trail = record { epochs = []; are = refl; leads = refl };
+    }
 
 pub start-agree : (g : Settings) (processor : Processor) (b : Buffers) → startNumber g b ≡ 0 → Agree g (startBoth g processor b)
 start-agree g processor b e = record { inv = start-law g processor b e; pending = subst (Pending g) (sym (start-view g processor b e)) (start-pending g) }
