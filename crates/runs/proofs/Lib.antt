@@ -58,6 +58,7 @@ pub mod PendingAck
 pub mod ReadTests
 pub mod FlushFrees
 pub mod ProgressProved
+pub mod ProgressSays
 pub mod TakesLaws
 pub mod DriveLaws
 pub mod Driven

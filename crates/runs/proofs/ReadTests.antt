@@ -1,6 +1,7 @@
 -- The three tests of a read: what 17 says of the first two, and what these leave. Assumes nothing.
 use Prim.Native.Nat.{ℕ, _≤_}
 use mathlib.Core.Path.{_≡_, refl}
+use mathlib.Core.Logic.{_⊎_, inl, inr}
 use mathlib.Core.Bool.{Bool, true, false, _||_, not, or-true}
 use mathlib.Core.List.{List, [], _∷_}
 use native.Mathlib.Omega.{arith}
@@ -34,7 +35,20 @@ accepted : (whole room slot : Bool) → whole ≡ true → room ≡ true → (nu
 accepted whole room true w r f = rw (w, r)
 accepted whole room false w r f = absurd (f (rw (w, r)))
 
+-- the number is one of four
+abbrev pub Number : ℕ → Type 0
+Number n = (n ≡ 0) ⊎ ((n ≡ cutShort) ⊎ ((n ≡ noRoom) ⊎ (n ≡ slotsFull)))
+
+one-of : (whole room slot : Bool) → Number (number whole room slot)
+one-of false room slot = inr (inl refl)
+one-of true false slot = inr (inr (inl refl))
+one-of true true false = inr (inr (inr refl))
+one-of true true true = inl refl
+
 module _ (g : Settings) (w : World) (n : ℕ) (reply : List ℕ) where
+  pub read-number-is : Number (readNumber g w n reply)
+  read-number-is = one-of (wholeRecord (take n (w .link))) (roomFor g (take n (w .link)) reply) (slotFor g w (take n (w .link)))
+
   pub read-waits : readNumber g w n reply ≡ slotsFull → (wholeRecord (take n (w .link)) ≡ true) × (roomFor g (take n (w .link)) reply ≡ true)
   read-waits = full (wholeRecord (take n (w .link))) (roomFor g (take n (w .link)) reply) (slotFor g w (take n (w .link)))
 
