@@ -70,12 +70,12 @@ pub record Pending (g : Settings) (v : View) : Type 0 where
   pub walk : v .receiver .receiving ≡ true → Walk g (v .receiver .counts) (flight .records) (blocksOnly (v .sender .epoch) (v .sender .blocks))
   pub trail : Trail (v .acks) (v .sender .acknowledged) (v .receiver .counts .epoch)
 
--- both invariants
+-- both invariants hold
 pub record Agree (g : Settings) (b : Both) : Type 0 where
   pub inv : Inv g b
   pub pending : Pending g (viewOf (b .world))
 
--- an accepted call keeps it
+-- an accepted call keeps the second
 abbrev pub KeepsPending : Settings → Call → Type 0
 KeepsPending g c = (b : Both) → Inv g b → Accepted b c → Pending g (viewOf (b .world)) → Pending g (viewOf (step (b .world) c .next))
 

@@ -51,6 +51,21 @@ never-receives p =
     let z : _≡_ {A = ℕ} 1 2 = catchesUp refusesRecords calls p refl refl (leastDrive small w) (least-enough small w) .received in
     omega arith
 
+-- ---- one that gives the right number and stays as it was: it accepts the same STATE for ever
+abbrev pub stays : World → Call → Stepped → Stepped
+stays w c s = leaving s w
+
+abbrev staysReading : Steps
+staysReading = wrongly (insteadOf (call.read 0 []) stays)
+
+pub never-goes-further : CatchUpOf staysReading → ⊥
+unfolding allSteps
+never-goes-further p =
+    let calls = call.checkpoint (processorOf 2) ∷ [] in
+    let w = after staysReading calls in
+    let z : _≡_ {A = ℕ} 1 2 = catchesUp staysReading calls p refl refl (leastDrive small w) (least-enough small w) .received in
+    omega arith
+
 -- ---- a drain that hands over zeros: the standby refuses them with 6
 pub refutes-drain-of-zeros : ProgressOf (wrongly (insteadOf (call.drain 0 []) drainsZeros)) → ⊥
 unfolding allSteps
@@ -139,3 +154,8 @@ due-at-17 = refl
 pub accepted-after-flush : numberAfter (threeStaged ++ (call.flush 1 ∷ [])) (call.read 380 (zeros 8)) ≡ 0
 unfolding allSteps
 accepted-after-flush = refl
+
+-- a flush that frees no slot
+pub never-frees : ProgressOf (wrongly (insteadOf (call.flush 0) stays)) → ⊥
+unfolding allSteps
+never-frees p = let z : _≡_ {A = ℕ} 17 0 = goesOn _ threeStaged p .waits refl 380 (zeros 8) refl .flushed 1 (lit≤ tt) .1 .0 in omega arith
