@@ -9,9 +9,9 @@ use lib.ListN.{length, take, replicate, length-append}
 use Rattle.lists.proofs.TestLaws.{eq-or-ne}
 use Rattle.records.specs.declared.Reader.the-variants as reader
 use Rattle.records.specs.Kind.{PAGE, ACK, bodyLength, recordLength}
-use Rattle.records.specs.Message.{Message, encode, encodeAll}
-use Rattle.records.specs.Message as message
+use Rattle.records.specs.Message.{Message, messageKind, encode, encodeAll}
 use Rattle.records.proofs.MessageLaws.{length-message}
+use Rattle.records.proofs.ReadLaws.{for-test, kind-cases}
 use Rattle.settings.specs.declared.Settings.{Settings}
 use Rattle.rules.specs.StandbyState.{isReceiving}
 use Rattle.rules.specs.PrimaryState.{protected}
@@ -38,11 +38,10 @@ use Rattle.runs.proofs.DriveLaws.{Still, stillOf, read-still, read-prim
 -- no record is longer than a PAGE
 record-few : (u : ℕ) (x : Message) → 64 ≤ u → Readable u x → length (encode x) ≤ recordLength u PAGE
 unfolding recordLength bodyLength
-record-few u (message.page e p bs) h f = omega (arith, length-message u (message.page e p bs) (f .0))
-record-few u (message.block e n bs) h f = omega (arith, length-message u (message.block e n bs) (f .0))
-record-few u (message.state e bs) h f = omega (arith, length-message u (message.state e bs) (f .0))
-record-few u (message.commit e p b) h f = omega (arith, length-message u (message.commit e p b) (f .0))
-record-few u (message.ack e) h f = omega (arith, length-message u (message.ack e) (f .0))
+record-few u x h f =
+    let k = messageKind x in
+    let l = kind-cases (λ (k : ℕ). recordLength u k ≤ recordLength u PAGE) (omega arith) (omega arith) (omega arith) (omega arith) (omega arith) k (for-test reader.Standby k (f .1)) in
+    omega (arith, length-message u x (f .0))
 
 none-pending : (u : ℕ) (ms : List Message) → All (Readable u) ms → length (encodeAll ms) ≤ 0 → ms ≡ []
 none-pending u [] f h = refl

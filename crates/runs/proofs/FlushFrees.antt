@@ -4,22 +4,20 @@ use mathlib.Core.Path.{_≡_, sym, ap, _∙_}
 use mathlib.Core.Bool.{true}
 use mathlib.Core.List.{List}
 use native.Mathlib.Omega.{arith}
-use lib.ListN.{length, take}
+use lib.ListN.{take}
 use Rattle.records.specs.Number.{slotsFull}
 use Rattle.settings.specs.declared.Settings.{Settings}
 use Rattle.settings.specs.declared.StandbySettings.{StandbySettings}
 use Rattle.staging.specs.Slot.{flushCount, flushed}
 use Rattle.rules.specs.StandbyState.{isReceiving}
-use Rattle.rules.specs.Flush.{flushReply}
 use Rattle.rules.specs.World as call
 use Rattle.rules.specs.Step.{step}
-use Rattle.rules.proofs.FlushLaws.{flush-accepts}
-use Rattle.rules.proofs.StandbyFacts.{standby-facts}
 use Rattle.runs.specs.Run.{Both, steps, runCall}
 use Rattle.runs.specs.Progress.{wholeRecord, readNumber, WaitsForFlush}
 use Rattle.runs.proofs.ReadTests.{roomFor, read-waits, read-accepts}
-use Rattle.runs.proofs.KeptLaws.{lent-disk, lent-blocks, standby-settings}
+use Rattle.runs.proofs.KeptLaws.{standby-ranges, standby-settings}
 use Rattle.runs.proofs.Flush as flush
+use Rattle.runs.proofs.TakeoverCalls.{flush-accepted}
 use Rattle.runs.proofs.Pending.{View, viewOf, Agree}
 use Rattle.runs.proofs.PendingCalls.{flush-pending}
 use Rattle.runs.proofs.PendingRead.{read-number, read-full}
@@ -27,11 +25,7 @@ use Rattle.runs.proofs.PendingRead.{read-number, read-full}
 module _ (g : Settings) (b : Both) (a : Agree g b) where
   -- every flush is accepted
   pub flush-made : (k : ℕ) → step (b .world) (call.flush k) .outcome .number ≡ 0
-  unfolding step flushReply
-  flush-made k =
-      let e = b .world .standby in
-      let s = a .inv .holds .standbyKept in
-      flush-accepts (e .state) (length (e .stagedBlocks)) (length (e .disk)) (record { inRange = s .reached .inRange; slotsLent = lent-blocks g e s; diskLent = lent-disk g e s })
+  flush-made k = flush-accepted g b (a .inv .holds .standbyKept) k
 
   abbrev pub flushedBoth : ℕ → Both
   flushedBoth k = runCall steps (g .u) b (call.flush k)
@@ -57,7 +51,7 @@ module _ (g : Settings) (b : Both) (a : Agree g b) where
     due-some e =
         let k = a .inv .holds .standbyKept in
         let f = read-full g (b .world) k (a .pending) on n reply e in
-        let t = standby-facts (b .world .standby .state) (k .reached .inRange) in
+        let t = standby-ranges g (b .world .standby) k in
         let size = ap (λ (x : StandbySettings). x .s) (k .settings) in
         let least = standby-settings g (b .world .standby) k .slots .s-low in
         (omega (arith, t .slots .staged-high), omega (arith, k .reached .notDue))
@@ -69,7 +63,7 @@ module _ (g : Settings) (b : Both) (a : Agree g b) (on : isReceiving (b .world .
       let c = flushedBoth g b a k in
       let on′ : isReceiving (c .world .standby .state .mode) ≡ true = ap (λ (v : View). v .receiver .receiving) (same-view g b a k) ∙ on in
       let d = due-some g c (flush-agree g b a k) on′ n reply e in
-      let t = standby-facts (b .world .standby .state) (a .inv .holds .standbyKept .reached .inRange) in
+      let t = standby-ranges g (b .world .standby) (a .inv .holds .standbyKept) in
       let size = ap (λ (x : StandbySettings). x .s) (a .inv .holds .standbyKept .settings) in
       omega (arith, slots-after g b a k .0, slots-after g b a k .1, t .slots .staged-high)
 

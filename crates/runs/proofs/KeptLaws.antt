@@ -16,7 +16,7 @@ use Rattle.rules.specs.StandbyState.{memoryLength, diskLength, slotsLength, mar
 use Rattle.rules.specs.World.{PrimaryEnd, StandbyEnd}
 use Rattle.rules.specs.Step.{atStandby}
 use Rattle.rules.proofs.PrimaryFacts.{primary-facts}
-use Rattle.rules.proofs.StandbyFacts.{standby-facts}
+use Rattle.rules.proofs.StandbyFacts.{StandbyFacts, standby-facts}
 use Rattle.rules.proofs.FlushLaws.{flush-room}
 use Rattle.runs.specs.Plain.{withActivatedStandbyImages}
 use Rattle.runs.specs.Run.{Both}
@@ -68,8 +68,11 @@ module _ (g : Settings) (s : StandbyEnd) (k : StandbyKept g s) where
   pub lent-blocks : length (s .stagedBlocks) ≡ slotsLength (s .state)
   lent-blocks = k .stagedBlocks ∙ ap (λ (x : StandbySettings). x .s * x .u) (sym (k .settings))
 
+  pub standby-ranges : StandbyFacts (s .state)
+  standby-ranges = standby-facts (s .state) (k .reached .range .inRange)
+
   pub standby-settings : StandbySettingsFacts (ofStandby g)
-  standby-settings = subst StandbySettingsFacts (k .settings) (standby-facts (s .state) (k .reached .range .inRange) .settings)
+  standby-settings = subst StandbySettingsFacts (k .settings) (standby-ranges .settings)
 
   pub standby-unit : unitOk (g .u) ≡ true
   standby-unit = shared-unit (standby-settings .shared)

@@ -53,7 +53,7 @@ module _ (g : Settings) where
     unfolding step standbyTickReply
     tick-accepted = let e = b .world .standby in tick-accepts (e .state) (length (e .stagedMarks)) (record { inRange = k .reached .range .inRange; marksLent = lent-marks g e k })
 
-    flush-accepted : (n : ℕ) → Accepted b (call.flush n)
+    pub flush-accepted : (n : ℕ) → Accepted b (call.flush n)
     unfolding step flushReply
     flush-accepted n =
         let e = b .world .standby in
