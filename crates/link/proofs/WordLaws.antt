@@ -1,6 +1,5 @@
 -- Laws of the record test's word and of the disk choice's. Assumes nothing.
 use mathlib.Core.Path.{_≡_, refl, ap}
-use mathlib.Core.Logic.{⊎-elim}
 use mathlib.Core.List.{List}
 use mathlib.Core.Bool.{Bool, true, false, cond, _&&_}
 use lib.Dec.{eqb}
@@ -9,9 +8,9 @@ use Prim.Native.Nat.{ℕ, _/_, _%_, _<_}
 use native.Mathlib.Omega.{arith}
 use Rattle.records.specs.declared.Reader.the-variants.{Test}
 use Rattle.records.specs.declared.Record.{Record}
-use Rattle.records.specs.declared.Record.the-variants.{Page, Block, State, Commit, Ack, Short, Refused}
+use Rattle.records.specs.declared.Record.the-variants.{Short}
 use Rattle.records.specs.Read.{readRecord, numberOf, kindOf, usedOf}
-use Rattle.records.proofs.ReadLaws.{ReadFacts, read-facts, read-ranges}
+use Rattle.records.proofs.ReadLaws.{on-found, number-found, found-cases, ReadFacts, found-kind, refused-number, read-facts, read-ranges}
 use Rattle.records.specs.declared.Area.{Area}
 use Rattle.records.specs.declared.Area.the-variants.{Zero, Activation, Neither}
 use Rattle.records.specs.Area.{areaOf, areaLength}
@@ -23,13 +22,9 @@ use Rattle.link.specs.Word.{wordOf, testWord, choiceWord}
 
 -- what is not cut short has its number, kind and bytes used
 pub word-told : (r : Record) → (r ≡ Short → ⊥) → testWord r ≡ wordOf r
-word-told (Page e p c) f = refl
-word-told (Block e n c) f = refl
-word-told (State e c) f = refl
-word-told (Commit e p b c) f = refl
-word-told (Ack e c) f = refl
-word-told Short f = absurd (f refl)
-word-told (Refused n) f = refl
+word-told =
+    found-cases (λ r. (r ≡ Short → ⊥) → testWord r ≡ wordOf r)
+    (λ r h f. on-found (wordOf r) 0 (λ n. wordOf r) r h) (λ f. absurd (f refl)) (λ n f. refl)
 
 -- a word's parts, as the caller takes them out
 pub record Parts (r : Record) (word : ℕ) : Type 0 where
@@ -39,13 +34,9 @@ pub record Parts (r : Record) (word : ℕ) : Type 0 where
 
 module _ (u : ℕ) (s : List ℕ) where
   number-lt : (r : Record) → ReadFacts Test u s r → (r ≡ Short → ⊥) → numberOf r < 256
-  number-lt (Page e p c) f h = omega arith
-  number-lt (Block e n c) f h = omega arith
-  number-lt (State e c) f h = omega arith
-  number-lt (Commit e p b c) f h = omega arith
-  number-lt (Ack e c) f h = omega arith
-  number-lt Short f h = absurd (h refl)
-  number-lt (Refused n) f h = ⊎-elim (λ a. omega arith) (λ a. ⊎-elim (λ b. omega arith) (λ b. omega arith) (a .1)) f
+  number-lt =
+      found-cases (λ r. ReadFacts Test u s r → (r ≡ Short → ⊥) → numberOf r < 256)
+      (λ r h f g. let n = number-found r h in omega arith) (λ f g. absurd (g refl)) (λ n f g. let h = refused-number u n f in omega arith)
 
   -- of a whole record, whose number is 0, and of a refusal
   pub word-parts : (readRecord Test u s ≡ Short → ⊥) → Parts (readRecord Test u s) (testWord (readRecord Test u s))
@@ -65,13 +56,15 @@ module _ (u : ℕ) (s : List ℕ) where
   word-only-short = go (readRecord Test u s) (read-facts Test u s)
     where
       go : (r : Record) → ReadFacts Test u s r → testWord r % 65536 ≡ 0 → r ≡ Short
-      go (Page e p c) f z = absurd (omega arith)
-      go (Block e n c) f z = absurd (omega arith)
-      go (State e c) f z = absurd (omega arith)
-      go (Commit e p b c) f z = absurd (omega arith)
-      go (Ack e c) f z = absurd (omega arith)
-      go Short f z = refl
-      go (Refused n) f z = absurd (⊎-elim (λ a. omega arith) (λ a. ⊎-elim (λ b. omega arith) (λ b. omega arith) (a .1)) f)
+      go =
+          found-cases (λ r. ReadFacts Test u s r → testWord r % 65536 ≡ 0 → r ≡ Short)
+          (λ r h f z.
+          let k = found-kind Test u s r h f in
+          let n = number-found r h in
+          let w = on-found (wordOf r) 0 (λ n. wordOf r) r h in
+          let p : testWord r / 256 % 256 ≡ kindOf r = omega arith in
+          absurd (omega arith))
+          (λ f z. refl) (λ n f z. let h = refused-number u n f in absurd (omega arith))
 
 -- the disk choice's word, and what the caller learns from it
 pub record ChoiceTold (c : Choice) (word : ℕ) : Type 0 where

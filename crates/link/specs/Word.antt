@@ -1,7 +1,7 @@
 -- The answers of the record test and of the disk choice, each as one number. Assumes nothing.
 use Prim.Native.Nat.{ℕ, _+_, _*_}
 use Rattle.records.specs.declared.Record.{Record}
-use Rattle.records.specs.declared.Record.the-variants.{Page, Block, State, Commit, Ack, Short, Refused}
+use Rattle.records.specs.Cases.{onFound}
 use Rattle.records.specs.Read.{numberOf, kindOf, usedOf}
 use Rattle.rules.specs.declared.Choice.{Choice}
 use Rattle.rules.specs.declared.Choice.the-variants as choice-of
@@ -13,13 +13,7 @@ wordOf r = numberOf r + 256 * kindOf r + 65536 * usedOf r
 
 -- cut short is 0, every other answer its number, kind and bytes used
 abbrev pub testWord : Record → ℕ
-testWord (Page e p c) = wordOf (Page e p c)
-testWord (Block e n c) = wordOf (Block e n c)
-testWord (State e c) = wordOf (State e c)
-testWord (Commit e p b c) = wordOf (Commit e p b c)
-testWord (Ack e c) = wordOf (Ack e c)
-testWord Short = 0
-testWord (Refused n) = wordOf (Refused n)
+testWord r = onFound r (wordOf r) 0 (λ n. wordOf r)
 
 -- the disk: 1 the primary's, 2 the standby's, 0 where there is none
 abbrev pub diskOf : Choice → ℕ

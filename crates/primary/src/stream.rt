@@ -13,6 +13,9 @@ use detector::Detector;
 use records::Reader;
 use records::Record;
 use records::number;
+use records::reading::other_refusal;
+use records::reading::used_of;
+use records::reading::value_of;
 use rules::Answer;
 use rules::Primary;
 use rules::PrimaryAnswer;
@@ -117,26 +120,8 @@ fn ack_refusal(p: Primary, r: Record) -> u64
     ensures { λ n. ⌜ n ≡ ackRefusal p r ⌝ }
 {
     match r {
-        Record::Page {
-            epoch: _,
-            page: _,
-            at: _,
-        } => number::BAD_KIND,
-        Record::Block {
-            epoch: _,
-            block: _,
-            at: _,
-        } => number::BAD_KIND,
-        Record::State { epoch: _, at: _ } => number::BAD_KIND,
-        Record::Commit {
-            epoch: _,
-            pages: _,
-            blocks: _,
-            at: _,
-        } => number::BAD_KIND,
         Record::Ack { epoch, at: _ } => epoch_refusal(p, epoch),
-        Record::Short => 0,
-        Record::Refused { number } => number,
+        _ => other_refusal(r),
     }
 }
 
@@ -180,26 +165,8 @@ fn ack_state(p: Primary, r: Record) -> Primary
 {
     let d = detector::reset(p.detector);
     match r {
-        Record::Page {
-            epoch: _,
-            page: _,
-            at: _,
-        } => p,
-        Record::Block {
-            epoch: _,
-            block: _,
-            at: _,
-        } => p,
-        Record::State { epoch: _, at: _ } => p,
-        Record::Commit {
-            epoch: _,
-            pages: _,
-            blocks: _,
-            at: _,
-        } => p,
         Record::Ack { epoch, at: _ } => with_acknowledged_detector(p, epoch, d),
-        Record::Short => p,
-        Record::Refused { number: _ } => p,
+        _ => p,
     }
 }
 
@@ -208,41 +175,12 @@ fn answer_of(r: Record) -> Answer
     ensures { λ a. ⌜ a ≡ answerOf r ⌝ }
 {
     match r {
-        Record::Page {
-            epoch: _,
-            page: _,
-            at,
-        } => Answer::Accepted {
-            value: 1,
-            used: at.end,
-        },
-        Record::Block {
-            epoch: _,
-            block: _,
-            at,
-        } => Answer::Accepted {
-            value: 2,
-            used: at.end,
-        },
-        Record::State { epoch: _, at } => Answer::Accepted {
-            value: 3,
-            used: at.end,
-        },
-        Record::Commit {
-            epoch: _,
-            pages: _,
-            blocks: _,
-            at,
-        } => Answer::Accepted {
-            value: 4,
-            used: at.end,
-        },
-        Record::Ack { epoch, at } => Answer::Accepted {
-            value: epoch as u64,
-            used: at.end,
-        },
         Record::Short => Answer::Short,
         Record::Refused { number } => Answer::Refused { number },
+        _ => Answer::Accepted {
+            value: value_of(r),
+            used: used_of(r),
+        },
     }
 }
 

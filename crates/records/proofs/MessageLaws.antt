@@ -13,12 +13,10 @@ use Rattle.lists.specs.Part.{part}
 use Rattle.lists.specs.LittleEndian.{leBytes}
 use Rattle.lists.proofs.TestLaws.{lt-or-ge}
 use Rattle.lists.proofs.LittleEndianLaws.{length-leBytes, leAt-leBytes, leAt-skip}
-use Rattle.records.specs.declared.Cursor.{Cursor}
 use Rattle.records.specs.declared.Reader.{Reader}
-use Rattle.records.specs.declared.Record.{Record}
-use Rattle.records.specs.declared.Record.the-variants.{Page, Block, State, Commit, Ack, Short, Refused}
+use Rattle.records.specs.declared.Record.the-variants.{Short}
 use Rattle.records.specs.Kind.{unitOk, PAGE, BLOCK, STATE, COMMIT, ACK, bodyLength, recordLength, isFor}
-use Rattle.records.specs.Read.{cursor, fieldsOf, readRecord, usedOf}
+use Rattle.records.specs.Read.{fieldsOf, readRecord, cursorOf, usedOf}
 use Rattle.records.specs.Write.{frame, unitRecord, stateRecord, commitRecord, epochRecord}
 use Rattle.records.specs.Message.{Message, page, block, state, commit, ack, messageKind, encode, encodeAll, readAs, Fits}
 use Rattle.records.proofs.FrameLaws.{length-frame}
@@ -96,22 +94,13 @@ used-kind u (ack e) = refl
 pub used-message : (u : ℕ) (m : Message) → Fits u m → usedOf (readAs u m) ≡ length (encode m)
 used-message u m f = used-kind u m ∙ sym (length-message u m f)
 
--- the field of bytes of a message, none in a COMMIT and an ACK, and the cursor of what is read
+-- the field of bytes of a message, none in a COMMIT and an ACK
 abbrev pub bytesOf : Message → List ℕ
 bytesOf (page e p bs) = bs
 bytesOf (block e n bs) = bs
 bytesOf (state e bs) = bs
 bytesOf (commit e p b) = []
 bytesOf (ack e) = []
-
-abbrev pub cursorOf : Record → Cursor
-cursorOf (Page e p c) = c
-cursorOf (Block e n c) = c
-cursorOf (State e c) = c
-cursorOf (Commit e p b c) = c
-cursorOf (Ack e c) = c
-cursorOf Short = cursor 0 0
-cursorOf (Refused n) = cursor 0 0
 
 -- the bytes stand at the cursor
 pub message-bytes : (u : ℕ) (m : Message) → Fits u m → (rest : List ℕ)

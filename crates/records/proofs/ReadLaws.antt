@@ -1,13 +1,15 @@
 -- Laws of reading: each answer in its order, framed records, and what holds of every answer. Assumes nothing.
-use mathlib.Core.Path.{_≡_, refl, sym, ap, _∙_}
-use mathlib.Core.Bool.{Bool, true, false, cond}
+use mathlib.Core.Path.{_≡_, refl, sym, ap, subst, _∙_}
+use mathlib.Core.Bool.{Bool, true, false, cond, false≢true}
 use mathlib.Core.Logic.{_⊎_, inl, inr, ⊎-elim}
-use mathlib.Core.List.{List, _++_, append-assoc}
+use mathlib.Core.List.{List, [], _∷_, _++_, append-assoc}
 use Prim.Native.Nat.{ℕ, zero, suc, _+_, _%_, _^_, _≤_, _<_}
 use native.Mathlib.Omega.{arith}
 use lib.Dec.{leb, eqb}
 use lib.ListN.{length, getD, take, length-append}
 use lib.Seq.{length-take-le}
+use types.Run.{OneOf, miss}
+use denote.Enum.Declared.{tagOf}
 use borrow.Author.Tests.{leb-true, eqb-true, le-leb, lt-leb, eq-eqb, ne-eqb}
 use Rattle.lists.specs.Refusal.{within}
 use Rattle.lists.specs.LittleEndian.{leBytes, leAt}
@@ -18,9 +20,12 @@ use Rattle.records.specs.declared.Reader.{Reader}
 use Rattle.records.specs.declared.Reader.the-variants.{Test, Standby, Primary}
 use Rattle.records.specs.declared.Record.{Record}
 use Rattle.records.specs.declared.Record.the-variants.{Page, Block, State, Commit, Ack, Short, Refused}
+use Rattle.records.specs.Number.{badKind}
 use Rattle.records.specs.Kind.{unitOk, PAGE, BLOCK, STATE, COMMIT, ACK, processorBytes, bodyLength, headerLength, recordLength, isFor}
-use Rattle.records.specs.Read.{cursor, fieldsOf, readRecord, cutShort, numberOf, kindOf, valueOf, usedOf}
+use Rattle.records.specs.Cases.{onAck, byKind, onFound}
+use Rattle.records.specs.Read.{cursor, fieldsOf, readRecord, cutShort, numberOf, otherRefusal, kindOf, cursorOf, usedOf}
 use Rattle.records.specs.Write.{frame}
+use Rattle.records.proofs.Record.{the-type}
 use Rattle.records.proofs.FrameLaws.{length-frame}
 
 -- ---- the range of U, and the kinds
@@ -196,6 +201,62 @@ field-at k kind epoch t rest i =
     rw (flat, append-assoc (leBytes 4 epoch))
     (leAt-append k i (leBytes 2 (length (leBytes 4 epoch ++ t)) ++ leBytes 2 kind ++ leBytes 4 epoch) (t ++ rest))
 
+-- ---- the cases of a record: found, cut short, refused
+
+-- it is of some kind, neither cut short nor refused
+abbrev pub isFound : Record → Bool
+isFound r = onFound r true false (λ n. false)
+
+pub on-found {ℓ} : {A : Type ℓ} (found short : A) (refused : ℕ → A) (r : Record) → isFound r ≡ true → onFound r found short refused ≡ found
+on-found found short refused (Page e p c) h = refl
+on-found found short refused (Block e n c) h = refl
+on-found found short refused (State e c) h = refl
+on-found found short refused (Commit e p b c) h = refl
+on-found found short refused (Ack e c) h = refl
+on-found found short refused Short h = absurd (false≢true h)
+on-found found short refused (Refused n) h = absurd (false≢true h)
+
+pub number-found : (r : Record) → isFound r ≡ true → numberOf r ≡ 0
+number-found = on-found 0 cutShort (λ n. n)
+
+pub other-found : (r : Record) → isFound r ≡ true → otherRefusal r ≡ badKind
+other-found = on-found badKind 0 (λ n. n)
+
+-- a fact of every record is shown of those found, of cut short and of refusals
+pub found-cases : (P : Record → Type 0) → ((r : Record) → isFound r ≡ true → P r) → P Short → ((n : ℕ) → P (Refused n)) → (r : Record) → P r
+found-cases P found short refused (Page e p c) = found (Page e p c) refl
+found-cases P found short refused (Block e n c) = found (Block e n c) refl
+found-cases P found short refused (State e c) = found (State e c) refl
+found-cases P found short refused (Commit e p b c) = found (Commit e p b c) refl
+found-cases P found short refused (Ack e c) = found (Ack e c) refl
+found-cases P found short refused Short = short
+found-cases P found short refused (Refused n) = refused n
+
+-- the last arm of a `match`: the places in the enum that are left behind the arms for cut short and refused, and
+-- behind the one for an ACK
+pub found-arm : (r : Record) → OneOf (0 ∷ 1 ∷ 2 ∷ 3 ∷ 4 ∷ []) (tagOf the-type r) → isFound r ≡ true
+found-arm = found-cases (λ r. OneOf (0 ∷ 1 ∷ 2 ∷ 3 ∷ 4 ∷ []) (tagOf the-type r) → isFound r ≡ true)
+    (λ r h k. h) (λ k. absurd (miss (0 ∷ 1 ∷ 2 ∷ 3 ∷ 4 ∷ []) 5 tt k)) (λ n k. absurd (miss (0 ∷ 1 ∷ 2 ∷ 3 ∷ 4 ∷ []) 6 tt k))
+
+pub ack-arm {ℓ} : {A : Type ℓ} (ack : ℕ → Cursor → A) (rest : A) (r : Record) → OneOf (0 ∷ 1 ∷ 2 ∷ 3 ∷ 5 ∷ 6 ∷ []) (tagOf the-type r) → onAck r ack rest ≡ rest
+ack-arm ack rest (Page e p c) k = refl
+ack-arm ack rest (Block e n c) k = refl
+ack-arm ack rest (State e c) k = refl
+ack-arm ack rest (Commit e p b c) k = refl
+ack-arm ack rest (Ack e c) k = absurd (miss (0 ∷ 1 ∷ 2 ∷ 3 ∷ 5 ∷ 6 ∷ []) 4 tt k)
+ack-arm ack rest Short k = refl
+ack-arm ack rest (Refused n) k = refl
+
+-- a fact of what is defined by `onAck` is shown of what an ACK gives, and of the rest
+pub on-ack : {A : Type 0} (P : A → Type 0) (ack : ℕ → Cursor → A) (rest : A) (r : Record) → ((e : ℕ) (c : Cursor) → r ≡ Ack e c → P (ack e c)) → P rest → P (onAck r ack rest)
+on-ack P ack rest (Page e p c) f g = g
+on-ack P ack rest (Block e n c) f g = g
+on-ack P ack rest (State e c) f g = g
+on-ack P ack rest (Commit e p b c) f g = g
+on-ack P ack rest (Ack e c) f g = f e c refl
+on-ack P ack rest Short f g = g
+on-ack P ack rest (Refused n) f g = g
+
 -- ---- what holds of every answer
 
 -- a record of a kind, whose field of bytes is size long
@@ -207,14 +268,26 @@ pub record RecordFacts (reader : Reader) (u : ℕ) (s : List ℕ) (kind size : �
   pub ordered : at .start ≤ at .end
   pub span : at .end ≡ at .start + size
 
+-- the length of its field of bytes
+abbrev pub sizeOf : ℕ → Record → ℕ
+sizeOf u r = byKind r (λ e p c. u) (λ e n c. u) (λ e c. processorBytes) (λ e p b c. 0) 0
+
+-- why it is refused: U, or the kind and the length
+abbrev pub RefusedFacts : ℕ → ℕ → Type 0
+RefusedFacts u n = ((n ≡ 1) × (unitOk u ≡ false)) ⊎ ((unitOk u ≡ true) × ((n ≡ 6) ⊎ (n ≡ 7)))
+
 abbrev pub ReadFacts : Reader → ℕ → List ℕ → Record → Type 0
-ReadFacts reader u s (Page e p c) = RecordFacts reader u s PAGE u c
-ReadFacts reader u s (Block e n c) = RecordFacts reader u s BLOCK u c
-ReadFacts reader u s (State e c) = RecordFacts reader u s STATE processorBytes c
-ReadFacts reader u s (Commit e p b c) = RecordFacts reader u s COMMIT 0 c
-ReadFacts reader u s (Ack e c) = RecordFacts reader u s ACK 0 c
-ReadFacts reader u s Short = unitOk u ≡ true
-ReadFacts reader u s (Refused n) = ((n ≡ 1) × (unitOk u ≡ false)) ⊎ ((unitOk u ≡ true) × ((n ≡ 6) ⊎ (n ≡ 7)))
+ReadFacts reader u s r = onFound r (RecordFacts reader u s (kindOf r) (sizeOf u r) (cursorOf r)) (unitOk u ≡ true) (RefusedFacts u)
+
+pub found-facts : (reader : Reader) (u : ℕ) (s : List ℕ) (r : Record) → isFound r ≡ true → ReadFacts reader u s r
+    → RecordFacts reader u s (kindOf r) (sizeOf u r) (cursorOf r)
+found-facts reader u s r h f = subst (λ (X : Type 0). X) (on-found (RecordFacts reader u s (kindOf r) (sizeOf u r) (cursorOf r)) (unitOk u ≡ true) (RefusedFacts u) r h) f
+
+pub found-kind : (reader : Reader) (u : ℕ) (s : List ℕ) (r : Record) → isFound r ≡ true → ReadFacts reader u s r → (PAGE ≤ kindOf r) × (kindOf r ≤ ACK)
+found-kind reader u s r h f = within-facts PAGE ACK (kindOf r) (for-test reader (kindOf r) (found-facts reader u s r h f .for-reader))
+
+pub refused-number : (u n : ℕ) → RefusedFacts u n → (0 < n) × (n ≤ 7)
+refused-number u n = ⊎-elim (λ a. (omega arith, omega arith)) (λ a. ⊎-elim (λ b. (omega arith, omega arith)) (λ b. (omega arith, omega arith)) (a .1))
 
 pub read-facts : (reader : Reader) (u : ℕ) (s : List ℕ) → ReadFacts reader u s (readRecord reader u s)
 unfolding recordLength bodyLength
@@ -250,16 +323,16 @@ read-ranges reader u s = go (readRecord reader u s) (read-facts reader u s)
     used-le : {kind size : ℕ} {at : Cursor} → RecordFacts reader u s kind size at → at .end ≤ 4106
     used-le {kind} f = rw (f .used) (record-le u kind (f .unit) (for-test reader kind (f .for-reader)))
 
+    found : (r : Record) → isFound r ≡ true → ReadFacts reader u s r → ReadRanges reader s r
+    found r h f =
+        let g = found-facts reader u s r h f in
+        let n = number-found r h in
+        record { number = omega arith; kind = found-kind reader u s r h f .1; for-reader = λ z. g .for-reader; used = used-le g; within = g .inside }
+
     go : (r : Record) → ReadFacts reader u s r → ReadRanges reader s r
-    go (Page e p c) f = record { number = omega arith; kind = omega arith; for-reader = λ z. f .for-reader; used = used-le f; within = f .inside }
-    go (Block e n c) f = record { number = omega arith; kind = omega arith; for-reader = λ z. f .for-reader; used = used-le f; within = f .inside }
-    go (State e c) f = record { number = omega arith; kind = omega arith; for-reader = λ z. f .for-reader; used = used-le f; within = f .inside }
-    go (Commit e p b c) f = record { number = omega arith; kind = omega arith; for-reader = λ z. f .for-reader; used = used-le f; within = f .inside }
-    go (Ack e c) f = record { number = omega arith; kind = omega arith; for-reader = λ z. f .for-reader; used = used-le f; within = f .inside }
-    go Short f = record { number = omega arith; kind = omega arith; for-reader = λ z. absurd (omega arith); used = omega arith; within = omega arith }
-    go (Refused n) f =
-        let h : (0 < n) × (n ≤ 7) = ⊎-elim (λ a. (omega arith, omega arith)) (λ a. ⊎-elim (λ b. (omega arith, omega arith)) (λ b. (omega arith, omega arith)) (a .1)) f in
-        record { number = omega arith; kind = omega arith; for-reader = λ z. absurd (omega arith); used = omega arith; within = omega arith }
+    go = found-cases (λ r. ReadFacts reader u s r → ReadRanges reader s r) found
+        (λ f. record { number = omega arith; kind = omega arith; for-reader = λ z. absurd (omega arith); used = omega arith; within = omega arith })
+        (λ n f. let h = refused-number u n f in record { number = omega arith; kind = omega arith; for-reader = λ z. absurd (omega arith); used = omega arith; within = omega arith })
 
 -- a record never uses more bytes than there are
 pub read-within : (reader : Reader) (u : ℕ) (s : List ℕ) → usedOf (readRecord reader u s) ≤ length s
@@ -282,22 +355,3 @@ read-fits reader u s h =
     let b = leAt-lt 2 10 s h in
     read-cases FieldsFit reader u s (λ v. tt) (λ v k. tt) (λ v k. tt) (λ v. tt)
     (λ w. fields-cases FieldsFit u (leAt 2 s 2) s (for-test reader (leAt 2 s 2) (w .kind)) (λ k. (e, p)) (λ k. (e, p)) (λ k. e) (λ k. (e, p, b)) (λ k. e))
-
--- ---- what is neither cut short nor refused is a record, and what is no ACK has its kind as its value: the last arm of a `match` on some of the cases
-pub number-told : (r : Record) → (r ≡ Short → ⊥) → ((n : ℕ) → r ≡ Refused n → ⊥) → numberOf r ≡ 0
-number-told (Page e p c) f h = refl
-number-told (Block e n c) f h = refl
-number-told (State e c) f h = refl
-number-told (Commit e p b c) f h = refl
-number-told (Ack e c) f h = refl
-number-told Short f h = absurd (f refl)
-number-told (Refused n) f h = absurd (h n refl)
-
-pub value-told : (r : Record) → ((e : ℕ) (c : Cursor) → r ≡ Ack e c → ⊥) → valueOf r ≡ kindOf r
-value-told (Page e p c) f = refl
-value-told (Block e n c) f = refl
-value-told (State e c) f = refl
-value-told (Commit e p b c) f = refl
-value-told (Ack e c) f = absurd (f e c refl)
-value-told Short f = refl
-value-told (Refused n) f = refl

@@ -1,5 +1,6 @@
 pub mod Number
 pub mod Kind
+pub mod Cases
 pub mod Read
 pub mod Write
 pub mod Area

@@ -10,6 +10,7 @@ use Rattle.records.specs.declared.Reader.{Reader}
 use Rattle.records.specs.declared.Record.{Record}
 use Rattle.records.specs.declared.Record.the-variants.{Page, Block, State, Commit, Ack, Short, Refused}
 use Rattle.records.specs.Number.{outOfRange, badKind, badLength}
+use Rattle.records.specs.Cases.{onAck, onFound}
 use Rattle.records.specs.Kind.{unitOk, PAGE, BLOCK, STATE, COMMIT, ACK, bodyLength, recordLength, headerLength, isFor}
 
 -- a field of bytes from start on, up to the end of its record
@@ -46,13 +47,12 @@ cutShort = 256
 
 -- the paper's number of each case: 0 is accepted
 abbrev pub numberOf : Record → ℕ
-numberOf (Page e p c) = 0
-numberOf (Block e n c) = 0
-numberOf (State e c) = 0
-numberOf (Commit e p b c) = 0
-numberOf (Ack e c) = 0
-numberOf Short = cutShort
-numberOf (Refused n) = n
+numberOf r = onFound r 0 cutShort (λ n. n)
+
+-- the number of a record of another kind than its reader takes: 6; what is cut short has nothing more to be refused
+-- for, and stays so
+abbrev pub otherRefusal : Record → ℕ
+otherRefusal r = onFound r badKind 0 (λ n. n)
 
 -- its kind; 0 where there is no record
 abbrev pub kindOf : Record → ℕ
@@ -66,20 +66,18 @@ kindOf (Refused n) = 0
 
 -- the value of a read: the kind for kinds 1 to 4, the epoch for an ACK; "Every refusal's value is 0"
 abbrev pub valueOf : Record → ℕ
-valueOf (Page e p c) = PAGE
-valueOf (Block e n c) = BLOCK
-valueOf (State e c) = STATE
-valueOf (Commit e p b c) = COMMIT
-valueOf (Ack e c) = e
-valueOf Short = 0
-valueOf (Refused n) = 0
+valueOf r = onAck r (λ e c. e) (kindOf r)
+
+-- its field of bytes, empty where it has none
+abbrev pub cursorOf : Record → Cursor
+cursorOf (Page e p c) = c
+cursorOf (Block e n c) = c
+cursorOf (State e c) = c
+cursorOf (Commit e p b c) = c
+cursorOf (Ack e c) = c
+cursorOf Short = cursor 0 0
+cursorOf (Refused n) = cursor 0 0
 
 -- the bytes used; "A record cut short or refused uses 0"
 abbrev pub usedOf : Record → ℕ
-usedOf (Page e p c) = c .end
-usedOf (Block e n c) = c .end
-usedOf (State e c) = c .end
-usedOf (Commit e p b c) = c .end
-usedOf (Ack e c) = c .end
-usedOf Short = 0
-usedOf (Refused n) = 0
+usedOf r = cursorOf r .end

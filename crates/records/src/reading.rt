@@ -5,7 +5,7 @@ ghost use mathlib.Core.Bool.{true};
 ghost use lib.ListN.{length};
 ghost use Rattle.lists.specs.Refusal.{within};
 ghost use Rattle.records.specs.Kind.{unitOk, bodyLength, recordLength, isFor};
-ghost use Rattle.records.specs.Read.{fieldsOf, readRecord, numberOf, kindOf, valueOf, usedOf};
+ghost use Rattle.records.specs.Read.{fieldsOf, readRecord, numberOf, otherRefusal, kindOf, valueOf, usedOf};
 use crate::ACK;
 use crate::ACTIVATION;
 use crate::BLOCK;
@@ -176,6 +176,17 @@ pub fn number_of(r: Record) -> u64
         Record::Short => CUT_SHORT,
         Record::Refused { number } => number,
         _ => 0,
+    }
+}
+
+// The number of a record of another kind than its reader takes: 6; what is cut short has nothing more to be refused for.
+pub fn other_refusal(r: Record) -> u64
+    ensures { λ n. ⌜ n ≡ otherRefusal r ⌝ }
+{
+    match r {
+        Record::Short => 0,
+        Record::Refused { number } => number,
+        _ => number::BAD_KIND,
     }
 }
 

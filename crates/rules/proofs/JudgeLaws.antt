@@ -2,7 +2,6 @@
 use mathlib.Core.Path.{_≡_, refl, ap}
 use mathlib.Core.Bool.{Bool, true, false, cond, _&&_, not}
 use mathlib.Core.List.{List, [], _∷_}
-use mathlib.Core.Logic.{⊎-elim}
 use Prim.Native.Nat.{ℕ, _+_, _≤_, _<_}
 use native.Mathlib.Omega.{arith}
 use lib.Dec.{leb, ltb, eqb}
@@ -11,12 +10,13 @@ use Rattle.lists.specs.Refusal.{test, refusal}
 use Rattle.lists.proofs.TestLaws.{both, join, and-false, accepted, accepts}
 use Rattle.records.specs.Kind.{PAGE, BLOCK, STATE, COMMIT, bodyLength, recordLength, processorBytes}
 use Rattle.records.specs.Number.{outOfRange, noSuchUnit, badEpoch, outOfOrder, wrongMode, allowanceUsed, slotsFull}
+use Rattle.records.specs.Cases.{byKind, onFound}
 use Rattle.records.specs.Read.{readRecord}
 use Rattle.records.specs.declared.Cursor.{Cursor}
 use Rattle.records.specs.declared.Record.{Record}
 use Rattle.records.specs.declared.Record.the-variants.{Page, Block, State, Commit, Ack, Short, Refused}
 use Rattle.records.specs.declared.Reader.the-variants as reader
-use Rattle.records.proofs.ReadLaws.{RecordFacts, ReadFacts, read-facts}
+use Rattle.records.proofs.ReadLaws.{RecordFacts, ReadFacts, refused-number, read-facts}
 use Rattle.staging.specs.Slot.{freeSlots}
 use Rattle.rules.specs.declared.Standby.{Standby}
 use Rattle.rules.specs.declared.ReadLent.{ReadLent}
@@ -185,13 +185,13 @@ pub record Accepted (s : Standby) (l : ReadLent) (bytes : List ℕ) (kind size :
 
 -- what is judged is such a record, or cut short, or refused with a number
 abbrev pub JudgedFacts : Standby → ReadLent → List ℕ → Record → Type 0
-JudgedFacts s l bytes (Page e p c) = Accepted s l bytes PAGE (s .settings .u) c (PageTests s e p)
-JudgedFacts s l bytes (Block e n c) = Accepted s l bytes BLOCK (s .settings .u) c (BlockTests s e n)
-JudgedFacts s l bytes (State e c) = Accepted s l bytes STATE processorBytes c (StateTests s e)
-JudgedFacts s l bytes (Commit e p b c) = Accepted s l bytes COMMIT 0 c (CommitTests s (l .reply) e p b)
-JudgedFacts s l bytes (Ack e c) = ⊥
-JudgedFacts s l bytes Short = ReadReady s l
-JudgedFacts s l bytes (Refused n) = 0 < n
+JudgedFacts s l bytes r =
+    byKind r
+    (λ e p c. Accepted s l bytes PAGE (s .settings .u) c (PageTests s e p))
+    (λ e n c. Accepted s l bytes BLOCK (s .settings .u) c (BlockTests s e n))
+    (λ e c. Accepted s l bytes STATE processorBytes c (StateTests s e))
+    (λ e p b c. Accepted s l bytes COMMIT 0 c (CommitTests s (l .reply) e p b))
+    (onFound r ⊥ (ReadReady s l) (λ n. 0 < n))
 
 module _ (s : Standby) (l : ReadLent) (bytes : List ℕ) where
   record-facts : ReadReady s l → (r : Record) → ReadFacts reader.Standby (s .settings .u) bytes r → recordRefusal s (l .reply) r ≡ 0 → JudgedFacts s l bytes r
@@ -201,7 +201,7 @@ module _ (s : Standby) (l : ReadLent) (bytes : List ℕ) where
   record-facts ready (Commit e p b c) f z = record { ready = ready; tests = commit-accepted s (l .reply) e p b z; field = f }
   record-facts ready (Ack e c) f z = absurd (omega arith)
   record-facts ready Short f z = ready
-  record-facts ready (Refused n) f z = ⊎-elim (λ a. omega arith) (λ a. ⊎-elim (λ b. omega arith) (λ b. omega arith) (a .1)) f
+  record-facts ready (Refused n) f z = refused-number (s .settings .u) n f .0
 
   -- each answer in its order
   pub judged-range : standbyOk s ≡ false → judged s l bytes ≡ Refused outOfRange

@@ -1,6 +1,6 @@
 -- What a read keeps: a state stays in range, and reached, whatever record is judged, and what is cut short or refused
 -- changes nothing. Assumes nothing.
-use mathlib.Core.Path.{_≡_, refl, _∙_}
+use mathlib.Core.Path.{_≡_, refl, _∙_, ap}
 use mathlib.Core.List.{List}
 use Prim.Native.Nat.{ℕ, _+_, _-_, _≤_, _<_}
 use native.Mathlib.Omega.{arith}
@@ -11,7 +11,7 @@ use Rattle.records.specs.declared.Cursor.{Cursor}
 use Rattle.records.specs.declared.Record.{Record}
 use Rattle.records.specs.declared.Record.the-variants.{Page, Block, State, Commit, Ack, Short, Refused}
 use Rattle.records.specs.declared.Reader.the-variants as reader
-use Rattle.records.proofs.ReadLaws.{FieldsFit, read-fits}
+use Rattle.records.proofs.ReadLaws.{found-cases, FieldsFit, read-fits}
 use Rattle.settings.specs.Range.{mostEpoch}
 use Rattle.staging.specs.Slot.{withBlock, allDue}
 use Rattle.staging.proofs.SlotLaws.{array-with-block, slots-with-block, slots-all-due}
@@ -25,6 +25,7 @@ use Rattle.rules.specs.Read.{bytesAt, sealedState, installedState, readS
 use Rattle.rules.specs.Reached.{StandbyInRange, StandbyReached}
 use Rattle.rules.proofs.DetectorFacts.{detector-of, reset-facts}
 use Rattle.rules.proofs.StandbyFacts.{standby-tests, standby-tested, standby-facts, in-range-slots, reached-slots}
+use Rattle.rules.proofs.ReplyLaws.{answer-found}
 use Rattle.rules.proofs.JudgeLaws.{PageTests, BlockTests, JudgedFacts, judged-cases, judged-facts}
 
 -- the field of bytes of a record has its size
@@ -186,10 +187,6 @@ module _ (s : Standby) (bytes memory pages marks blocks reply : List ℕ) where
 
   -- whatever has another number than 0
   pub nothing-read : (r : Record) → (numberOf (answerOf r) ≡ 0 → ⊥) → NothingRead s bytes memory pages marks blocks reply r
-  nothing-read (Page e p c) z = absurd (z refl)
-  nothing-read (Block e n c) z = absurd (z refl)
-  nothing-read (State e c) z = absurd (z refl)
-  nothing-read (Commit e p b c) z = absurd (z refl)
-  nothing-read (Ack e c) z = absurd (z refl)
-  nothing-read Short z = nothing-short
-  nothing-read (Refused n) z = nothing-refused n
+  nothing-read =
+      found-cases (λ r. (numberOf (answerOf r) ≡ 0 → ⊥) → NothingRead s bytes memory pages marks blocks reply r)
+      (λ r h z. absurd (z (ap numberOf (answer-found r h)))) (λ z. nothing-short) (λ n z. nothing-refused n)

@@ -1,16 +1,21 @@
 -- Laws of the replies, one for all calls: an accepted call gives the new state and the value, a refused one the old state and 0;
 -- the same of a call that reads a record. Assumes nothing.
-use mathlib.Core.Path.{_≡_, refl, sym, _∙_}
+use mathlib.Core.Path.{_≡_, refl, sym, ap, _∙_}
+use mathlib.Core.Bool.{true}
 use mathlib.Core.Logic.{⊎-elim}
 use Prim.Native.Nat.{ℕ}
 use borrow.Author.Tests.{eq-eqb, ne-eqb}
 use Rattle.lists.specs.Refusal.{pick}
 use Rattle.lists.proofs.TestLaws.{eq-or-ne}
 use Rattle.records.specs.declared.Record.{Record}
-use Rattle.records.specs.declared.Record.the-variants.{Page, Block, State, Commit, Ack, Short, Refused}
+use Rattle.records.specs.declared.Record.the-variants.{Refused}
+use Rattle.records.specs.Read.{valueOf as value, usedOf as used}
+use Rattle.records.proofs.ReadLaws.{isFound, on-found, number-found, found-cases}
 use Rattle.rules.specs.declared.Primary.{Primary}
 use Rattle.rules.specs.declared.Standby.{Standby}
-use Rattle.rules.specs.Reply.{primaryReply, standbyReply, numberOf, valueOf, usedOf, unlessRefused, answerOf}
+use Rattle.rules.specs.declared.Answer.the-variants.{Accepted}
+use Rattle.rules.specs.declared.Answer.the-variants as answer-of
+use Rattle.rules.specs.Reply.{primaryReply, standbyReply, numberOf, valueOf, usedOf, unlessRefused, answerOf, Answered}
 
 -- a fact of what a call leaves is shown of the new where it is accepted, and of the old where it is refused
 pub pick-cases : {A : Type 0} (P : A → Type 0) (number : ℕ) (new old : A) → (number ≡ 0 → P new) → ((number ≡ 0 → ⊥) → P old) → P (pick number new old)
@@ -57,12 +62,19 @@ module _ (number : ℕ) (r : Record) where
   pub unless-cases : (P : Record → Type 0) → (number ≡ 0 → P r) → ((number ≡ 0 → ⊥) → P (Refused number)) → P (unlessRefused number r)
   unless-cases P f g = pick-cases P number r (Refused number) f g
 
+-- ---- the answer of a call that reads a record
+pub answer-found : (r : Record) → isFound r ≡ true → answerOf r ≡ Accepted (value r) (used r)
+answer-found r = on-found (Accepted (value r) (used r)) answer-of.Short (λ n. answer-of.Refused n) r
+
+pub answers : (r : Record) → Answered r (answerOf r)
+answers =
+    found-cases (λ r. Answered r (answerOf r))
+    (λ r h. let e = answer-found r h in record { number-is = ap numberOf e ∙ sym (number-found r h); value-is = ap valueOf e; used-is = ap usedOf e })
+    (record { number-is = refl; value-is = refl; used-is = refl })
+    (λ n. record { number-is = refl; value-is = refl; used-is = refl })
+
 -- "Every refusal's value is 0", and "A record cut short or refused uses 0"
 pub answer-refused : (r : Record) → (numberOf (answerOf r) ≡ 0 → ⊥) → (valueOf (answerOf r) ≡ 0) × (usedOf (answerOf r) ≡ 0)
-answer-refused (Page e p c) f = absurd (f refl)
-answer-refused (Block e n c) f = absurd (f refl)
-answer-refused (State e c) f = absurd (f refl)
-answer-refused (Commit e p b c) f = absurd (f refl)
-answer-refused (Ack e c) f = absurd (f refl)
-answer-refused Short f = (refl, refl)
-answer-refused (Refused n) f = (refl, refl)
+answer-refused =
+    found-cases (λ r. (numberOf (answerOf r) ≡ 0 → ⊥) → (valueOf (answerOf r) ≡ 0) × (usedOf (answerOf r) ≡ 0))
+    (λ r h f. absurd (f (ap numberOf (answer-found r h)))) (λ f. (refl, refl)) (λ n f. (refl, refl))

@@ -1,5 +1,5 @@
 -- Laws of drain and ACK: what acceptance says, each answer of the judged ACK, and that the ranges are kept. Assumes nothing.
-use mathlib.Core.Path.{_≡_, refl}
+use mathlib.Core.Path.{_≡_, refl, subst}
 use mathlib.Core.Bool.{Bool, true, false, cond}
 use mathlib.Core.List.{List}
 use Prim.Native.Nat.{ℕ, _-_, _<_}
@@ -11,13 +11,15 @@ use Rattle.records.specs.declared.Cursor.{Cursor}
 use Rattle.records.specs.declared.Record.{Record}
 use Rattle.records.specs.declared.Record.the-variants.{Page, Block, State, Commit, Ack, Short, Refused}
 use Rattle.records.specs.declared.Reader.the-variants as reader
+use Rattle.records.specs.Cases.{onAck, onFound}
 use Rattle.records.specs.Read.{readRecord}
 use Rattle.records.specs.Number.{outOfRange, wrongMode}
+use Rattle.records.proofs.ReadLaws.{on-ack}
 use Rattle.detector.specs.Tick.{reset}
 use Rattle.rules.specs.declared.Primary.{Primary}
 use Rattle.rules.specs.PrimaryState.{primaryOk, protected, withWaiting, withAcknowledgedDetector}
 use Rattle.rules.specs.Reply.{unlessRefused}
-use Rattle.rules.specs.Stream.{drainTests, ackTests, drainRefusal, drainCount, drainReply, ackRefusal, ackJudged, ackState, ackReply}
+use Rattle.rules.specs.Stream.{drainTests, ackTests, drainRefusal, drainCount, drainReply, ackRefusal, ackJudged, ackReply}
 use Rattle.rules.specs.Reached.{PrimaryReached}
 use Rattle.rules.proofs.DetectorFacts.{reset-facts}
 use Rattle.rules.proofs.PrimaryFacts.{primary-facts, primary-of}
@@ -47,13 +49,7 @@ pub record AckFacts (p : Primary) (e : ℕ) : Type 0 where
 
 -- a record that is judged is refused, cut short, or an ACK with these facts
 abbrev pub AckJudgedFacts : Primary → Record → Type 0
-AckJudgedFacts p (Page e n c) = ⊥
-AckJudgedFacts p (Block e n c) = ⊥
-AckJudgedFacts p (State e c) = ⊥
-AckJudgedFacts p (Commit e n b c) = ⊥
-AckJudgedFacts p (Ack e c) = AckFacts p e
-AckJudgedFacts p Short = Unit {0}
-AckJudgedFacts p (Refused n) = Unit {0}
+AckJudgedFacts p r = onAck r (λ e c. AckFacts p e) (onFound r ⊥ (Unit {0}) (λ n. Unit {0}))
 
 module _ (p : Primary) where
   -- an ACK's own refusal
@@ -139,13 +135,6 @@ module _ (p : Primary) where
 
   pub ack-reached : (bytes : List ℕ) → PrimaryReached p → PrimaryReached (ackReply p bytes .state)
   unfolding ackReply
-  ack-reached bytes r = go (ackJudged p bytes) (ack-accepted p bytes)
-    where
-      go : (j : Record) → AckJudgedFacts p j → PrimaryReached (ackState p j)
-      go (Page e n c) a = absurd a
-      go (Block e n c) a = absurd a
-      go (State e c) a = absurd a
-      go (Commit e n b c) a = absurd a
-      go (Ack e c) a = ack-state-reached e a r
-      go Short a = r
-      go (Refused n) a = r
+  ack-reached bytes r =
+      on-ack PrimaryReached (λ e c. withAcknowledgedDetector p e (reset (p .detector))) p (ackJudged p bytes)
+      (λ e c q. ack-state-reached e (subst (AckJudgedFacts p) q (ack-accepted p bytes)) r) r

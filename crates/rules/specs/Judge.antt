@@ -5,11 +5,12 @@ use mathlib.Core.List.{List, [], _∷_}
 use lib.Dec.{leb, ltb, eqb}
 use Rattle.lists.specs.Refusal.{Test, test, refusal}
 use Rattle.records.specs.declared.Record.{Record}
-use Rattle.records.specs.declared.Record.the-variants.{Page, Block, State, Commit, Ack, Short, Refused}
+use Rattle.records.specs.declared.Record.the-variants.{Refused}
 use Rattle.records.specs.declared.Reader.the-variants as reader
 use Rattle.records.specs.Kind.{ACK, recordLength}
-use Rattle.records.specs.Read.{readRecord}
-use Rattle.records.specs.Number.{outOfRange, noSuchUnit, noRoom, badKind, badEpoch, outOfOrder, badCounts, wrongMode, allowanceUsed, slotsFull}
+use Rattle.records.specs.Cases.{byKind}
+use Rattle.records.specs.Read.{readRecord, otherRefusal}
+use Rattle.records.specs.Number.{outOfRange, noSuchUnit, noRoom, badEpoch, outOfOrder, badCounts, wrongMode, allowanceUsed, slotsFull}
 use Rattle.staging.specs.Slot.{freeSlots}
 use Rattle.rules.specs.declared.Standby.{Standby}
 use Rattle.rules.specs.declared.ReadLent.{ReadLent}
@@ -73,15 +74,9 @@ commitTests s reply epoch pages blocks =
 unfoldable pub commitRefusal : Standby → ℕ → ℕ → ℕ → ℕ → ℕ
 commitRefusal s reply epoch pages blocks = refusal (commitTests s reply epoch pages blocks)
 
--- what is cut short has nothing more to be refused for, and stays so
 abbrev pub recordRefusal : Standby → ℕ → Record → ℕ
-recordRefusal s reply (Page e p c) = pageRefusal s e p
-recordRefusal s reply (Block e n c) = blockRefusal s e n
-recordRefusal s reply (State e c) = stateRefusal s e
-recordRefusal s reply (Commit e p b c) = commitRefusal s reply e p b
-recordRefusal s reply (Ack e c) = badKind
-recordRefusal s reply Short = 0
-recordRefusal s reply (Refused n) = n
+recordRefusal s reply r =
+    byKind r (λ e p c. pageRefusal s e p) (λ e n c. blockRefusal s e n) (λ e c. stateRefusal s e) (λ e p b c. commitRefusal s reply e p b) (otherRefusal r)
 
 -- the record at the head of the bytes where it is accepted, else cut short or the number
 unfoldable pub judged : Standby → ReadLent → List ℕ → Record

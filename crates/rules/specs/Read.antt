@@ -8,7 +8,7 @@ use Rattle.lists.specs.Part.{part, put}
 use Rattle.lists.specs.Page.{withPage}
 use Rattle.records.specs.declared.Cursor.{Cursor}
 use Rattle.records.specs.declared.Record.{Record}
-use Rattle.records.specs.declared.Record.the-variants.{Page, Block, State, Commit, Ack, Short, Refused}
+use Rattle.records.specs.Cases.{onPage, onBlock, onCommit, byKind}
 use Rattle.records.specs.Kind.{COMMIT}
 use Rattle.records.specs.Read.{kindOf}
 use Rattle.records.specs.Write.{ackRecord}
@@ -43,65 +43,35 @@ sealedState s = withNoRecords s
 abbrev pub installedState : Standby → ℕ → Standby
 installedState s epoch = withReceivedSlotsProcessor s epoch (allDue (s .slots)) (s .pending)
 
--- the state after a record is accepted, but for the detector
+-- the state after a record is accepted, but for the detector; any other answer leaves it
 abbrev pub afterRecord : Standby → List ℕ → Record → Standby
-afterRecord s bytes (Page e p c) = withPagesNext s (s .pages + 1) (p + 1)
-afterRecord s bytes (Block e n c) = withSlotsBlocks s (withBlock (s .slots) n) (s .blocks + 1)
-afterRecord s bytes (State e c) = withPendingSeen s (bytesAt c bytes)
-afterRecord s bytes (Commit e p b c) = installedState (sealedState s) e
-afterRecord s bytes (Ack e c) = s
-afterRecord s bytes Short = s
-afterRecord s bytes (Refused n) = s
+afterRecord s bytes r =
+    byKind r
+    (λ e p c. withPagesNext s (s .pages + 1) (p + 1))
+    (λ e n c. withSlotsBlocks s (withBlock (s .slots) n) (s .blocks + 1))
+    (λ e c. withPendingSeen s (bytesAt c bytes))
+    (λ e p b c. installedState (sealedState s) e)
+    s
 
 abbrev pub readState : Standby → List ℕ → Record → Standby
 readState s bytes r = withDetector (afterRecord s bytes r) (detectorAfter (kindOf r) (s .detector))
 
 -- each lent buffer: "A record cut short or refused .. changes nothing"
 abbrev pub memoryAfter : Standby → List ℕ → List ℕ → List ℕ → Record → List ℕ
-memoryAfter s memory staged marks (Page e p c) = memory
-memoryAfter s memory staged marks (Block e n c) = memory
-memoryAfter s memory staged marks (State e c) = memory
-memoryAfter s memory staged marks (Commit e p b c) = installed memory staged marks (s .settings .u) (s .settings .m)
-memoryAfter s memory staged marks (Ack e c) = memory
-memoryAfter s memory staged marks Short = memory
-memoryAfter s memory staged marks (Refused n) = memory
+memoryAfter s memory staged marks r = onCommit r (λ e p b c. installed memory staged marks (s .settings .u) (s .settings .m)) memory
 
 abbrev pub stagedPagesAfter : Standby → List ℕ → List ℕ → Record → List ℕ
-stagedPagesAfter s bytes staged (Page e p c) = withPage (s .settings .u) staged p (bytesAt c bytes)
-stagedPagesAfter s bytes staged (Block e n c) = staged
-stagedPagesAfter s bytes staged (State e c) = staged
-stagedPagesAfter s bytes staged (Commit e p b c) = staged
-stagedPagesAfter s bytes staged (Ack e c) = staged
-stagedPagesAfter s bytes staged Short = staged
-stagedPagesAfter s bytes staged (Refused n) = staged
+stagedPagesAfter s bytes staged r = onPage r (λ e p c. withPage (s .settings .u) staged p (bytesAt c bytes)) staged
 
 abbrev pub stagedMarksAfter : Standby → List ℕ → Record → List ℕ
-stagedMarksAfter s marks (Page e p c) = withMark marks p
-stagedMarksAfter s marks (Block e n c) = marks
-stagedMarksAfter s marks (State e c) = marks
-stagedMarksAfter s marks (Commit e p b c) = cleared marks (s .settings .m)
-stagedMarksAfter s marks (Ack e c) = marks
-stagedMarksAfter s marks Short = marks
-stagedMarksAfter s marks (Refused n) = marks
+stagedMarksAfter s marks r = onPage r (λ e p c. withMark marks p) (onCommit r (λ e p b c. cleared marks (s .settings .m)) marks)
 
 abbrev pub stagedBlocksAfter : Standby → List ℕ → List ℕ → Record → List ℕ
-stagedBlocksAfter s bytes slots (Page e p c) = slots
-stagedBlocksAfter s bytes slots (Block e n c) = withBlockBytes (s .settings .u) (s .slots) slots (bytesAt c bytes)
-stagedBlocksAfter s bytes slots (State e c) = slots
-stagedBlocksAfter s bytes slots (Commit e p b c) = slots
-stagedBlocksAfter s bytes slots (Ack e c) = slots
-stagedBlocksAfter s bytes slots Short = slots
-stagedBlocksAfter s bytes slots (Refused n) = slots
+stagedBlocksAfter s bytes slots r = onBlock r (λ e n c. withBlockBytes (s .settings .u) (s .slots) slots (bytesAt c bytes)) slots
 
 -- "writes the ACK into the first 8 bytes of the reply buffer"
 abbrev pub replyAfter : List ℕ → Record → List ℕ
-replyAfter reply (Page e p c) = reply
-replyAfter reply (Block e n c) = reply
-replyAfter reply (State e c) = reply
-replyAfter reply (Commit e p b c) = put reply 0 (ackRecord e)
-replyAfter reply (Ack e c) = reply
-replyAfter reply Short = reply
-replyAfter reply (Refused n) = reply
+replyAfter reply r = onCommit r (λ e p b c. put reply 0 (ackRecord e)) reply
 
 -- the lengths of what is lent
 abbrev pub readLent : List ℕ → List ℕ → List ℕ → List ℕ → List ℕ → ReadLent

@@ -1,10 +1,12 @@
 -- The replies of all calls: a refused call leaves the state and every lent buffer as before; "Every refusal's value is 0".
 -- In the refusals and replies of the calls, what is lent stands for its length; in the definitions of buffers, for its bytes. Assumes nothing.
 use Prim.Native.Nat.{ℕ}
+use mathlib.Core.Path.{_≡_}
 use Rattle.lists.specs.Refusal.{pick}
 use mathlib.Core.Bool.{cond}
 use lib.Dec.{eqb}
-use Rattle.records.specs.Read.{cutShort, valueOf as value, usedOf as used}
+use Rattle.records.specs.Cases.{onFound}
+use Rattle.records.specs.Read.{cutShort, numberOf as number, valueOf as value, usedOf as used}
 use Rattle.records.specs.declared.Record.{Record}
 use Rattle.records.specs.declared.Record.the-variants as record-of
 use Rattle.rules.specs.declared.Primary.{Primary}
@@ -44,14 +46,11 @@ abbrev pub unlessRefused : ℕ → Record → Record
 unlessRefused number r = cond (eqb number 0) r (record-of.Refused number)
 
 -- what a call answers, by the record that it judged: an accepted one with its value and the bytes that it uses
-abbrev acceptedAs : Record → Answer
-acceptedAs r = Accepted (value r) (used r)
-
 abbrev pub answerOf : Record → Answer
-answerOf (record-of.Page e p c) = acceptedAs (record-of.Page e p c)
-answerOf (record-of.Block e n c) = acceptedAs (record-of.Block e n c)
-answerOf (record-of.State e c) = acceptedAs (record-of.State e c)
-answerOf (record-of.Commit e p b c) = acceptedAs (record-of.Commit e p b c)
-answerOf (record-of.Ack e c) = acceptedAs (record-of.Ack e c)
-answerOf record-of.Short = Short
-answerOf (record-of.Refused n) = Refused n
+answerOf r = onFound r (Accepted (value r) (used r)) Short (λ n. Refused n)
+
+-- an answer says of the record that was judged this paper's number, its value and the bytes that it uses
+pub record Answered (r : Record) (a : Answer) : Type 0 where
+  pub number-is : numberOf a ≡ number r
+  pub value-is : valueOf a ≡ value r
+  pub used-is : usedOf a ≡ used r

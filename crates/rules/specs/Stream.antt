@@ -7,10 +7,11 @@ use lib.ListN.{length, take}
 use Rattle.lists.specs.Refusal.{Test, test, refusal, pick}
 use Rattle.lists.specs.Part.{put, removed}
 use Rattle.records.specs.declared.Record.{Record}
-use Rattle.records.specs.declared.Record.the-variants.{Page, Block, State, Commit, Ack, Short, Refused}
+use Rattle.records.specs.declared.Record.the-variants.{Refused}
 use Rattle.records.specs.declared.Reader.the-variants as reader
-use Rattle.records.specs.Read.{readRecord}
-use Rattle.records.specs.Number.{outOfRange, wrongMode, badAck, badKind}
+use Rattle.records.specs.Cases.{onAck}
+use Rattle.records.specs.Read.{readRecord, otherRefusal}
+use Rattle.records.specs.Number.{outOfRange, wrongMode, badAck}
 use Rattle.detector.specs.Tick.{reset}
 use Rattle.rules.specs.declared.Primary.{Primary}
 use Rattle.rules.specs.declared.PrimaryReply.{PrimaryReply}
@@ -47,15 +48,8 @@ drainDestination p stream n destination =
 abbrev pub ackTests : Primary → ℕ → List Test
 ackTests p epoch = test badAck (ltb (p .acknowledged) epoch && ltb epoch (p .epoch)) ∷ []
 
--- what is cut short has nothing more to be refused for, and stays so
 abbrev pub ackRefusal : Primary → Record → ℕ
-ackRefusal p (Page e n c) = badKind
-ackRefusal p (Block e n c) = badKind
-ackRefusal p (State e c) = badKind
-ackRefusal p (Commit e n b c) = badKind
-ackRefusal p (Ack e c) = refusal (ackTests p e)
-ackRefusal p Short = 0
-ackRefusal p (Refused n) = n
+ackRefusal p r = onAck r (λ e c. refusal (ackTests p e)) (otherRefusal r)
 
 -- the record at the head of the bytes where it is accepted, else cut short or the number
 unfoldable pub ackJudged : Primary → List ℕ → Record
@@ -67,13 +61,7 @@ ackJudged p bytes =
 
 -- "acknowledges all epochs up to e"; "the count returns to 0 at each accepted ACK"
 abbrev pub ackState : Primary → Record → Primary
-ackState p (Page e n c) = p
-ackState p (Block e n c) = p
-ackState p (State e c) = p
-ackState p (Commit e n b c) = p
-ackState p (Ack e c) = withAcknowledgedDetector p e (reset (p .detector))
-ackState p Short = p
-ackState p (Refused n) = p
+ackState p r = onAck r (λ e c. withAcknowledgedDetector p e (reset (p .detector))) p
 
 unfoldable pub ackReply : Primary → List ℕ → PrimaryAnswer
 ackReply p bytes = record { state = ackState p (ackJudged p bytes); answer = answerOf (ackJudged p bytes) }

@@ -8,11 +8,13 @@ use native.Mathlib.Omega.{arith}
 use lib.ListN.{length, take, drop}
 use Rattle.lists.proofs.TestLaws.{by-test}
 use Rattle.records.specs.declared.Record.{Record}
-use Rattle.records.specs.Read.{usedOf}
+use Rattle.records.specs.Read.{usedOf, cursorOf}
+use Rattle.records.specs.declared.Record.the-variants as record-of
+use Rattle.records.specs.declared.Reader.the-variants as reader
 use Rattle.records.specs.Write.{ackRecord}
 use Rattle.records.specs.Message.{Message, encode, encodeAll, readAs}
 use Rattle.records.specs.Message as message
-use Rattle.records.proofs.MessageLaws.{used-message, bytesOf, cursorOf, message-bytes}
+use Rattle.records.proofs.MessageLaws.{used-message, bytesOf, message-bytes}
 use Rattle.records.proofs.WriteLaws.{ack-written}
 use Rattle.settings.specs.declared.Settings.{Settings}
 use Rattle.settings.specs.declared.StandbySettings.{StandbySettings}

@@ -5,7 +5,8 @@ use mathlib.Core.List.{List, append-nil}
 use lib.ListN.{take}
 use borrow.Author.Tests.{ne-eqb}
 use Rattle.records.specs.declared.Record.{Record}
-use Rattle.records.specs.declared.Record.the-variants as record-of
+use Rattle.records.proofs.ReadLaws.{found-cases}
+use Rattle.rules.specs.Reply.{numberOf}
 use Rattle.rules.specs.PrimaryWrites.{memoryWriteReply, memoryWriteMemory, memoryWriteDirty, diskWriteReply, diskWriteDisk, diskWriteStream}
 use Rattle.rules.specs.Packets.{packetReply, packetHeld, takeReply, takeHeld, takeDestination}
 use Rattle.rules.specs.Checkpoint.{checkpointReply, checkpointDirty, checkpointStream}
@@ -13,6 +14,7 @@ use Rattle.rules.specs.Stream.{drainReply, drainStream, drainDestination}
 use Rattle.rules.specs.PrimaryTick.{primaryTickReply}
 use Rattle.rules.specs.Flush.{flushReply, flushStagedBlocks, flushDisk}
 use Rattle.rules.specs.Takeover.{standbyTickReply, standbyTickMarks, activationReply, activationArea, activeMemoryWriteReply, activeMemoryWriteMemory, activeDiskWriteReply, activeDiskWriteDisk}
+use Rattle.rules.proofs.ReplyLaws.{answer-found}
 use Rattle.rules.specs.World.{World, Call}
 use Rattle.rules.specs.World as call
 use Rattle.rules.specs.Step.{step}
@@ -77,25 +79,17 @@ module _ (w : World) where
 
   -- the calls that read a record
   ack-by : (r : Record) → (ackBy w r .outcome .number ≡ 0 → ⊥) → ackBy w r .next ≡ w
-  ack-by (record-of.Page e p c) ne = absurd (ne refl)
-  ack-by (record-of.Block e n c) ne = absurd (ne refl)
-  ack-by (record-of.State e c) ne = absurd (ne refl)
-  ack-by (record-of.Commit e p b c) ne = absurd (ne refl)
-  ack-by (record-of.Ack e c) ne = absurd (ne refl)
-  ack-by record-of.Short ne = refl
-  ack-by (record-of.Refused n) ne = refl
+  ack-by =
+      found-cases (λ r. (ackBy w r .outcome .number ≡ 0 → ⊥) → ackBy w r .next ≡ w)
+      (λ r h ne. absurd (ne (ap numberOf (answer-found r h)))) (λ ne. refl) (λ n ne. refl)
 
   refused-ack : (n : ℕ) → NotAccepted w (call.ack n) → step w (call.ack n) .next ≡ w
   refused-ack n ne = rw (ack-step w n) (ack-by (ackSeen w n) (rw (ack-step w n) at ne))
 
   read-by : (bytes reply : List ℕ) (r : Record) → (readBy w bytes reply r .outcome .number ≡ 0 → ⊥) → readBy w bytes reply r .next ≡ w
-  read-by bytes reply (record-of.Page e p c) ne = absurd (ne refl)
-  read-by bytes reply (record-of.Block e n c) ne = absurd (ne refl)
-  read-by bytes reply (record-of.State e c) ne = absurd (ne refl)
-  read-by bytes reply (record-of.Commit e p b c) ne = absurd (ne refl)
-  read-by bytes reply (record-of.Ack e c) ne = absurd (ne refl)
-  read-by bytes reply record-of.Short ne = rw append-nil
-  read-by bytes reply (record-of.Refused n) ne = rw (ne-eqb n 0 ne) (rw append-nil)
+  read-by bytes reply =
+      found-cases (λ r. (readBy w bytes reply r .outcome .number ≡ 0 → ⊥) → readBy w bytes reply r .next ≡ w)
+      (λ r h ne. absurd (ne (ap numberOf (answer-found r h)))) (λ ne. rw append-nil) (λ n ne. rw (ne-eqb n 0 ne) (rw append-nil))
 
   refused-read : (n : ℕ) (reply : List ℕ) → NotAccepted w (call.read n reply) → step w (call.read n reply) .next ≡ w
   refused-read n reply ne = rw (read-step w n reply) (read-by (take n (w .link)) reply (readSeen w n reply) (rw (read-step w n reply) at ne))

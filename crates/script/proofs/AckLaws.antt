@@ -2,26 +2,26 @@
 use Prim.Native.Nat.{ℕ, zero, suc, _+_, _-_, _≤_, _<_, min}
 use mathlib.Core.Path.{_≡_, refl, sym, ap, ap₂, _∙_}
 use mathlib.Core.Logic.{_⊎_, inl, inr, ⊎-elim}
-use mathlib.Core.Bool.{cond, false}
+use mathlib.Core.Bool.{cond, true, false}
 use mathlib.Core.List.{List, [], _++_, append-assoc, append-nil}
 use native.Mathlib.Nat.{add-zero}
 use native.Mathlib.Omega.{arith}
 use lib.Dec.{eqb}
 use lib.ListN.{length, take, drop, length-append}
 use lib.Seq.{take-at, drop-at}
-use borrow.Author.Tests.{ne-eqb}
+use borrow.Author.Tests.{eqb-true, ne-eqb}
 use Rattle.lists.proofs.TestLaws.{lt-or-ge}
 use Rattle.records.specs.declared.Record.{Record}
-use Rattle.records.specs.declared.Record.the-variants.{Page, Block, State, Commit, Ack, Short, Refused}
 use Rattle.records.specs.declared.Reader.the-variants as reader
 use Rattle.records.specs.Kind.{ACK, bodyLength, recordLength}
-use Rattle.records.specs.Read.{readRecord}
+use Rattle.records.specs.Read.{readRecord, kindOf}
 use Rattle.records.specs.Write.{ackRecord}
 use Rattle.records.proofs.FrameLaws.{length-epoch}
-use Rattle.records.proofs.ReadLaws.{ReadFacts, read-facts}
+use Rattle.records.proofs.ReadLaws.{isFound, found-cases, ReadFacts, found-facts, read-facts}
 use Rattle.rules.specs.declared.Primary.{Primary}
 use Rattle.rules.specs.Reply.{answerOf, usedOf}
-use Rattle.rules.specs.Stream.{ackRefusal, ackReply}
+use Rattle.rules.specs.Stream.{ackReply}
+use Rattle.rules.proofs.ReplyLaws.{answers}
 use Rattle.rules.proofs.StreamLaws.{ack-cases}
 use Rattle.script.specs.Pair.{isEmpty}
 use Rattle.script.specs.Site.{acksFrom, acksBetween}
@@ -106,21 +106,20 @@ abbrev Used : Record → Type 0
 Used r = (usedOf (answerOf r) ≡ 0) ⊎ (usedOf (answerOf r) ≡ 8)
 
 module _ (p : Primary) (bytes : List ℕ) where
-  used-read : (r : Record) → ReadFacts reader.Primary (p .settings .u) bytes r → ackRefusal p r ≡ 0 → Used r
+  used-found : (r : Record) → isFound r ≡ true → ReadFacts reader.Primary (p .settings .u) bytes r → Used r
   unfolding recordLength bodyLength
-  used-read (Page e n c) f z = absurd (omega arith)
-  used-read (Block e n c) f z = absurd (omega arith)
-  used-read (State e c) f z = absurd (omega arith)
-  used-read (Commit e n b c) f z = absurd (omega arith)
-  used-read (Ack e c) f z = inr (f .used)
-  used-read Short f z = inl refl
-  used-read (Refused n) f z = inl refl
+  used-found r h f =
+      let g = found-facts reader.Primary (p .settings .u) bytes r h f in
+      inr (answers r .used-is ∙ rw (eqb-true (kindOf r) ACK (g .for-reader)) at (g .used))
+
+  used-read : (r : Record) → ReadFacts reader.Primary (p .settings .u) bytes r → Used r
+  used-read = found-cases (λ r. ReadFacts reader.Primary (p .settings .u) bytes r → Used r) used-found (λ f. inl refl) (λ n f. inl refl)
 
   pub ack-used : (usedOf (ackReply p bytes .answer) ≡ 0) ⊎ (usedOf (ackReply p bytes .answer) ≡ 8)
   unfolding ackReply
   ack-used =
       ack-cases p bytes Used (λ n. inl refl)
-      (λ ok on z. used-read (readRecord reader.Primary (p .settings .u) bytes) (read-facts reader.Primary (p .settings .u) bytes) z)
+      (λ ok on z. used-read (readRecord reader.Primary (p .settings .u) bytes) (read-facts reader.Primary (p .settings .u) bytes))
 
 -- what is unread then
 pub acks-used : (first last used : ℕ) → first ≤ last → (used ≡ 0) ⊎ (used ≡ 8) → acksBetween (cond (eqb used 0) first (first + 1)) last ≡ drop used (acksBetween first last)

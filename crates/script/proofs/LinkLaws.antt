@@ -16,6 +16,8 @@ use Rattle.records.specs.declared.Record.{Record}
 use Rattle.records.specs.declared.Record.the-variants.{Page, Block, State, Commit, Ack, Short, Refused}
 use Rattle.records.specs.Kind.{COMMIT, bodyLength, recordLength}
 use Rattle.records.specs.Write.{ackRecord}
+use Rattle.records.specs.declared.Reader.the-variants as reader
+use Rattle.records.proofs.ReadLaws.{read-within}
 use Rattle.records.proofs.WriteLaws.{ack-written}
 use Rattle.rules.specs.declared.Primary.{Primary}
 use Rattle.rules.specs.declared.PrimaryReply.{PrimaryReply}
@@ -31,8 +33,8 @@ use Rattle.rules.specs.World as call
 use Rattle.rules.specs.Step.{step, outcome, ackWritten}
 use Rattle.rules.proofs.StreamLaws.{drain-accepted}
 use Rattle.rules.proofs.PrimaryFacts.{primary-facts}
-use Rattle.rules.proofs.ReplyLaws.{primary-reply-refused}
-use Rattle.rules.proofs.JudgeLaws.{JudgedFacts, judged-facts}
+use Rattle.rules.proofs.ReplyLaws.{primary-reply-refused, answers}
+use Rattle.rules.proofs.JudgeLaws.{JudgedFacts, judged-cases, judged-facts}
 use Rattle.script.specs.declared.Site.{Site}
 use Rattle.script.specs.Pair.{isEmpty, firstRecordLength, drained, done, ackBytes}
 use Rattle.script.specs.Site.{primaryOf, standbyOf, acksBetween, worldOf, doneOf}
@@ -145,16 +147,9 @@ module _ (s : Standby) (l : ReadLent) (bytes : List ℕ) where
   -- it uses bytes that are there
   pub used-inside : usedOf (readReply s l bytes .answer) ≤ length bytes
   unfolding readReply
-  used-inside = go (judged s l bytes) (judged-facts s l bytes)
-    where
-      go : (r : Record) → JudgedFacts s l bytes r → usedOf (answerOf r) ≤ length bytes
-      go (Page e p c) f = f .field .inside
-      go (Block e n c) f = f .field .inside
-      go (State e c) f = f .field .inside
-      go (Commit e p b c) f = f .field .inside
-      go (Ack e c) f = absurd f
-      go Short f = omega arith
-      go (Refused n) f = omega arith
+  used-inside =
+      judged-cases s l bytes (λ r. usedOf (answerOf r) ≤ length bytes) (λ n h. omega arith)
+      (λ ready z. rw (answers _ .used-is) (read-within reader.Standby (s .settings .u) bytes))
 
   abbrev readBy : Record → StandbyAnswer
   readBy r = record { state = readState s bytes r; answer = answerOf r }

@@ -19,6 +19,9 @@ use detector::Detector;
 use records::COMMIT;
 use records::Cursor;
 use records::Record;
+use records::reading::kind_of;
+use records::reading::used_of;
+use records::reading::value_of;
 use rules::Answer;
 use rules::Standby;
 use staging::Slots;
@@ -96,9 +99,7 @@ fn after_record(s: Standby, bytes: &[u8], r: Record) -> Standby
             blocks: _,
             at: _,
         } => installed_state(parts::with_no_records(s), epoch),
-        Record::Ack { epoch: _, at: _ } => s,
-        Record::Short => s,
-        Record::Refused { number: _ } => s,
+        _ => s,
     }
 }
 
@@ -119,50 +120,21 @@ pub(crate) fn read_state(s: Standby, bytes: &[u8], r: Record) -> Standby
 {
     let d = s.detector;
     let next = after_record(s, bytes, r);
-    let detector = detector_after(records::reading::kind_of(r), d);
+    let detector = detector_after(kind_of(r), d);
     parts::with_detector(next, detector)
 }
 
-// What a read answers, by the record judged: the kind is the value.
+// What the judged record answers.
 pub(crate) fn answer_of(r: Record) -> Answer
     ensures { λ a. ⌜ a ≡ answerOf r ⌝ }
 {
     match r {
-        Record::Page {
-            epoch: _,
-            page: _,
-            at,
-        } => Answer::Accepted {
-            value: 1,
-            used: at.end,
-        },
-        Record::Block {
-            epoch: _,
-            block: _,
-            at,
-        } => Answer::Accepted {
-            value: 2,
-            used: at.end,
-        },
-        Record::State { epoch: _, at } => Answer::Accepted {
-            value: 3,
-            used: at.end,
-        },
-        Record::Commit {
-            epoch: _,
-            pages: _,
-            blocks: _,
-            at,
-        } => Answer::Accepted {
-            value: 4,
-            used: at.end,
-        },
-        Record::Ack { epoch, at } => Answer::Accepted {
-            value: epoch as u64,
-            used: at.end,
-        },
         Record::Short => Answer::Short,
         Record::Refused { number } => Answer::Refused { number },
+        _ => Answer::Accepted {
+            value: value_of(r),
+            used: used_of(r),
+        },
     }
 }
 
@@ -233,15 +205,12 @@ pub(crate) fn apply(
             block: _,
             at,
         } => stage_block(blocks, bytes, k, u, at),
-        Record::State { epoch: _, at: _ } => {}
         Record::Commit {
             epoch,
             pages: _,
             blocks: _,
             at: _,
         } => install(memory, pages, marks, reply, u, m, epoch),
-        Record::Ack { epoch: _, at: _ } => {}
-        Record::Short => {}
-        Record::Refused { number: _ } => {}
+        _ => {}
     }
 }

@@ -8,6 +8,7 @@ use records::EPOCH_RECORD;
 use records::Reader;
 use records::Record;
 use records::number;
+use records::reading::other_refusal;
 use rules::ReadLent;
 use rules::Standby;
 
@@ -119,6 +120,7 @@ fn commit_refusal(s: Standby, reply: usize, epoch: u32, pages: usize, blocks: us
     0
 }
 
+// What a record that was read is refused with, by its kind: 6 for other kinds, or its own number.
 fn record_refusal(s: Standby, reply: usize, r: Record) -> u64
     ensures { λ n. ⌜ n ≡ recordRefusal s reply r ⌝ }
 {
@@ -136,9 +138,7 @@ fn record_refusal(s: Standby, reply: usize, r: Record) -> u64
             blocks,
             at: _,
         } => commit_refusal(s, reply, epoch, pages, blocks),
-        Record::Ack { epoch: _, at: _ } => number::BAD_KIND,
-        Record::Short => 0,
-        Record::Refused { number } => number,
+        _ => other_refusal(r),
     }
 }
 

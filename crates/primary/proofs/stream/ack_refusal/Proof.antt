@@ -1,25 +1,12 @@
 -- `primary::stream::ack_refusal` meets its contract. Assumes nothing.
+use mathlib.Core.Path.{sym, _∙_}
+use Rattle.lists.specs.Refusal.{refusal}
+use Rattle.records.specs.Read.{otherRefusal}
+use Rattle.records.proofs.ReadLaws.{ack-arm}
+use Rattle.rules.specs.Stream.{ackTests}
 use borrow.Author.Needs.{needs}
 use Rattle.primary.proofs.stream.ack_refusal.Statement.{statement}
 use Rattle.primary.proofs.stream.ack_refusal.Tie as tie
-
-returns-5 : tie.Need-returns-5
-returns-5 c = rw (c .before .before .r .given .1) (c .epoch-refusal .ensures)
-
-returns-7 : tie.Need-returns-7
-returns-7 c = rw (c .before .r2 .given .1)
-
-enum-told : tie.Need-enum-told
-enum-told c = search needs
-
-enum-told-2 : tie.Need-enum-told-2
-enum-told-2 c = search needs
-
-enum-told-3 : tie.Need-enum-told-3
-enum-told-3 c = search needs
-
-enum-told-4 : tie.Need-enum-told-4
-enum-told-4 c = search needs
 
 enum-known-r : tie.Need-enum-known-r
 enum-known-r c = search needs
@@ -27,26 +14,19 @@ enum-known-r c = search needs
 epoch-refusal-requires : tie.Need-epoch-refusal-requires
 epoch-refusal-requires c κs = search needs
 
-enum-told-5 : tie.Need-enum-told-5
-enum-told-5 c = search needs
-
-enum-known-r-2 : tie.Need-enum-known-r-2
-enum-known-r-2 c = search needs
+other-refusal-requires : tie.Need-other-refusal-requires
+other-refusal-requires c κs = search needs
 
 returns : tie.Need-returns
-returns c = search needs
+returns c = rw (c .before .before .r .given .1) (c .epoch-refusal .ensures)
 
+-- the arm behind the one for an ACK
 returns-2 : tie.Need-returns-2
-returns-2 c = search needs
-
-returns-3 : tie.Need-returns-3
-returns-3 c = search needs
-
-returns-4 : tie.Need-returns-4
-returns-4 c = search needs
-
-returns-6 : tie.Need-returns-6
-returns-6 c = search needs
+returns-2 c =
+    let a = c .before .before .args in
+    c .other-refusal .ensures ∙ sym (ack-arm (λ e at. refusal (ackTests (a .p) e)) (otherRefusal (a .r)) (a .r) (c .before .match .keys2))
 
 pub ack-refusal-spec : {M : Type 1} → statement M
-ack-refusal-spec = tie.close (tie.spec enum-told enum-told-2 enum-told-3 enum-told-4 enum-known-r epoch-refusal-requires enum-told-5 enum-known-r-2 returns returns-2 returns-3 returns-4 returns-5 returns-6 returns-7)
+ack-refusal-spec =
+    tie.close
+    (tie.spec enum-known-r epoch-refusal-requires other-refusal-requires returns returns-2)

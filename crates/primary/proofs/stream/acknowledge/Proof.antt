@@ -1,12 +1,18 @@
 -- `primary::stream::acknowledge` meets its contract. Assumes nothing.
 use borrow.Author.Needs.{needs}
-use Rattle.rules.specs.Stream.{ackReply}
+use mathlib.Core.Path.{ap}
+use Rattle.records.specs.declared.Record.{Record}
+use Rattle.rules.specs.Reply.{answerOf}
+use Rattle.rules.specs.Stream.{ackState, ackReply}
 use Rattle.primary.proofs.stream.acknowledge.Statement.{statement}
 use Rattle.primary.proofs.stream.acknowledge.Tie as tie
 
 returns : tie.Need-returns
 unfolding ackReply
-returns c = rw (c .before .ack-state .ensures, c .answer-of .ensures, c .before .before .ack-judged .ensures)
+returns c =
+    let p = c .before .before .before .before .args .p in
+    rw (c .before .ack-state .ensures, c .answer-of .ensures)
+    (ap (λ (r : Record). record { state = ackState p r; answer = answerOf r }) (c .before .before .ack-judged .ensures))
 
 ack-judged-requires : tie.Need-ack-judged-requires
 ack-judged-requires c κs = search needs

@@ -1,52 +1,43 @@
 -- `primary::stream::answer_of` meets its contract. Assumes nothing.
+use mathlib.Core.Path.{sym}
+use Rattle.records.proofs.ReadLaws.{found-arm}
+use Rattle.rules.proofs.ReplyLaws.{answer-found}
 use borrow.Author.Needs.{needs}
 use Rattle.primary.proofs.stream.answer_of.Statement.{statement}
 use Rattle.primary.proofs.stream.answer_of.Tie as tie
 
-returns : tie.Need-returns
-returns c = rw (c .before .r .given .1)
-
-returns-2 : tie.Need-returns-2
-returns-2 c = rw (c .before .r2 .given .1)
-
-returns-3 : tie.Need-returns-3
-returns-3 c = rw (c .before .r3 .given .1)
-
-returns-4 : tie.Need-returns-4
-returns-4 c = rw (c .before .r4 .given .1)
-
-returns-5 : tie.Need-returns-5
-returns-5 c = rw (c .before .r5 .given .1)
-
-returns-7 : tie.Need-returns-7
-returns-7 c = rw (c .before .r6 .given .1)
+enum-told : tie.Need-enum-told
+enum-told c = search needs
 
 enum-known-r : tie.Need-enum-known-r
 enum-known-r c = search needs
 
-enum-known-r-2 : tie.Need-enum-known-r-2
-enum-known-r-2 c = search needs
+value-of-requires : tie.Need-value-of-requires
+value-of-requires c κs = search needs
 
-enum-known-r-3 : tie.Need-enum-known-r-3
-enum-known-r-3 c = search needs
+used-of-requires : tie.Need-used-of-requires
+used-of-requires c κs = search needs
 
-enum-known-r-4 : tie.Need-enum-known-r-4
-enum-known-r-4 c = search needs
+returns : tie.Need-returns
+returns c = search needs
 
-enum-known-r-5 : tie.Need-enum-known-r-5
-enum-known-r-5 c = search needs
+returns-2 : tie.Need-returns-2
+returns-2 c = rw (c .before .r .given .1)
 
-cast-t10 : tie.Need-cast-t10
-cast-t10 c = search needs
-
-enum-told : tie.Need-enum-told
-enum-told c = search needs
-
-enum-known-r-6 : tie.Need-enum-known-r-6
-enum-known-r-6 c = search needs
-
-returns-6 : tie.Need-returns-6
-returns-6 c = search needs
+-- the arm behind those for cut short and refused
+returns-3 : tie.Need-returns-3
+returns-3 c =
+    let r = c .before .before .before .args .r in
+    rw (c .before .value-of .ensures, c .used-of .ensures) (sym (answer-found r (found-arm r (c .before .before .match .keys3))))
 
 pub answer-of-spec : {M : Type 1} → statement M
-answer-of-spec = tie.close (tie.spec enum-known-r enum-known-r-2 enum-known-r-3 enum-known-r-4 enum-known-r-5 cast-t10 enum-told enum-known-r-6 returns returns-2 returns-3 returns-4 returns-5 returns-6 returns-7)
+answer-of-spec =
+    tie.close
+    (tie.spec
+    enum-told
+    enum-known-r
+    value-of-requires
+    used-of-requires
+    returns
+    returns-2
+    returns-3)

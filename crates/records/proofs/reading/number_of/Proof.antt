@@ -1,10 +1,6 @@
-use mathlib.Core.Path.{_≡_, sym}
-use mathlib.Core.List.{[], _∷_}
-use Prim.Native.Nat.{ℕ}
+use mathlib.Core.Path.{sym}
 use borrow.Author.Needs.{needs}
-use types.Run.{miss}
-use Rattle.records.specs.declared.Record.the-variants.{Short, Refused}
-use Rattle.records.proofs.ReadLaws.{number-told}
+use Rattle.records.proofs.ReadLaws.{number-found, found-arm}
 use Rattle.records.proofs.reading.number_of.Statement.{statement}
 use Rattle.records.proofs.reading.number_of.Tie as tie
 
@@ -22,11 +18,7 @@ returns-2 c = search needs
 
 -- the arm behind those for cut short and refused
 returns-3 : tie.Need-returns-3
-returns-3 c =
-    sym
-    (number-told (c .before .args .r)
-    (λ e. miss (0 ∷ 1 ∷ 2 ∷ 3 ∷ 4 ∷ []) 5 tt (rw e at (c .match .keys3)))
-    (λ n e. miss (0 ∷ 1 ∷ 2 ∷ 3 ∷ 4 ∷ []) 6 tt (rw e at (c .match .keys3))))
+returns-3 c = let r = c .before .args .r in sym (number-found r (found-arm r (c .match .keys3)))
 
 pub number-of-spec : {M : Type 1} → statement M
 number-of-spec = tie.close (tie.spec enum-told enum-known-r returns returns-2 returns-3)

@@ -1,9 +1,7 @@
-use mathlib.Core.Path.{_≡_, sym, _∙_}
-use mathlib.Core.List.{[], _∷_}
+use mathlib.Core.Path.{sym, _∙_}
 use borrow.Author.Needs.{needs}
-use types.Run.{miss}
-use Rattle.records.specs.declared.Record.the-variants.{Ack}
-use Rattle.records.proofs.ReadLaws.{value-told}
+use Rattle.records.specs.Read.{kindOf}
+use Rattle.records.proofs.ReadLaws.{ack-arm}
 use Rattle.records.proofs.reading.value_of.Statement.{statement}
 use Rattle.records.proofs.reading.value_of.Tie as tie
 
@@ -21,7 +19,7 @@ returns c = search needs
 
 -- the arm behind the one for an ACK
 returns-2 : tie.Need-returns-2
-returns-2 c = c .kind-of .ensures ∙ sym (value-told (c .before .before .args .r) (λ e at z. miss (0 ∷ 1 ∷ 2 ∷ 3 ∷ 5 ∷ 6 ∷ []) 4 tt (rw z at (c .before .match .keys2))))
+returns-2 c = let r = c .before .before .args .r in c .kind-of .ensures ∙ sym (ack-arm (λ e at. e) (kindOf r) r (c .before .match .keys2))
 
 pub value-of-spec : {M : Type 1} → statement M
 value-of-spec = tie.close (tie.spec enum-known-r cast-result kind-of-requires returns returns-2)

@@ -1,4 +1,5 @@
-use mathlib.Core.Path.{_∙_}
+use mathlib.Core.Path.{sym, _∙_}
+use Rattle.standby.proofs.ArmLaws.{state-arm}
 use borrow.Author.Needs.{needs}
 use Rattle.standby.proofs.effects.after_record.Statement.{statement}
 use Rattle.standby.proofs.effects.after_record.Tie as tie
@@ -33,15 +34,6 @@ with-no-records-requires c κs = search needs
 installed-state-requires : tie.Need-installed-state-requires
 installed-state-requires c κs = search needs
 
-enum-told : tie.Need-enum-told
-enum-told c = search needs
-
-enum-told-2 : tie.Need-enum-told-2
-enum-told-2 c = search needs
-
-enum-told-3 : tie.Need-enum-told-3
-enum-told-3 c = search needs
-
 returns : tie.Need-returns
 returns c = rw (c .before .before .r .given .1) (c .with-page .ensures)
 
@@ -54,14 +46,11 @@ returns-3 c = rw (c .before .before .before .r3 .given .1) (c .with-pending-seen
 returns-4 : tie.Need-returns-4
 returns-4 c = rw (c .before .before .before .r4 .given .1) (c .installed-state .ensures ∙ rw (c .before .with-no-records .ensures))
 
+-- the arm behind those for the standby's kinds
 returns-5 : tie.Need-returns-5
-returns-5 c = rw (c .enum-told .given .1)
-
-returns-6 : tie.Need-returns-6
-returns-6 c = rw (c .enum-told2 .given .1)
-
-returns-7 : tie.Need-returns-7
-returns-7 c = rw (c .enum-told3 .given .1)
+returns-5 c =
+    let a = c .before .before .args in
+    sym (state-arm (a .s) (a .bytes .now) (a .r) (c .match .keys5))
 
 pub after-record-spec : {M : Type 1} → statement M
 after-record-spec =
@@ -77,13 +66,8 @@ after-record-spec =
     enum-known-r-4
     with-no-records-requires
     installed-state-requires
-    enum-told
-    enum-told-2
-    enum-told-3
     returns
     returns-2
     returns-3
     returns-4
-    returns-5
-    returns-6
-    returns-7)
+    returns-5)

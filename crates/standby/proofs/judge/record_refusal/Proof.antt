@@ -1,3 +1,5 @@
+use mathlib.Core.Path.{sym, _∙_}
+use Rattle.standby.proofs.ArmLaws.{refusal-arm}
 use borrow.Author.Needs.{needs}
 use Rattle.standby.proofs.judge.record_refusal.Statement.{statement}
 use Rattle.standby.proofs.judge.record_refusal.Tie as tie
@@ -26,14 +28,8 @@ enum-known-r-4 c = search needs
 commit-refusal-requires : tie.Need-commit-refusal-requires
 commit-refusal-requires c κs = search needs
 
-enum-told : tie.Need-enum-told
-enum-told c = search needs
-
-enum-told-2 : tie.Need-enum-told-2
-enum-told-2 c = search needs
-
-enum-known-r-5 : tie.Need-enum-known-r-5
-enum-known-r-5 c = search needs
+other-refusal-requires : tie.Need-other-refusal-requires
+other-refusal-requires c κs = search needs
 
 returns : tie.Need-returns
 returns c = rw (c .before .before .r .given .1) (c .page-refusal .ensures)
@@ -47,14 +43,11 @@ returns-3 c = rw (c .before .before .r3 .given .1) (c .state-refusal .ensures)
 returns-4 : tie.Need-returns-4
 returns-4 c = rw (c .before .before .r4 .given .1) (c .commit-refusal .ensures)
 
+-- the arm behind those for the standby's kinds
 returns-5 : tie.Need-returns-5
-returns-5 c = rw (c .enum-told .given .1)
-
-returns-6 : tie.Need-returns-6
-returns-6 c = rw (c .enum-told2 .given .1)
-
-returns-7 : tie.Need-returns-7
-returns-7 c = rw (c .before .r5 .given .1)
+returns-5 c =
+    let a = c .before .before .args in
+    c .other-refusal .ensures ∙ sym (refusal-arm (a .s) (a .reply) (a .r) (c .before .match .keys5))
 
 pub record-refusal-spec : {M : Type 1} → statement M
 record-refusal-spec =
@@ -68,13 +61,9 @@ record-refusal-spec =
     state-refusal-requires
     enum-known-r-4
     commit-refusal-requires
-    enum-told
-    enum-told-2
-    enum-known-r-5
+    other-refusal-requires
     returns
     returns-2
     returns-3
     returns-4
-    returns-5
-    returns-6
-    returns-7)
+    returns-5)

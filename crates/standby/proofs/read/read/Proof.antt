@@ -1,5 +1,7 @@
-use mathlib.Core.Path.{_∙_}
-use Rattle.rules.specs.Read.{readReply, readMemory, readStagedPages, readStagedMarks, readStagedBlocks, readReplyBytes}
+use mathlib.Core.Path.{ap, _∙_}
+use Rattle.records.specs.declared.Record.{Record}
+use Rattle.rules.specs.Reply.{answerOf}
+use Rattle.rules.specs.Read.{readState, stagedMarksAfter, readReply, readMemory, readStagedPages, readStagedMarks, readStagedBlocks, readReplyBytes}
 use Rattle.standby.proofs.FitsLaws.{judged-fits}
 use borrow.Author.Needs.{needs}
 use Rattle.standby.proofs.read.read.Statement.{statement}
@@ -35,9 +37,13 @@ same-length-5 c = search needs
 returns : tie.Need-returns
 unfolding readReply readMemory readStagedPages readStagedMarks readStagedBlocks readReplyBytes
 returns c =
+    let a = c .before .before .before .before .before .before .before .before .before .before .before .before .before .before .before .before .before .before .before .before .before .before .before .before .before .args in
     let j = c .before .before .before .before .before .before .before .before .before .before .before .before .before .before .before .before .before .before .judged .ensures in
-    let w = c .before .before .before .before .before .before .before .before .before .before .apply .ensures in
-    (rw (c .before .before .before .before .before .before .before .before .before .before .before .before .before .before .before .before .before .read-state .ensures, c .before .before .before .before .before .before .before .before .before .before .before .before .before .before .before .before .answer-of .ensures, j), (w .0 ∙ rw j, (w .1 .0 ∙ rw j, (w .1 .1 .0 ∙ rw j, (w .1 .1 .1 .0 ∙ rw j, w .1 .1 .1 .1 ∙ rw j)))))
+    let w = c .before .before .before .before .before .before .before .before .before .before .apply .ensures in (
+      rw (c .before .before .before .before .before .before .before .before .before .before .before .before .before .before .before .before .before .read-state .ensures, c .before .before .before .before .before .before .before .before .before .before .before .before .before .before .before .before .answer-of .ensures)
+          (ap (λ (r : Record). record { state = readState (a .s) (a .bytes .now) r; answer = answerOf r }) j),
+      (w .0 ∙ rw j, (w .1 .0 ∙ rw j, (w .1 .1 .0 ∙ ap (stagedMarksAfter (a .s) (a .marks .now)) j, (w .1 .1 .1 .0 ∙ rw j, w .1 .1 .1 .1 ∙ rw j)))),
+    )
 
 pub read-spec : {M : Type 1} → statement M
 read-spec =

@@ -1,0 +1,48 @@
+-- The last arm of each `match` on a record: what the definitions give behind the arms that name a kind. Assumes nothing.
+use mathlib.Core.Path.{_≡_, refl}
+use mathlib.Core.List.{List, [], _∷_}
+use Prim.Native.Nat.{ℕ}
+use types.Run.{OneOf, miss}
+use denote.Enum.Declared.{tagOf}
+use Rattle.records.specs.declared.Record.{Record}
+use Rattle.records.specs.declared.Record.the-variants.{Page, Block, State, Commit, Ack, Short, Refused}
+use Rattle.records.specs.Cases.{byKind}
+use Rattle.records.specs.Read.{otherRefusal}
+use Rattle.records.specs.declared.Cursor.{Cursor}
+use Rattle.records.proofs.Record.{the-type}
+use Rattle.rules.specs.declared.Standby.{Standby}
+use Rattle.rules.specs.Judge.{recordRefusal}
+use Rattle.rules.specs.Read.{afterRecord, memoryAfter, stagedPagesAfter, stagedMarksAfter, stagedBlocksAfter, replyAfter}
+
+-- behind PAGE, BLOCK, STATE and COMMIT
+other-arm : {A : Type 0} (page block : ℕ → ℕ → Cursor → A) (state : ℕ → Cursor → A) (commit : ℕ → ℕ → ℕ → Cursor → A) (rest : A) (r : Record)
+    → OneOf (4 ∷ 5 ∷ 6 ∷ []) (tagOf the-type r) → byKind r page block state commit rest ≡ rest
+other-arm page block state commit rest (Page e p c) k = absurd (miss (4 ∷ 5 ∷ 6 ∷ []) 0 tt k)
+other-arm page block state commit rest (Block e n c) k = absurd (miss (4 ∷ 5 ∷ 6 ∷ []) 1 tt k)
+other-arm page block state commit rest (State e c) k = absurd (miss (4 ∷ 5 ∷ 6 ∷ []) 2 tt k)
+other-arm page block state commit rest (Commit e p b c) k = absurd (miss (4 ∷ 5 ∷ 6 ∷ []) 3 tt k)
+other-arm page block state commit rest (Ack e c) k = refl
+other-arm page block state commit rest Short k = refl
+other-arm page block state commit rest (Refused n) k = refl
+
+pub refusal-arm : (s : Standby) (reply : ℕ) (r : Record) → OneOf (4 ∷ 5 ∷ 6 ∷ []) (tagOf the-type r) → recordRefusal s reply r ≡ otherRefusal r
+refusal-arm s reply r = other-arm _ _ _ _ (otherRefusal r) r
+
+pub state-arm : (s : Standby) (bytes : List ℕ) (r : Record) → OneOf (4 ∷ 5 ∷ 6 ∷ []) (tagOf the-type r) → afterRecord s bytes r ≡ s
+state-arm s bytes r = other-arm _ _ _ _ s r
+
+-- behind PAGE, BLOCK and COMMIT
+module _ (s : Standby) (bytes memory pages marks blocks reply : List ℕ) where
+  pub buffers-arm : (r : Record) → OneOf (2 ∷ 4 ∷ 5 ∷ 6 ∷ []) (tagOf the-type r)
+      → (memory ≡ memoryAfter s memory pages marks r)
+      × ((pages ≡ stagedPagesAfter s bytes pages r)
+      × ((marks ≡ stagedMarksAfter s marks r)
+      × ((blocks ≡ stagedBlocksAfter s bytes blocks r)
+      × (reply ≡ replyAfter reply r))))
+  buffers-arm (Page e p c) k = absurd (miss (2 ∷ 4 ∷ 5 ∷ 6 ∷ []) 0 tt k)
+  buffers-arm (Block e n c) k = absurd (miss (2 ∷ 4 ∷ 5 ∷ 6 ∷ []) 1 tt k)
+  buffers-arm (State e c) k = (refl, (refl, (refl, (refl, refl))))
+  buffers-arm (Commit e p b c) k = absurd (miss (2 ∷ 4 ∷ 5 ∷ 6 ∷ []) 3 tt k)
+  buffers-arm (Ack e c) k = (refl, (refl, (refl, (refl, refl))))
+  buffers-arm Short k = (refl, (refl, (refl, (refl, refl))))
+  buffers-arm (Refused n) k = (refl, (refl, (refl, (refl, refl))))
