@@ -5,7 +5,7 @@ ghost use lib.ListN.{length, take};
 ghost use Rattle.lists.specs.Part.{put, removed};
 ghost use Rattle.lists.specs.Refusal.{refusal};
 ghost use Rattle.rules.specs.PrimaryState.{withWaiting, withAcknowledgedDetector};
-ghost use Rattle.rules.specs.Reply.{answerOf};
+ghost use Rattle.rules.specs.Reply.{answerOf, Answered};
 ghost use Rattle.rules.specs.Stream.{drainRefusal, drainReply, drainStream, drainDestination, ackTests, ackRefusal, ackJudged, ackState, ackReply};
 use crate::ranges::numbers_ok;
 use crate::ranges::primary_ok;
@@ -187,6 +187,7 @@ fn answer_of(r: Record) -> Answer
 // Reads an ACK: it acknowledges all epochs up to its own.
 pub fn acknowledge(p: Primary, bytes: &[u8]) -> PrimaryAnswer
     ensures { λ r. ⌜ r ≡ ackReply p (now (bytes .entry)) ⌝ }
+    ensures { λ r. ⌜ Answered (ackJudged p (now (bytes .entry))) (r .answer) ⌝ }
 {
     let r = ack_judged(p, bytes);
     let state = ack_state(p, r);

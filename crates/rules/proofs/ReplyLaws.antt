@@ -1,6 +1,6 @@
 -- Laws of the replies, one for all calls: an accepted call gives the new state and the value, a refused one the old state and 0;
 -- the same of a call that reads a record. Assumes nothing.
-use mathlib.Core.Path.{_≡_, refl, sym, ap, _∙_}
+use mathlib.Core.Path.{_≡_, refl, sym, ap, subst, _∙_}
 use mathlib.Core.Bool.{true}
 use mathlib.Core.Logic.{⊎-elim}
 use Prim.Native.Nat.{ℕ}
@@ -13,6 +13,7 @@ use Rattle.records.specs.Read.{valueOf as value, usedOf as used}
 use Rattle.records.proofs.ReadLaws.{isFound, on-found, number-found, found-cases}
 use Rattle.rules.specs.declared.Primary.{Primary}
 use Rattle.rules.specs.declared.Standby.{Standby}
+use Rattle.rules.specs.declared.Answer.{Answer}
 use Rattle.rules.specs.declared.Answer.the-variants.{Accepted}
 use Rattle.rules.specs.declared.Answer.the-variants as answer-of
 use Rattle.rules.specs.Reply.{primaryReply, standbyReply, numberOf, valueOf, usedOf, unlessRefused, answerOf, Answered}
@@ -72,6 +73,10 @@ answers =
     (λ r h. let e = answer-found r h in record { number-is = ap numberOf e ∙ sym (number-found r h); value-is = ap valueOf e; used-is = ap usedOf e })
     (record { number-is = refl; value-is = refl; used-is = refl })
     (λ n. record { number-is = refl; value-is = refl; used-is = refl })
+
+-- as the code makes it: r is what was judged
+pub answered : (r judged : Record) (a : Answer) → r ≡ judged → a ≡ answerOf r → Answered judged a
+answered r judged a j e = subst (Answered judged) (sym (e ∙ ap answerOf j)) (answers judged)
 
 -- "Every refusal's value is 0", and "A record cut short or refused uses 0"
 pub answer-refused : (r : Record) → (numberOf (answerOf r) ≡ 0 → ⊥) → (valueOf (answerOf r) ≡ 0) × (usedOf (answerOf r) ≡ 0)

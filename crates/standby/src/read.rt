@@ -1,5 +1,7 @@
 // Reading one record of the stream.
 ghost use mathlib.Core.Path.{_≡_};
+ghost use Rattle.rules.specs.Reply.{Answered};
+ghost use Rattle.rules.specs.Judge.{judged};
 ghost use Rattle.rules.specs.Read.{readLent, readReply, readMemory, readStagedPages, readStagedMarks, readStagedBlocks, readReplyBytes};
 use crate::effects;
 use crate::judge;
@@ -23,6 +25,7 @@ pub fn read(
     ensures { λ _. ⌜ now (marks .exit) ≡ readStagedMarks s (readLent (now (memory .entry)) (now (pages .entry)) (now (marks .entry)) (now (blocks .entry)) (now (reply .entry))) (now (bytes .entry)) (now (marks .entry)) ⌝ }
     ensures { λ _. ⌜ now (blocks .exit) ≡ readStagedBlocks s (readLent (now (memory .entry)) (now (pages .entry)) (now (marks .entry)) (now (blocks .entry)) (now (reply .entry))) (now (bytes .entry)) (now (blocks .entry)) ⌝ }
     ensures { λ _. ⌜ now (reply .exit) ≡ readReplyBytes s (readLent (now (memory .entry)) (now (pages .entry)) (now (marks .entry)) (now (blocks .entry)) (now (reply .entry))) (now (bytes .entry)) (now (reply .entry)) ⌝ }
+    ensures { λ r. ⌜ Answered (judged s (readLent (now (memory .entry)) (now (pages .entry)) (now (marks .entry)) (now (blocks .entry)) (now (reply .entry))) (now (bytes .entry))) (r .answer) ⌝ }
 {
     let lent = ReadLent {
         memory: memory.len(),

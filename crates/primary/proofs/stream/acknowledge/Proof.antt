@@ -4,15 +4,18 @@ use mathlib.Core.Path.{ap}
 use Rattle.records.specs.declared.Record.{Record}
 use Rattle.rules.specs.Reply.{answerOf}
 use Rattle.rules.specs.Stream.{ackState, ackReply}
+use Rattle.rules.proofs.ReplyLaws.{answered}
 use Rattle.primary.proofs.stream.acknowledge.Statement.{statement}
 use Rattle.primary.proofs.stream.acknowledge.Tie as tie
 
 returns : tie.Need-returns
 unfolding ackReply
 returns c =
-    let p = c .before .before .before .before .args .p in
-    rw (c .before .ack-state .ensures, c .answer-of .ensures)
-    (ap (λ (r : Record). record { state = ackState p r; answer = answerOf r }) (c .before .before .ack-judged .ensures))
+    let a = c .before .before .before .before .args in
+    let j = c .before .before .ack-judged .ensures in (
+      rw (c .before .ack-state .ensures, c .answer-of .ensures) (ap (λ (r : Record). record { state = ackState (a .p) r; answer = answerOf r }) j),
+      answered _ _ _ j (c .answer-of .ensures),
+    )
 
 ack-judged-requires : tie.Need-ack-judged-requires
 ack-judged-requires c κs = search needs

@@ -33,7 +33,7 @@ returns c =
     c .answered .ensures
     ∙ ack-done (a .args .s) (c .before .before .before .before .acknowledge .result) (c .before .after-ack .result)
     (omega arith)
-    (c .before .before .before .before .acknowledge .ensures ∙ ap (ackReply (a .args .s .primary .state)) bytes)
+    (c .before .before .before .before .acknowledge .ensures .0 ∙ ap (ackReply (a .args .s .primary .state)) bytes)
     (rw (c .before .before .used-of .ensures) at (c .before .after-ack .ensures))
 
 pub read-ack-spec : {M : Type 1} → statement M

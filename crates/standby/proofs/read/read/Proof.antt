@@ -1,6 +1,7 @@
 use mathlib.Core.Path.{ap, _∙_}
 use Rattle.records.specs.declared.Record.{Record}
 use Rattle.rules.specs.Reply.{answerOf}
+use Rattle.rules.proofs.ReplyLaws.{answered}
 use Rattle.rules.specs.Read.{readState, stagedMarksAfter, readReply, readMemory, readStagedPages, readStagedMarks, readStagedBlocks, readReplyBytes}
 use Rattle.standby.proofs.FitsLaws.{judged-fits}
 use borrow.Author.Needs.{needs}
@@ -42,7 +43,7 @@ returns c =
     let w = c .before .before .before .before .before .before .before .before .before .before .apply .ensures in (
       rw (c .before .before .before .before .before .before .before .before .before .before .before .before .before .before .before .before .before .read-state .ensures, c .before .before .before .before .before .before .before .before .before .before .before .before .before .before .before .before .answer-of .ensures)
           (ap (λ (r : Record). record { state = readState (a .s) (a .bytes .now) r; answer = answerOf r }) j),
-      (w .0 ∙ rw j, (w .1 .0 ∙ rw j, (w .1 .1 .0 ∙ ap (stagedMarksAfter (a .s) (a .marks .now)) j, (w .1 .1 .1 .0 ∙ rw j, w .1 .1 .1 .1 ∙ rw j)))),
+      (w .0 ∙ rw j, (w .1 .0 ∙ rw j, (w .1 .1 .0 ∙ ap (stagedMarksAfter (a .s) (a .marks .now)) j, (w .1 .1 .1 .0 ∙ rw j, (w .1 .1 .1 .1 ∙ rw j, answered _ _ _ j (c .before .before .before .before .before .before .before .before .before .before .before .before .before .before .before .before .answer-of .ensures)))))),
     )
 
 pub read-spec : {M : Type 1} → statement M
