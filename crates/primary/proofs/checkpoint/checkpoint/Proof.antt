@@ -18,6 +18,12 @@ number : (c : tie.After-checkpoint-refusal) → let a = c .before .before .befor
     c .checkpoint-refusal .result ≡ checkpointNumber (a .p) (now (a .memory)) (now (a .dirty)) (now (a .stream))
 number c = rw (c .before .count .ensures) at (c .checkpoint-refusal .ensures)
 
+-- the dirty marks: they are cleared where the checkpoint is accepted, and past the test of the number it is
+marks-left : (c : tie.After-clear) → let a = c .before .before .before .before .before .before .before .before .before .before .before .before .before .before .before .args in
+    c .clear .last .0 ≡ checkpointDirty (a .p) (now (a .memory)) (now (a .dirty)) (now (a .stream))
+unfolding checkpointDirty
+marks-left c = c .clear .ensures ∙ sym (pick-accepted _ _ _ (sym (number (c .before .before .before .before .before .before .before .before)) ∙ c .before .before .before .before .before .before .before .if1 .left))
+
 -- the processor state has its 64 bytes
 size : (c : tie.Start) → length (c .args .processor) ≡ 64
 size c = search needs
@@ -77,7 +83,7 @@ returns-2 c =
     let w : done .result ≡ a .p .waiting + checkpointLength (a .p .settings .u) (dirtyCount (a .p) (now (a .dirty))) =
     done .ensures .position ∙ ap (λ n. a .p .waiting + n) (length-checkpoint (a .p) (now (a .memory)) (now (a .dirty)) (a .processor) (facts (c .before .before .before .before .before .before .before .before .before .before) .memory-is) (size (c .before .before .before .before .before .before .before .before .before .before .before .before .before .before .before .before .before .before))) in (
       rw (c .with-epoch-blocks-waiting .ensures, w) (primary-accepts _ _ _ _ _ (number (c .before .before .before .before .before .before .before .before .before .before .before)) (c .before .before .before .before .before .before .before .before .before .before .if1 .left)),
-      (c .before .before .before .clear .ensures ∙ sym (pick-accepted _ _ _ z), done .ensures .bytes ∙ sym (pick-accepted _ _ _ z)),
+      (marks-left (c .before .before .before), done .ensures .bytes ∙ sym (pick-accepted _ _ _ z)),
     )
 
 pub checkpoint-spec : {M : Type 1} → statement M
