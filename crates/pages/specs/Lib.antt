@@ -1,3 +1,4 @@
 pub mod Dirty
 pub mod DirtyMessages
 pub mod Clean
+pub mod Write

@@ -1,4 +1,4 @@
-// Dirty pages as PAGE records into the stream, and marked pages from the staged pages into memory.
+// Dirty pages as PAGE records into the stream, marked pages from the staged pages into memory, and a guest's write.
 // Both loops go from marked page to marked page.
 ghost use mathlib.Core.Path.{_≡_};
 ghost use Prim.Native.Nat.{_+_, _*_, _^_, _<_, _≤_};
@@ -9,6 +9,7 @@ ghost use Rattle.records.specs.Kind.{PAGE, recordLength};
 ghost use Rattle.records.specs.Write.{pageRecord};
 ghost use Rattle.marks.specs.Mark.{countMarks};
 ghost use Rattle.pages.specs.Dirty.{dirtyRecords, installed};
+ghost use Rattle.pages.specs.Write.{insidePage, written};
 
 // The PAGE record of page p into out from at on; the position behind it.
 fn write_one(out: &mut [u8], at: usize, memory: &[u8], u: usize, epoch: u32, p: usize) -> usize
@@ -60,4 +61,22 @@ pub fn install(memory: &mut [u8], staged: &[u8], marks: &[u64], u: usize, m: usi
         install_one(memory, staged, u, p);
         p = marks::next_marked(marks, p + 1, m);
     }
+}
+
+// "1 to U bytes inside one page". No sum is made, so none can wrap.
+pub fn inside_page(u: usize, offset: usize, n: usize) -> bool
+    ensures { λ r. ⌜ r ≡ insidePage u offset n ⌝ }
+{
+    if u < offset {
+        return false;
+    }
+    (1 <= n) & (n <= u - offset)
+}
+
+// The bytes into their page, from the offset on.
+pub fn write(memory: &mut [u8], u: usize, page: usize, offset: usize, bytes: &[u8])
+    requires { ⌜ page * u + offset + length (now bytes) ≤ length (now memory) ⌝ }
+    ensures { λ _. ⌜ now (memory .exit) ≡ written u (now (memory .entry)) page offset (now (bytes .entry)) ⌝ }
+{
+    lists::copy_into(memory, page * u + offset, bytes);
 }

@@ -6,7 +6,6 @@ ghost use lib.ListN.{length};
 ghost use Rattle.lists.specs.Part.{put};
 ghost use Rattle.lists.specs.Page.{withPage};
 ghost use Rattle.records.specs.Write.{blockRecord};
-ghost use Rattle.rules.specs.Common.{written};
 ghost use Rattle.rules.specs.PrimaryState.{primaryOk, withBlocksWaiting};
 ghost use Rattle.rules.specs.PrimaryWrites.{memoryWriteRefusal, memoryWriteReply, memoryWriteMemory, memoryWriteDirty, diskWriteRefusal, diskWriteState, diskWriteReply, diskWriteDisk, diskWriteStream};
 use crate::ranges::memory_ok;
@@ -16,7 +15,7 @@ use records::number;
 use rules::Primary;
 use rules::PrimaryReply;
 
-// What a memory write is refused with: 1 2 3. No sum of the arguments is made, so none can wrap.
+// What a memory write is refused with: 1 2 3.
 fn memory_write_refusal(
     p: Primary,
     memory: usize,
@@ -36,25 +35,10 @@ fn memory_write_refusal(
     if m <= page {
         return number::NO_SUCH_UNIT;
     }
-    if n < 1 {
-        return number::BAD_SIZE;
-    }
-    if u < n {
-        return number::BAD_SIZE;
-    }
-    if u - n < offset {
+    if !pages::inside_page(u, offset, n) {
         return number::BAD_SIZE;
     }
     0
-}
-
-// The bytes into their page.
-fn write_memory(memory: &mut [u8], u: usize, page: usize, offset: usize, bytes: &[u8])
-    requires { ⌜ page * u + offset + length (now bytes) ≤ length (now memory) ⌝ }
-    ensures { λ _. ⌜ now (memory .exit) ≡ written u (now (memory .entry)) page offset (now (bytes .entry)) ⌝ }
-{
-    let at = page * u + offset;
-    lists::copy_into(memory, at, bytes);
 }
 
 // Writes 1 to U bytes inside one page, which becomes dirty even if its bytes are equal.
@@ -81,7 +65,7 @@ pub fn memory_write(
             value: 0,
         };
     }
-    write_memory(memory, u, page, offset, bytes);
+    pages::write(memory, u, page, offset, bytes);
     marks::mark(dirty, page);
     PrimaryReply {
         state: p,

@@ -14,7 +14,7 @@ use Rattle.queue.specs.Held.{lengthsOk, sumLengths, epochsOk, queueOk, added, a
 use Rattle.staging.specs.Slot.{numbersOk, slotsOk, withBlock, withBlockBytes, allDue, onlyDue, stored, flushed, flushedBytes}
 use Rattle.detector.specs.Tick.{ticked}
 use Rattle.detector.specs.Range.{detectorOk}
-use Rattle.rules.specs.Common.{written}
+use Rattle.pages.specs.Write.{written}
 use Rattle.rules.specs.PrimaryState.{primaryOk}
 use Rattle.rules.specs.StandbyState.{standbyOk}
 use Rattle.rules.specs.PrimaryWrites.{memoryWriteRefusal, memoryWriteReply, memoryWriteMemory, memoryWriteDirty, diskWriteRefusal, diskWriteState, diskWriteReply, diskWriteDisk, diskWriteStream}

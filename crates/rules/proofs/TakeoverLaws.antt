@@ -17,7 +17,7 @@ use Rattle.rules.specs.declared.Mode.{Mode}
 use Rattle.rules.specs.declared.Mode.the-variants.{TakingOver, Active}
 use Rattle.rules.specs.declared.Standby.{Standby}
 use Rattle.detector.specs.Range.{detectorOk}
-use Rattle.rules.specs.Common.{insidePage}
+use Rattle.pages.specs.Write.{insidePage}
 use Rattle.rules.specs.StandbyState.{standbyOk, isReceiving, isTakingOver, isActive, memoryLength, diskLength, marksLength, withDetector, withMode}
 use Rattle.rules.specs.Takeover.{standbyTickTests, activationTests, activeWriteTests, standbyTickRefusal, dropped, takesOver, standbyTickState, activationRefusal, activeMemoryWriteRefusal, activeDiskWriteRefusal}
 use Rattle.rules.specs.Reached.{StandbyInRange, StandbyReached}

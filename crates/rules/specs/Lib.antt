@@ -1,4 +1,3 @@
-pub mod Common
 pub mod PrimaryState
 pub mod StandbyState
 pub mod Reply

@@ -13,7 +13,7 @@ use Rattle.records.specs.Number.{outOfRange, noSuchUnit, badSize, allowanceUsed
 use Rattle.marks.specs.Mark.{withMark}
 use Rattle.rules.specs.declared.Primary.{Primary}
 use Rattle.rules.specs.declared.PrimaryReply.{PrimaryReply}
-use Rattle.rules.specs.Common.{insidePage, written}
+use Rattle.pages.specs.Write.{insidePage, written}
 use Rattle.rules.specs.PrimaryState.{primaryOk, memoryLength, diskLength, marksLength, withBlocksWaiting}
 use Rattle.rules.specs.Reply.{primaryReply}
 

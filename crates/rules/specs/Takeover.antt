@@ -17,7 +17,7 @@ use Rattle.rules.specs.declared.Mode.the-variants.{TakingOver, Active}
 use Rattle.rules.specs.declared.Standby.{Standby}
 use Rattle.rules.specs.declared.StandbyReply.{StandbyReply}
 use Rattle.rules.specs.StandbyState.{standbyOk, isReceiving, isTakingOver, isActive, marksLength, withSlotsBlocks, withNoRecords, withDetector, withMode}
-use Rattle.rules.specs.Common.{insidePage, written}
+use Rattle.pages.specs.Write.{insidePage, written}
 use Rattle.rules.specs.Reply.{standbyReply}
 
 -- ---- tick: 1

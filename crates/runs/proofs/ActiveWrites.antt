@@ -11,7 +11,7 @@ use Rattle.lists.specs.Page.{withPage}
 use Rattle.lists.proofs.PartLaws.{length-put}
 use Rattle.lists.proofs.PageLaws.{page-end, length-with-page}
 use Rattle.settings.specs.declared.Settings.{Settings}
-use Rattle.rules.specs.Common.{written}
+use Rattle.pages.specs.Write.{written}
 use Rattle.rules.specs.StandbyState.{isReceiving, isActive}
 use Rattle.rules.specs.Takeover.{activeMemoryWriteReply, activeMemoryWriteMemory, activeDiskWriteReply, activeDiskWriteDisk}
 use Rattle.rules.specs.World as call

@@ -12,7 +12,7 @@ use Rattle.settings.specs.declared.Settings.{Settings}
 use Rattle.marks.specs.Mark.{withMark}
 use Rattle.marks.proofs.MarkLaws.{words-cover, length-withMark}
 use Rattle.pages.proofs.CleanLaws.{clean-write}
-use Rattle.rules.specs.Common.{written}
+use Rattle.pages.specs.Write.{written}
 use Rattle.rules.specs.PrimaryWrites.{memoryWriteReply, memoryWriteMemory, memoryWriteDirty}
 use Rattle.rules.specs.World as call
 use Rattle.rules.specs.Step.{atPrimary, step}

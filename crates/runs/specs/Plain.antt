@@ -7,7 +7,7 @@ use lib.ListN.{length, getD}
 use Rattle.lists.specs.Refusal.{pick}
 use Rattle.lists.specs.Page.{withPage}
 use Rattle.records.specs.Kind.{COMMIT}
-use Rattle.rules.specs.Common.{written}
+use Rattle.pages.specs.Write.{written}
 use Rattle.rules.specs.World.{Call}
 use Rattle.rules.specs.World as call
 use Rattle.rules.specs.Step.{Outcome}

@@ -7,7 +7,7 @@ ghost use Rattle.lists.specs.Refusal.{refusal, pick};
 ghost use Rattle.marks.specs.Mark.{cleared};
 ghost use Rattle.detector.specs.Tick.{expired};
 ghost use Rattle.rules.specs.declared.Mode.the-variants.{TakingOver};
-ghost use Rattle.rules.specs.Common.{insidePage, written};
+ghost use Rattle.pages.specs.Write.{written};
 ghost use Rattle.rules.specs.Reply.{standbyReply};
 ghost use Rattle.rules.specs.StandbyState.{standbyOk, withDetector, withMode};
 ghost use Rattle.rules.specs.Takeover.{dropped, standbyTickRefusal, standbyTickReply, standbyTickMarks, activationRefusal, activationReply, activationArea, activeWriteTests, activeMemoryWriteReply, activeMemoryWriteMemory, activeDiskWriteReply, activeDiskWriteDisk};
@@ -149,16 +149,6 @@ pub fn activate(s: Standby, area: &mut [u8]) -> StandbyReply
     }
 }
 
-// "1 to U bytes inside one page". No sum is made, so none can wrap.
-fn inside_page(u: usize, offset: usize, n: usize) -> bool
-    ensures { λ r. ⌜ r ≡ insidePage u offset n ⌝ }
-{
-    if u < offset {
-        return false;
-    }
-    (1 <= n) & (n <= u - offset)
-}
-
 // What a guest's write is refused with, of a page or block, its number, and whether the bytes have their size: 1 13 2 3.
 fn write_refusal(s: Standby, lent: usize, units: usize, unit: usize, sized: bool) -> u64
     requires { ⌜ (standbyOk s ≡ true → units ≤ 4096) ⌝ }
@@ -211,7 +201,7 @@ fn write(
             value: 0,
         };
     }
-    lists::copy_into(image, unit * u + offset, bytes);
+    pages::write(image, u, unit, offset, bytes);
     StandbyReply {
         state: s,
         number: 0,
@@ -231,7 +221,7 @@ pub fn memory_write(
     ensures { λ _. ⌜ now (memory .exit) ≡ activeMemoryWriteMemory s (now (memory .entry)) page offset (now (bytes .entry)) ⌝ }
 {
     let g = s.settings;
-    let sized = inside_page(g.u, offset, bytes.len());
+    let sized = pages::inside_page(g.u, offset, bytes.len());
     write(s, memory, g.m, page, offset, bytes, sized)
 }
 

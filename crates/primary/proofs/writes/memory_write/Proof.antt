@@ -26,8 +26,8 @@ returns c =
       (sym (pick-refused _ _ _ (λ z. c .if1 .taken (e ∙ z))), sym (pick-refused _ _ _ (λ z. c .if1 .taken (e ∙ z)))),
     )
 
-write-memory-requires : tie.Need-write-memory-requires
-write-memory-requires c κs = memory-write-end _ _ _ _ _ _ (memory-write-accepted _ _ _ _ _ _ (accepted (c .before)))
+write-requires : tie.Need-write-requires
+write-requires c κs = memory-write-end _ _ _ _ _ _ (memory-write-accepted _ _ _ _ _ _ (accepted (c .before)))
 
 mark-requires : tie.Need-mark-requires
 mark-requires c κs = search needs
@@ -46,7 +46,7 @@ unfolding memoryWriteReply memoryWriteMemory memoryWriteDirty
 returns-2 c =
     let z = accepted (c .before .before .before .before .before .before .before .before) in (
       primary-accepts _ _ _ _ _ (c .before .before .before .before .before .before .before .before .before .memory-write-refusal .ensures) (c .before .before .before .before .before .before .before .before .if1 .left),
-      (c .before .before .before .before .before .before .write-memory .ensures ∙ sym (pick-accepted _ _ _ z), c .before .before .mark .ensures ∙ sym (pick-accepted _ _ _ z)),
+      (c .before .before .before .before .before .before .write .ensures ∙ sym (pick-accepted _ _ _ z), c .before .before .mark .ensures ∙ sym (pick-accepted _ _ _ z)),
     )
 
 pub memory-write-spec : {M : Type 1} → statement M
@@ -55,7 +55,7 @@ memory-write-spec =
     (tie.spec
     memory-write-refusal-requires
     returns
-    write-memory-requires
+    write-requires
     mark-requires
     cast-t20
     same-length

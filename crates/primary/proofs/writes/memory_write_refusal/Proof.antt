@@ -2,10 +2,8 @@
 use borrow.Author.Needs.{needs}
 use mathlib.Core.Path.{_≡_, sym, _∙_}
 use mathlib.Core.Bool.{true, _&&_}
-use Prim.Native.Nat.{_+_, _<_, _≤_}
-use native.Mathlib.Omega.{arith}
 use lib.Dec.{eqb}
-use borrow.Author.Tests.{not-true, not-false, lt-ltb, le-ltb, le-leb, lt-leb}
+use borrow.Author.Tests.{not-true, not-false, lt-ltb, le-ltb}
 use Rattle.rules.specs.PrimaryState.{primaryOk, memoryLength, marksLength}
 use Rattle.rules.specs.PrimaryWrites.{memoryWriteRefusal}
 use Rattle.primary.proofs.writes.memory_write_refusal.Statement.{statement}
@@ -26,32 +24,22 @@ returns-2 : tie.Need-returns-2
 unfolding memoryWriteRefusal
 returns-2 c = simp (ok (c .before), le-ltb _ _ (c .if2 .taken))
 
+inside-page-requires : tie.Need-inside-page-requires
+inside-page-requires c κs = search needs
+
 returns-3 : tie.Need-returns-3
 unfolding memoryWriteRefusal
-returns-3 c = simp (ok (c .before .before), lt-ltb _ _ (c .before .if2 .left), lt-leb _ _ (c .if3 .taken))
+returns-3 c =
+    let k = c .before .inside-page in
+    simp (ok (c .before .before .before), lt-ltb _ _ (c .before .before .if2 .left), sym (k .ensures) ∙ not-true (k .result) (c .if3 .taken))
 
 returns-4 : tie.Need-returns-4
 unfolding memoryWriteRefusal
 returns-4 c =
-    let a = c .before .before .before .before .before .before .args in
-    let h : a .p .settings .u < a .offset + a .n = omega arith in
-    simp (ok (c .before .before .before), lt-ltb _ _ (c .before .before .if2 .left), le-leb _ _ (c .before .if3 .left), lt-leb _ _ h)
-
-returns-5 : tie.Need-returns-5
-unfolding memoryWriteRefusal
-returns-5 c =
-    let a = c .before .before .before .before .before .before .before .args in
-    let h : a .p .settings .u < a .offset + a .n = omega arith in
-    simp (ok (c .before .before .before .before), lt-ltb _ _ (c .before .before .before .if2 .left), le-leb _ _ (c .before .before .if3 .left), lt-leb _ _ h)
-
-returns-6 : tie.Need-returns-6
-unfolding memoryWriteRefusal
-returns-6 c =
-    let a = c .before .before .before .before .before .before .before .args in
-    let h : a .offset + a .n ≤ a .p .settings .u = omega arith in
-    simp (ok (c .before .before .before .before), lt-ltb _ _ (c .before .before .before .if2 .left), le-leb _ _ (c .before .before .if3 .left), le-leb _ _ h)
+    let k = c .before .inside-page in
+    simp (ok (c .before .before .before), lt-ltb _ _ (c .before .before .if2 .left), sym (k .ensures) ∙ not-false (k .result) (c .if3 .left))
 
 pub memory-write-refusal-spec : {M : Type 1} → statement M
 memory-write-refusal-spec =
     tie.close
-    (tie.spec memory-ok-requires returns returns-2 returns-3 returns-4 returns-5 returns-6)
+    (tie.spec memory-ok-requires returns returns-2 inside-page-requires returns-3 returns-4)

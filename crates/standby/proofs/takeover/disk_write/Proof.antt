@@ -5,7 +5,7 @@ use native.Mathlib.Nat.{add-zero}
 use lib.ListN.{length}
 use borrow.Author.Tests.{eqb-true}
 use Rattle.lists.specs.Page.{withPage}
-use Rattle.rules.specs.Common.{written}
+use Rattle.pages.specs.Write.{written}
 use Rattle.rules.specs.Takeover.{activeDiskWriteRefusal, activeDiskWriteReply, activeDiskWriteDisk}
 use Rattle.rules.proofs.StandbyFacts.{standby-facts}
 use Rattle.standby.proofs.takeover.disk_write.Statement.{statement}

@@ -10,7 +10,6 @@ use borrow.Author.Tests.{eqb-true, ltb-true}
 use Rattle.lists.specs.Refusal.{refusal}
 use Rattle.lists.proofs.TestLaws.{both, accepted, pick-accepted, pick-refused}
 use Rattle.lists.proofs.PageLaws.{page-end}
-use Rattle.rules.specs.Common.{written}
 use Rattle.rules.specs.declared.Standby.{Standby}
 use Rattle.rules.specs.StandbyState.{standbyOk}
 use Rattle.rules.proofs.ReplyLaws.{standby-accepts, standby-refuses}
@@ -40,29 +39,22 @@ returns c =
     let z = c .if1 .taken in
     (standby-refuses _ _ _ _ _ (k .ensures) z, sym (pick-refused _ _ _ (λ e. z (k .ensures ∙ e))))
 
-mul-copy-into : tie.Need-mul-copy-into
-mul-copy-into c = omega (arith, fits (c .before))
+write-requires : tie.Need-write-requires
+write-requires c κs = fits (c .before)
 
-add-copy-into : tie.Need-add-copy-into
-add-copy-into c = omega (arith, fits (c .before))
-
-copy-into-requires : tie.Need-copy-into-requires
-copy-into-requires c κs = fits (c .before)
-
-cast-t18 : tie.Need-cast-t18
-cast-t18 c = search needs
+cast-t17 : tie.Need-cast-t17
+cast-t17 c = search needs
 
 same-length : tie.Need-same-length
 same-length c = search needs
 
 returns-2 : tie.Need-returns-2
-unfolding written
 returns-2 c =
     let k = c .before .before .before .before .before .write-refusal in
     let z = c .before .before .before .before .if1 .left in
-    (standby-accepts _ _ _ _ _ (k .ensures) z, c .before .before .copy-into .ensures ∙ sym (pick-accepted _ _ _ (sym (k .ensures) ∙ z)))
+    (standby-accepts _ _ _ _ _ (k .ensures) z, c .before .before .write .ensures ∙ sym (pick-accepted _ _ _ (sym (k .ensures) ∙ z)))
 
 pub write-spec : {M : Type 1} → statement M
 write-spec =
     tie.close
-    (tie.spec write-refusal-requires returns mul-copy-into add-copy-into copy-into-requires cast-t18 same-length returns-2)
+    (tie.spec write-refusal-requires returns write-requires cast-t17 same-length returns-2)

@@ -1,4 +1,4 @@
--- `standby::takeover::inside_page` meets its contract. Assumes nothing.
+-- `pages::inside_page` meets its contract. Assumes nothing.
 use native.Mathlib.Omega.{arith}
 use mathlib.Core.Path.{_≡_}
 use Prim.Native.Nat.{ℕ, _+_, _-_, _≤_}
@@ -6,8 +6,8 @@ use lib.Dec.{leb}
 use mathlib.Core.Bool.{and-false}
 use borrow.Author.Tests.{lt-leb, le-leb, leb-true}
 use Rattle.lists.proofs.TestLaws.{agree}
-use Rattle.standby.proofs.takeover.inside_page.Statement.{statement}
-use Rattle.standby.proofs.takeover.inside_page.Tie as tie
+use Rattle.pages.proofs.inside_page.Statement.{statement}
+use Rattle.pages.proofs.inside_page.Tie as tie
 
 -- no sum is made
 room : (u offset n : ℕ) → offset ≤ u → leb n (u - offset) ≡ leb (offset + n) u

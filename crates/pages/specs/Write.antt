@@ -1,4 +1,4 @@
--- What both ends share: a guest's memory write. Assumes nothing.
+-- A guest's write into a page, at either end. Assumes nothing.
 use Prim.Native.Nat.{ℕ, _+_, _*_}
 use mathlib.Core.Bool.{Bool, _&&_}
 use mathlib.Core.List.{List}
