@@ -15,6 +15,7 @@ use crate::link;
 use crate::primary_commands;
 use crate::printing;
 use crate::standby_commands;
+use records::number::OUT_OF_RANGE;
 use text::Line;
 
 // What a command does.
@@ -33,7 +34,7 @@ pub fn perform(s: Site, c: Command) -> Performed
         Command::Takeover => standby_commands::takeover(s),
         Command::Other => Performed {
             site: s,
-            number: 1,
+            number: OUT_OF_RANGE,
             value: 0,
             last: false,
         },

@@ -7,6 +7,11 @@ use text::Line;
 use text::Number;
 use text::kept::number_is;
 
+// "v is 0 to 255, other numbers at most 4,294,967,295".
+const MOST_BYTE: u64 = 255;
+
+const MOST_NUMBER: u64 = 4294967295;
+
 // The command of a line of one word, which is this letter.
 fn letter_command(letter: u8) -> Command
     ensures { λ r. ⌜ r ≡ commandOfLine (record { words = 1; letters = 1; letter = letter; first = noNumber; second = noNumber }) ⌝ }
@@ -27,7 +32,7 @@ fn number_command(letter: u8, n: Number) -> Command
 {
     let value = n.value;
     if letter == b's' {
-        if !number_is(4294967295, n) {
+        if !number_is(MOST_NUMBER, n) {
             return Command::Other;
         }
         return Command::Send { length: value };
@@ -35,7 +40,7 @@ fn number_command(letter: u8, n: Number) -> Command
     if letter != b'c' {
         return Command::Other;
     }
-    if !number_is(255, n) {
+    if !number_is(MOST_BYTE, n) {
         return Command::Other;
     }
     Command::Close { byte: value as u8 }
@@ -47,10 +52,10 @@ fn pair_command(letter: u8, first: Number, second: Number) -> Command
 {
     let at = first.value;
     let value = second.value;
-    if !number_is(4294967295, first) {
+    if !number_is(MOST_NUMBER, first) {
         return Command::Other;
     }
-    if !number_is(255, second) {
+    if !number_is(MOST_BYTE, second) {
         return Command::Other;
     }
     let byte = value as u8;

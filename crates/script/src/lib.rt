@@ -1,4 +1,5 @@
 // The commands of the program `pair` on both ends and their link, at the settings of `pair`.
+use records::AREA_LENGTH;
 use rules::Primary;
 use rules::Standby;
 
@@ -10,6 +11,11 @@ pub mod printing;
 pub mod sites;
 pub mod standby_commands;
 
+// L, the bytes of the stream, and the bytes of the link: all that a drain may move fits it.
+pub const STREAM_BYTES: usize = 1024;
+
+pub const LINK_BYTES: usize = STREAM_BYTES;
+
 // The primary's box: its state and every buffer that its calls are lent.
 pub struct PrimaryBox {
     pub state: Primary,
@@ -17,7 +23,7 @@ pub struct PrimaryBox {
     pub disk: [u8; 256],
     pub dirty: [u64; 1],
     pub held: [u8; 256],
-    pub stream: [u8; 1024],
+    pub stream: [u8; STREAM_BYTES],
 }
 
 // The standby's box.
@@ -28,7 +34,7 @@ pub struct StandbyBox {
     pub pages: [u8; 256],
     pub marks: [u64; 1],
     pub blocks: [u8; 256],
-    pub area: [u8; 8],
+    pub area: [u8; AREA_LENGTH],
 }
 
 // Both boxes and the link between them.
@@ -36,7 +42,7 @@ pub struct Site {
     pub primary: PrimaryBox,
     pub standby: StandbyBox,
     // the bytes drained and not yet used, and how many
-    pub link: [u8; 1024],
+    pub link: [u8; LINK_BYTES],
     pub linked: usize,
     // the epoch of the first unread ACK; the last unread is that of the last received epoch
     pub unread: u64,

@@ -14,9 +14,17 @@ ghost use Rattle.rules.specs.World as call;
 ghost use Rattle.script.specs.declared.Command.the-variants.{Move, Acknowledge};
 ghost use Rattle.script.specs.Pair.{ackBytes, done, drained, perform, refused};
 ghost use Rattle.script.specs.Site.{worldOf, doneOf};
+use crate::LINK_BYTES;
 use crate::Performed;
 use crate::Site;
+use records::CUT_SHORT;
+use records::EPOCH_RECORD;
+use records::HEADER_LENGTH;
+use records::number::NOTHING_FREE;
 use rules::Answer;
+
+// The value of an accepted COMMIT: its kind.
+const COMMIT_VALUE: u64 = records::COMMIT as u64;
 
 // The number, the value and the bytes used of an answer.
 fn number_of(a: Answer) -> u64
@@ -24,7 +32,7 @@ fn number_of(a: Answer) -> u64
 {
     match a {
         Answer::Accepted { value: _, used: _ } => 0,
-        Answer::Short => 256,
+        Answer::Short => CUT_SHORT,
         Answer::Refused { number } => number,
     }
 }
@@ -55,7 +63,7 @@ fn nothing_there(s: Site) -> Performed
 {
     Performed {
         site: s,
-        number: 18,
+        number: NOTHING_FREE,
         value: 0,
         last: false,
     }
@@ -80,7 +88,7 @@ fn first_length(stream: &[u8]) -> usize
     requires { ⌜ 2 ≤ length (now stream) ⌝ }
     ensures { λ r. ⌜ r ≡ headerLength + leAt 2 (now (stream .entry)) 0 ⌝ }
 {
-    4 + lists::field::get2(stream, 0) as usize
+    HEADER_LENGTH + lists::field::get2(stream, 0) as usize
 }
 
 // The link, with a record drained into it where it is empty.
@@ -112,8 +120,8 @@ fn drain_record(s: Site) -> Site
 fn in_link(linked: usize) -> usize
     ensures { λ r. ⌜ r ≡ min linked 1024 ⌝ }
 {
-    if 1024 < linked {
-        return 1024;
+    if LINK_BYTES < linked {
+        return LINK_BYTES;
     }
     linked
 }
@@ -128,7 +136,7 @@ fn first_unread(unread: u64, a: Answer, received: u32) -> u64
     if number != 0 {
         return unread;
     }
-    if value != 4 {
+    if value != COMMIT_VALUE {
         return unread;
     }
     if last < unread {
@@ -146,7 +154,7 @@ fn read_link(s: Site) -> Performed
     let mut pages = standby.pages;
     let mut marks = standby.marks;
     let mut blocks = standby.blocks;
-    let mut reply = [0u8; 8];
+    let mut reply = [0u8; EPOCH_RECORD];
     let mut link = s.link;
     let count = in_link(s.linked);
     let r = standby::read::read(
@@ -193,10 +201,10 @@ pub fn move_record(s: Site) -> Performed
 }
 
 // The bytes of an ACK.
-fn ack_bytes(epoch: u32) -> [u8; 8]
+fn ack_bytes(epoch: u32) -> [u8; EPOCH_RECORD]
     ensures { λ r. ⌜ r ≡ ackRecord epoch ⌝ }
 {
-    let mut bytes = [0u8; 8];
+    let mut bytes = [0u8; EPOCH_RECORD];
     records::writing::write_ack(&mut bytes, epoch);
     bytes
 }

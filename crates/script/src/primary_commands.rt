@@ -9,7 +9,15 @@ use crate::Performed;
 use crate::PrimaryBox;
 use crate::Site;
 use crate::sites::with_primary;
+use records::PROCESSOR_BYTES;
 use rules::PrimaryReply;
+use settings::MOST_PACKET_BYTES;
+
+// A packet longer than 1,514 is refused whatever its length: so many bytes are lent at the most.
+const MOST_LENT: usize = MOST_PACKET_BYTES + 1;
+
+// The same in the width of a command's number.
+const MOST_LENT_LENGTH: u64 = MOST_LENT as u64;
 
 // The site with the primary's box in the state of a reply, and what is printed of the reply.
 fn replied(s: Site, p: PrimaryBox, r: PrimaryReply) -> Performed
@@ -61,10 +69,10 @@ pub fn disk(s: Site, block: u64, byte: u8) -> Performed
 fn lent(length: u64) -> usize
     ensures { λ r. ⌜ r ≡ min length mostLent ⌝ }
 {
-    if length < 1515 {
+    if length < MOST_LENT_LENGTH {
         return length as usize;
     }
-    1515
+    MOST_LENT
 }
 
 // `s n`: a packet of n zeros; of more than 1,515 no more are lent, since 4 does not depend on more.
@@ -73,7 +81,7 @@ pub fn send(s: Site, length: u64) -> Performed
 {
     let mut p = s.primary;
     let mut held = p.held;
-    let zeros = [0u8; 1515];
+    let zeros = [0u8; MOST_LENT];
     let n = lent(length);
     let r = primary::packets::packet(p.state, &mut held, &zeros[..n]);
     p.held = held;
@@ -88,7 +96,7 @@ pub fn close(s: Site, byte: u8) -> Performed
     let memory = p.memory;
     let mut dirty = p.dirty;
     let mut stream = p.stream;
-    let processor = [byte; 64];
+    let processor = [byte; PROCESSOR_BYTES];
     let r = primary::checkpoint::checkpoint(p.state, &memory, &mut dirty, &mut stream, processor);
     p.dirty = dirty;
     p.stream = stream;
@@ -101,7 +109,7 @@ pub fn take(s: Site) -> Performed
 {
     let mut p = s.primary;
     let mut held = p.held;
-    let mut destination = [0u8; 1515];
+    let mut destination = [0u8; MOST_LENT];
     let r = primary::packets::take(p.state, &mut held, &mut destination);
     p.held = held;
     replied(s, p, r)

@@ -5,8 +5,11 @@ ghost use Rattle.rules.specs.Step.{atPrimary, atStandby};
 ghost use Rattle.script.specs.Pair.{pairSettings, pairStart};
 ghost use Rattle.script.specs.Site.{primaryOf, standbyOf, worldOf};
 use crate::PrimaryBox;
+use crate::STREAM_BYTES;
 use crate::Site;
 use crate::StandbyBox;
+use records::AREA_LENGTH;
+use records::PROCESSOR_BYTES;
 use rules::Primary;
 use settings::Settings;
 
@@ -21,7 +24,7 @@ fn pair_settings() -> Settings
         b: 2,
         s: 4,
         q: 256,
-        l: 1024,
+        l: STREAM_BYTES,
         t: 3,
     }
 }
@@ -31,7 +34,7 @@ fn opened(primary: Primary, dirty: [u64; 1], standby: StandbyBox) -> Site
     ensures { λ r. ⌜ r ≡ record { primary = record { state = primary; memory = replicate 256 0; disk = replicate 256 0; dirty = dirty; held = replicate 256 0; stream = replicate 1024 0 }; standby = standby; link = replicate 1024 0; linked = 0; unread = 1 } ⌝ }
 {
     let zeros = [0u8; 256];
-    let empty = [0u8; 1024];
+    let empty = [0u8; STREAM_BYTES];
     let end = PrimaryBox {
         state: primary,
         memory: zeros,
@@ -54,15 +57,15 @@ pub fn started() -> Site
     ensures { λ r. ⌜ worldOf r ≡ pairStart ⌝ }
 {
     let zeros = [0u8; 256];
-    let stream = [0u8; 1024];
+    let stream = [0u8; STREAM_BYTES];
     let mut dirty = [0u64; 1];
     let mut memory = [0u8; 256];
     let mut disk = [0u8; 256];
     let mut marks = [0u64; 1];
-    let mut area = [0u8; 8];
+    let mut area = [0u8; AREA_LENGTH];
     let r = ends::start::start(
         pair_settings(),
-        [0u8; 64],
+        [0u8; PROCESSOR_BYTES],
         &zeros,
         &zeros,
         &mut dirty,
