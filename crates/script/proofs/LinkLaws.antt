@@ -1,8 +1,8 @@
 -- Laws of the link: a record drained into the whole of its array, and what a read leaves of it and of the unread ACKs. Assumes nothing.
 use Prim.Native.Nat.{ℕ, _+_, _-_, _≤_, _<_, min}
-use mathlib.Core.Path.{_≡_, sym, ap, ap₂, _∙_}
+use mathlib.Core.Path.{_≡_, refl, sym, ap, ap₂, _∙_}
 use mathlib.Core.Logic.{⊎-elim}
-use mathlib.Core.Bool.{true, false, cond, _&&_}
+use mathlib.Core.Bool.{true, false, cond}
 use mathlib.Core.List.{List, _++_, append-nil}
 use native.Mathlib.Omega.{arith}
 use lib.Dec.{eqb}
@@ -10,14 +10,15 @@ use lib.ListN.{length, take, drop, replicate, length-take, length-replicate}
 use lib.Seq.{length-take-le, take-all, take-length}
 use borrow.Author.Tests.{eq-eqb, ne-eqb}
 use Rattle.lists.specs.Part.{part, put, removed}
-use Rattle.lists.proofs.PartLaws.{length-part, part-zero, take-put-front, take-removed}
+use Rattle.lists.proofs.PartLaws.{length-part, part-zero, put-whole, take-put-front, take-removed}
 use Rattle.lists.proofs.TestLaws.{and-false, eq-or-ne, lt-or-ge, cond-true, pick-refused}
 use Rattle.records.specs.declared.Record.{Record}
 use Rattle.records.specs.declared.Record.the-variants.{Page, Block, State, Commit, Ack, Short, Refused}
-use Rattle.records.specs.Kind.{COMMIT, bodyLength, recordLength}
+use Rattle.records.specs.Kind.{ACK, bodyLength, recordLength}
 use Rattle.records.specs.Write.{ackRecord}
 use Rattle.records.specs.declared.Reader.the-variants as reader
 use Rattle.records.proofs.ReadLaws.{read-within}
+use Rattle.records.proofs.FrameLaws.{length-epoch}
 use Rattle.records.proofs.WriteLaws.{ack-written}
 use Rattle.rules.specs.declared.Primary.{Primary}
 use Rattle.rules.specs.declared.PrimaryReply.{PrimaryReply}
@@ -28,16 +29,18 @@ use Rattle.rules.specs.declared.ReadLent.{ReadLent}
 use Rattle.rules.specs.Reply.{answerOf, numberOf, valueOf, usedOf}
 use Rattle.rules.specs.Stream.{drainRefusal, drainCount, drainReply, drainStream, drainDestination, ackReply}
 use Rattle.rules.specs.Judge.{judged}
-use Rattle.rules.specs.Read.{readState, replyAfter, readLent, readReply, readMemory, readStagedPages, readStagedMarks, readStagedBlocks, readReplyBytes}
+use Rattle.rules.specs.Read.{readState, replyAfter, readReply, readMemory, readStagedPages, readStagedMarks, readStagedBlocks, readReplyBytes}
 use Rattle.rules.specs.World as call
 use Rattle.rules.specs.Step.{step, outcome, ackWritten}
 use Rattle.rules.proofs.StreamLaws.{drain-accepted}
 use Rattle.rules.proofs.PrimaryFacts.{primary-facts}
 use Rattle.rules.proofs.ReplyLaws.{primary-reply-refused, answers}
 use Rattle.rules.proofs.JudgeLaws.{JudgedFacts, judged-cases, judged-facts}
+use Rattle.script.specs.declared.StandbyBox.{StandbyBox}
 use Rattle.script.specs.declared.Site.{Site}
+use Rattle.script.specs.declared.StandbyRead.{StandbyRead}
 use Rattle.script.specs.Pair.{isEmpty, firstRecordLength, drained, done, ackBytes}
-use Rattle.script.specs.Site.{primaryOf, standbyOf, acksBetween, worldOf, doneOf}
+use Rattle.script.specs.Site.{primaryOf, standbyOf, acksBetween, worldOf, doneOf, linkBytes, isCommit, boxLent, standbyRead}
 use Rattle.script.proofs.AckLaws.{take-between, acks-next, ack-used, acks-used}
 
 -- ---- a drain into a destination at least as long as the stream is a drain into one of n bytes
@@ -141,7 +144,7 @@ module _ (s : Site) (long : length (s .link) ≡ 1024) where
 
 -- the epoch of the first unread ACK after it
 abbrev unreadAfter : ℕ → StandbyAnswer → ℕ
-unreadAfter unread r = cond (eqb (numberOf (r .answer)) 0 && eqb (valueOf (r .answer)) COMMIT) (min unread (r .state .received)) unread
+unreadAfter unread r = cond (isCommit (r .answer)) (min unread (r .state .received)) unread
 
 module _ (s : Standby) (l : ReadLent) (bytes : List ℕ) where
   -- it uses bytes that are there
@@ -153,6 +156,21 @@ module _ (s : Standby) (l : ReadLent) (bytes : List ℕ) where
 
   abbrev readBy : Record → StandbyAnswer
   readBy r = record { state = readState s bytes r; answer = answerOf r }
+
+  -- a reply buffer of an ACK's bytes: after an accepted COMMIT it is the ACK of the epoch that is then the last received
+  pub reply-is : (reply : List ℕ) → length reply ≡ 8
+      → readReplyBytes s l bytes reply ≡ cond (isCommit (readReply s l bytes .answer)) (ackRecord (readReply s l bytes .state .received)) reply
+  unfolding readReply readReplyBytes
+  reply-is reply long = go (judged s l bytes) (judged-facts s l bytes)
+    where
+      go : (r : Record) → JudgedFacts s l bytes r → replyAfter reply r ≡ cond (isCommit (answerOf r)) (ackRecord (readState s bytes r .received)) reply
+      go (Page e p c) f = refl
+      go (Block e n c) f = refl
+      go (State e c) f = refl
+      go (Commit e p b c) f = put-whole reply (ackRecord e) (length-epoch ACK e ∙ sym long)
+      go (Ack e c) f = absurd f
+      go Short f = refl
+      go (Refused n) f = rw (and-false (eqb n 0))
 
   abbrev AcksAfter : ℕ → List ℕ → Record → Type 0
   AcksAfter unread reply r = acksBetween (unreadAfter unread (readBy r)) (readState s bytes r .received) ≡ acksBetween unread (s .received) ++ ackWritten (readBy r) (replyAfter reply r)
@@ -173,11 +191,37 @@ module _ (s : Standby) (l : ReadLent) (bytes : List ℕ) where
       go Short f = sym (append-nil _)
       go (Refused n) f = rw (and-false (eqb n 0)) (sym (append-nil _))
 
--- ---- a read of all that is in the link
-module _ (s : Site) (long : length (s .link) ≡ 1024) (k : ℕ) (count : k ≡ min (s .linked) 1024) where
-  abbrev lent : ReadLent
-  lent = readLent (s .standby .memory) (s .standby .pages) (s .standby .marks) (s .standby .blocks) (replicate 8 0)
+-- ---- a read at the standby's box
+module _ (b : StandbyBox) (bytes : List ℕ) (r : StandbyAnswer) (answer-is : r ≡ readReply (b .state) (boxLent b) bytes) where
+  pub box-read : (memory pages marks blocks reply : List ℕ)
+      → memory ≡ readMemory (b .state) (boxLent b) bytes (b .memory) (b .pages) (b .marks)
+      → pages ≡ readStagedPages (b .state) (boxLent b) bytes (b .pages)
+      → marks ≡ readStagedMarks (b .state) (boxLent b) bytes (b .marks)
+      → blocks ≡ readStagedBlocks (b .state) (boxLent b) bytes (b .blocks)
+      → reply ≡ readReplyBytes (b .state) (boxLent b) bytes (replicate ackBytes 0)
+      → record {
+        standby = record { state = r .state; memory = memory; disk = b .disk; pages = pages; marks = marks; blocks = blocks; area = b .area };
+        answer = r .answer;
+        reply = reply;
+      } ≡ standbyRead b bytes
+  unfolding standbyRead
+  box-read memory pages marks blocks reply em ep ek eb er =
+      λ i. record {
+        standby = record { state = answer-is i .state; memory = em i; disk = b .disk; pages = ep i; marks = ek i; blocks = eb i; area = b .area };
+        answer = answer-is i .answer;
+        reply = er i;
+      }
 
+  pub box-reply : (reply : List ℕ) → reply ≡ readReplyBytes (b .state) (boxLent b) bytes (replicate ackBytes 0)
+      → reply ≡ cond (isCommit (r .answer)) (ackRecord (r .state .received)) (replicate ackBytes 0)
+  unfolding recordLength bodyLength
+  box-reply reply e =
+      e
+      ∙ reply-is (b .state) (boxLent b) bytes (replicate ackBytes 0) (length-replicate {A = ℕ} ackBytes 0)
+      ∙ ap (λ (x : StandbyAnswer). cond (isCommit (x .answer)) (ackRecord (x .state .received)) (replicate ackBytes 0)) (sym answer-is)
+
+-- ---- a read of all that is in the link
+module _ (s : Site) (long : length (s .link) ≡ 1024) (k : ℕ) (count : k ≡ min (s .linked) linkBytes) where
   inside : k ≤ length (s .link)
   inside = omega arith
 
@@ -188,13 +232,13 @@ module _ (s : Site) (long : length (s .link) ≡ 1024) (k : ℕ) (count : k ≡ 
       (λ (h : 1024 ≤ s .linked). take-all k (s .link) (omega arith) ∙ sym (take-all (s .linked) (s .link) (omega arith)))
       (lt-or-ge (s .linked) 1024)
 
-  module _ (bytes : List ℕ) (given-is : bytes ≡ part 0 k (s .link)) (r : StandbyAnswer) (reply-is : r ≡ readReply (s .standby .state) lent bytes)
-      (used : ℕ) (used-is : used ≡ usedOf (r .answer)) where
+  module _ (bytes : List ℕ) (given-is : bytes ≡ part 0 k (s .link)) (d : StandbyRead) (read-is : d ≡ standbyRead (s .standby) bytes) (used : ℕ) (used-is : used ≡ usedOf (d .answer)) where
     pub used-low : used ≤ k
+    unfolding standbyRead
     used-low =
         let n : length bytes ≡ k = ap length given-is ∙ length-part 0 k (s .link) (omega (arith, inside)) in
-        let h : usedOf (readReply (s .standby .state) lent bytes .answer) ≤ length bytes = used-inside (s .standby .state) lent bytes in
-        let e : usedOf (r .answer) ≡ usedOf (readReply (s .standby .state) lent bytes .answer) = ap (λ (x : StandbyAnswer). usedOf (x .answer)) reply-is in
+        let h : usedOf (standbyRead (s .standby) bytes .answer) ≤ length bytes = used-inside (s .standby .state) (boxLent (s .standby)) bytes in
+        let e : usedOf (d .answer) ≡ usedOf (standbyRead (s .standby) bytes .answer) = ap (λ (x : StandbyRead). usedOf (x .answer)) read-is in
         omega arith
 
     abbrev seen : List ℕ
@@ -203,49 +247,28 @@ module _ (s : Site) (long : length (s .link) ≡ 1024) (k : ℕ) (count : k ≡ 
     seen-is : bytes ≡ seen
     seen-is = given-is ∙ part-zero k (s .link) ∙ take-link ∙ sym (take-length (take (s .linked) (s .link)))
 
-    pub read-done : (memory pages marks blocks link : List ℕ) (unread : ℕ)
-        → memory ≡ readMemory (s .standby .state) lent bytes (s .standby .memory) (s .standby .pages) (s .standby .marks)
-        → pages ≡ readStagedPages (s .standby .state) lent bytes (s .standby .pages)
-        → marks ≡ readStagedMarks (s .standby .state) lent bytes (s .standby .marks)
-        → blocks ≡ readStagedBlocks (s .standby .state) lent bytes (s .standby .blocks)
-        → link ≡ removed 0 used k (s .link)
-        → unread ≡ unreadAfter (s .unread) r
+    pub read-done : (link : List ℕ) (unread : ℕ) → link ≡ removed 0 used k (s .link) → unread ≡ cond (isCommit (d .answer)) (min (s .unread) (d .standby .state .received)) (s .unread)
         → doneOf (record {
-          site = record {
-            primary = s .primary;
-            standby = record { state = r .state; memory = memory; disk = s .standby .disk; pages = pages; marks = marks; blocks = blocks; area = s .standby .area };
-            link = link;
-            linked = k - used;
-            unread = unread;
-          };
-          number = numberOf (r .answer);
-          value = valueOf (r .answer);
+          site = record { primary = s .primary; standby = d .standby; link = link; linked = k - used; unread = unread };
+          number = numberOf (d .answer);
+          value = valueOf (d .answer);
           last = false;
         }) ≡ done (step (worldOf s) (call.read (length (worldOf s .link)) (replicate ackBytes 0)))
-    unfolding worldOf step recordLength bodyLength
-    read-done memory pages marks blocks link unread em ep ek eb el eu =
+    unfolding worldOf step standbyRead
+    read-done link unread el eu =
         let b = s .standby in
-        let R = readReply (b .state) lent seen in
-        let a : r ≡ R = reply-is ∙ ap (readReply (b .state) lent) seen-is in
-        let m : memory ≡ readMemory (b .state) lent seen (b .memory) (b .pages) (b .marks) = em ∙ ap (λ (x : List ℕ). readMemory (b .state) lent x (b .memory) (b .pages) (b .marks)) seen-is in
-        let p : pages ≡ readStagedPages (b .state) lent seen (b .pages) = ep ∙ ap (λ (x : List ℕ). readStagedPages (b .state) lent x (b .pages)) seen-is in
-        let q : marks ≡ readStagedMarks (b .state) lent seen (b .marks) = ek ∙ ap (λ (x : List ℕ). readStagedMarks (b .state) lent x (b .marks)) seen-is in
-        let t : blocks ≡ readStagedBlocks (b .state) lent seen (b .blocks) = eb ∙ ap (λ (x : List ℕ). readStagedBlocks (b .state) lent x (b .blocks)) seen-is in
-        let l : take (k - used) link ≡ drop (usedOf (R .answer)) (take (s .linked) (s .link))
+        let a : d ≡ standbyRead b seen = read-is ∙ ap (standbyRead b) seen-is in
+        let l : take (k - used) link ≡ drop (usedOf (standbyRead b seen .answer)) (take (s .linked) (s .link))
         = ap (take (k - used)) el
         ∙ take-removed used k (s .link) used-low inside
-        ∙ ap₂ (λ (n : ℕ) (x : List ℕ). drop n x) (used-is ∙ ap (λ (x : StandbyAnswer). usedOf (x .answer)) a) take-link in
-        let g : acksBetween unread (r .state .received) ≡ acksBetween (s .unread) (b .state .received) ++ ackWritten R (readReplyBytes (b .state) lent seen (replicate 8 0))
-        = ap (λ (n : ℕ). acksBetween n (r .state .received)) eu
-        ∙ ap (λ (x : StandbyAnswer). acksBetween (unreadAfter (s .unread) x) (x .state .received)) a
-        ∙ acks-after (b .state) lent seen (s .unread) (replicate 8 0) in
+        ∙ ap₂ (λ (n : ℕ) (x : List ℕ). drop n x) (used-is ∙ ap (λ (x : StandbyRead). usedOf (x .answer)) a) take-link in
+        let g : acksBetween unread (d .standby .state .received)
+        ≡ acksBetween (s .unread) (b .state .received) ++ ackWritten (readReply (b .state) (boxLent b) seen) (readReplyBytes (b .state) (boxLent b) seen (replicate ackBytes 0))
+        = ap (λ (n : ℕ). acksBetween n (d .standby .state .received)) eu
+        ∙ ap (λ (x : StandbyRead). acksBetween (cond (isCommit (x .answer)) (min (s .unread) (x .standby .state .received)) (s .unread)) (x .standby .state .received)) a
+        ∙ acks-after (b .state) (boxLent b) seen (s .unread) (replicate ackBytes 0) in
         λ i. record {
-          next = record {
-            primary = primaryOf (s .primary);
-            standby = record { state = a i .state; memory = m i; disk = b .disk; stagedPages = p i; stagedMarks = q i; stagedBlocks = t i; area = b .area };
-            link = l i;
-            acks = g i;
-          };
+          next = record { primary = primaryOf (s .primary); standby = standbyOf (a i .standby); link = l i; acks = g i };
           outcome = outcome (numberOf (a i .answer)) (valueOf (a i .answer));
           last = false;
         }

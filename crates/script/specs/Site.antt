@@ -1,15 +1,23 @@
 -- What a site stands for: the world of the step rules. Assumes nothing.
 use Prim.Native.Nat.{ℕ, zero, suc, _+_, _-_}
+use mathlib.Core.Bool.{Bool, _&&_}
 use mathlib.Core.List.{List, [], _++_}
-use lib.ListN.{take}
+use lib.Dec.{eqb}
+use lib.ListN.{take, replicate}
+use Rattle.records.specs.Kind.{COMMIT}
 use Rattle.records.specs.Write.{ackRecord}
+use Rattle.rules.specs.declared.Answer.{Answer}
+use Rattle.rules.specs.declared.ReadLent.{ReadLent}
+use Rattle.rules.specs.Reply.{numberOf, valueOf}
+use Rattle.rules.specs.Read.{readLent, readReply, readMemory, readStagedPages, readStagedMarks, readStagedBlocks, readReplyBytes}
 use Rattle.rules.specs.World.{World, PrimaryEnd, StandbyEnd}
 use Rattle.rules.specs.Step.{outcome}
 use Rattle.script.specs.declared.PrimaryBox.{PrimaryBox}
 use Rattle.script.specs.declared.StandbyBox.{StandbyBox}
 use Rattle.script.specs.declared.Site.{Site}
+use Rattle.script.specs.declared.StandbyRead.{StandbyRead}
 use Rattle.script.specs.declared.Performed.{Performed}
-use Rattle.script.specs.Pair.{Done}
+use Rattle.script.specs.Pair.{Done, ackBytes, pairSettings}
 
 abbrev pub primaryOf : PrimaryBox → PrimaryEnd
 primaryOf p = record { state = p .state; memory = p .memory; disk = p .disk; dirty = p .dirty; held = p .held; stream = p .stream }
@@ -39,3 +47,35 @@ worldOf s =
 -- what a command gave, as the step rules say it
 abbrev pub doneOf : Performed → Done
 doneOf p = record { next = worldOf (p .site); outcome = outcome (p .number) (p .value); last = p .last }
+
+-- ---- a read at the standby's box
+
+-- the bytes of the link: all that the stream may hold
+abbrev pub linkBytes : ℕ
+linkBytes = pairSettings .l
+
+-- a COMMIT was accepted
+abbrev pub isCommit : Answer → Bool
+isCommit a = eqb (numberOf a) 0 && eqb (valueOf a) COMMIT
+
+-- the lengths of what the read is lent: the box's buffers, and a reply buffer of an ACK's bytes
+abbrev pub boxLent : StandbyBox → ReadLent
+boxLent b = readLent (b .memory) (b .pages) (b .marks) (b .blocks) (replicate ackBytes 0)
+
+-- the box after it, the answer, and the reply buffer, which was zeros
+unfoldable pub standbyRead : StandbyBox → List ℕ → StandbyRead
+standbyRead b bytes =
+    let r = readReply (b .state) (boxLent b) bytes in
+    record {
+      standby = record {
+        state = r .state;
+        memory = readMemory (b .state) (boxLent b) bytes (b .memory) (b .pages) (b .marks);
+        disk = b .disk;
+        pages = readStagedPages (b .state) (boxLent b) bytes (b .pages);
+        marks = readStagedMarks (b .state) (boxLent b) bytes (b .marks);
+        blocks = readStagedBlocks (b .state) (boxLent b) bytes (b .blocks);
+        area = b .area;
+      };
+      answer = r .answer;
+      reply = readReplyBytes (b .state) (boxLent b) bytes (replicate ackBytes 0);
+    }

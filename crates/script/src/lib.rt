@@ -1,5 +1,7 @@
 // The commands of the program `pair` on both ends and their link, at the settings of `pair`.
 use records::AREA_LENGTH;
+use records::EPOCH_RECORD;
+use rules::Answer;
 use rules::Primary;
 use rules::Standby;
 
@@ -46,6 +48,13 @@ pub struct Site {
     pub linked: usize,
     // the epoch of the first unread ACK; the last unread is that of the last received epoch
     pub unread: u64,
+}
+
+// What a read at the standby gives: its box after it, the answer, and the reply buffer of an ACK's bytes.
+pub struct StandbyRead {
+    pub standby: StandbyBox,
+    pub answer: Answer,
+    pub reply: [u8; EPOCH_RECORD],
 }
 
 // A command, one a line.

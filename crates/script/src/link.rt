@@ -1,11 +1,11 @@
 // The commands that move what travels between the boxes: m and a.
 ghost use mathlib.Core.Path.{_≡_};
-ghost use mathlib.Core.Bool.{false, cond, _&&_};
+ghost use mathlib.Core.Bool.{false, cond};
 ghost use Prim.Native.Nat.{_+_, _<_, _≤_, _^_, min};
 ghost use lib.Dec.{eqb};
 ghost use lib.ListN.{length, replicate};
 ghost use Rattle.lists.specs.LittleEndian.{leAt};
-ghost use Rattle.records.specs.Kind.{COMMIT, headerLength};
+ghost use Rattle.records.specs.Kind.{headerLength};
 ghost use Rattle.records.specs.Write.{ackRecord};
 ghost use Rattle.records.specs.Number.{nothingFree};
 ghost use Rattle.rules.specs.Reply.{numberOf, valueOf, usedOf};
@@ -13,10 +13,12 @@ ghost use Rattle.rules.specs.Step.{outcome, step};
 ghost use Rattle.rules.specs.World as call;
 ghost use Rattle.script.specs.declared.Command.the-variants.{Move, Acknowledge};
 ghost use Rattle.script.specs.Pair.{ackBytes, done, drained, perform, refused};
-ghost use Rattle.script.specs.Site.{worldOf, doneOf};
+ghost use Rattle.script.specs.Site.{doneOf, isCommit, linkBytes, standbyRead, worldOf};
 use crate::LINK_BYTES;
 use crate::Performed;
 use crate::Site;
+use crate::StandbyBox;
+use crate::StandbyRead;
 use records::CUT_SHORT;
 use records::EPOCH_RECORD;
 use records::HEADER_LENGTH;
@@ -118,7 +120,7 @@ fn drain_record(s: Site) -> Site
 
 // The bytes in the link.
 fn in_link(linked: usize) -> usize
-    ensures { λ r. ⌜ r ≡ min linked 1024 ⌝ }
+    ensures { λ r. ⌜ r ≡ min linked linkBytes ⌝ }
 {
     if LINK_BYTES < linked {
         return LINK_BYTES;
@@ -128,7 +130,7 @@ fn in_link(linked: usize) -> usize
 
 // The epoch of the first unread ACK after a read, by the last received epoch: a COMMIT's ACK is the last.
 fn first_unread(unread: u64, a: Answer, received: u32) -> u64
-    ensures { λ r. ⌜ r ≡ cond (eqb (numberOf a) 0 && eqb (valueOf a) COMMIT) (min unread received) unread ⌝ }
+    ensures { λ r. ⌜ r ≡ cond (isCommit a) (min unread received) unread ⌝ }
 {
     let number = number_of(a);
     let value = value_of(a);
@@ -145,21 +147,21 @@ fn first_unread(unread: u64, a: Answer, received: u32) -> u64
     unread
 }
 
-// Reads the record in the link: what it used leaves the link.
-fn read_link(s: Site) -> Performed
-    ensures { λ r. ⌜ doneOf r ≡ done (step (worldOf s) (call.read (length (worldOf s .link)) (replicate ackBytes 0))) ⌝ }
+// Reads some bytes at the standby. An accepted COMMIT writes the ACK of the epoch that is then the last received: the
+// bytes that `ack_bytes` makes of this epoch when the ACK is read.
+fn read_reply(b: StandbyBox, bytes: &[u8]) -> StandbyRead
+    ensures { λ r. ⌜ r ≡ standbyRead b (now (bytes .entry)) ⌝ }
+    ensures { λ r. ⌜ r .reply ≡ cond (isCommit (r .answer)) (ackRecord (r .standby .state .received)) (replicate ackBytes 0) ⌝ }
 {
-    let mut standby = s.standby;
-    let mut memory = standby.memory;
-    let mut pages = standby.pages;
-    let mut marks = standby.marks;
-    let mut blocks = standby.blocks;
+    let mut standby = b;
+    let mut memory = b.memory;
+    let mut pages = b.pages;
+    let mut marks = b.marks;
+    let mut blocks = b.blocks;
     let mut reply = [0u8; EPOCH_RECORD];
-    let mut link = s.link;
-    let count = in_link(s.linked);
     let r = standby::read::read(
-        standby.state,
-        lists::part_of(&link, 0, count),
+        b.state,
+        bytes,
         &mut memory,
         &mut pages,
         &mut marks,
@@ -168,14 +170,31 @@ fn read_link(s: Site) -> Performed
     );
     let state = r.state;
     let answer = r.answer;
-    let used = used_of(answer);
-    lists::remove(&mut link, 0, used, count);
-    let unread = first_unread(s.unread, answer, state.received);
     standby.state = state;
     standby.memory = memory;
     standby.pages = pages;
     standby.marks = marks;
     standby.blocks = blocks;
+    StandbyRead {
+        standby,
+        answer,
+        reply,
+    }
+}
+
+// Reads the record in the link: what it used leaves the link.
+fn read_link(s: Site) -> Performed
+    ensures { λ r. ⌜ doneOf r ≡ done (step (worldOf s) (call.read (length (worldOf s .link)) (replicate ackBytes 0))) ⌝ }
+{
+    let mut link = s.link;
+    let count = in_link(s.linked);
+    let r = read_reply(s.standby, lists::part_of(&link, 0, count));
+    let standby = r.standby;
+    let state = standby.state;
+    let answer = r.answer;
+    let used = used_of(answer);
+    lists::remove(&mut link, 0, used, count);
+    let unread = first_unread(s.unread, answer, state.received);
     let mut next = s;
     next.standby = standby;
     next.link = link;

@@ -8,26 +8,14 @@ use Rattle.script.proofs.LinkLaws.{used-low, read-done}
 use Rattle.script.proofs.link.read_link.Statement.{statement}
 use Rattle.script.proofs.link.read_link.Tie as tie
 
--- arrays of their sizes
 link-long : (c : tie.Start) → length (c .args .s .link) ≡ 1024
 link-long c = length-unmapped ℕ (c .args .s .link) 1024 (c .good .0 .1 .1 .1 .1 .0 .1 .0 .1)
 
-pages-long : (c : tie.Start) → length (c .args .s .standby .pages) ≡ 256
-pages-long c = length-unmapped ℕ (c .args .s .standby .pages) 256 (c .good .0 .1 .1 .1 .0 .1 .1 .1 .1 .1 .0 .1 .0 .1)
-
-marks-long : (c : tie.Start) → length (c .args .s .standby .marks) ≡ 1
-marks-long c = length-unmapped ℕ (c .args .s .standby .marks) 1 (c .good .0 .1 .1 .1 .0 .1 .1 .1 .1 .1 .1 .0 .1 .0 .1)
-
-blocks-long : (c : tie.Start) → length (c .args .s .standby .blocks) ≡ 256
-blocks-long c = length-unmapped ℕ (c .args .s .standby .blocks) 256 (c .good .0 .1 .1 .1 .0 .1 .1 .1 .1 .1 .1 .1 .0 .1 .0 .1)
-
 -- what is used is in the link
-used-inside : (c : tie.After-used-of) → c .used-of .result ≤ c .before .before .before .before .before .before .before .before .before .before .before .before .before .before .before .in-link .result
+used-inside : (c : tie.After-used-of) → c .used-of .result ≤ c .before .before .before .before .before .before .in-link .result
 used-inside c =
-    let a = c .before .before .before .before .before .before .before .before .before .before .before .before .before .before .before .before .before .before .before .before .before .before in
-    used-low (a .args .s) (link-long a) _ (c .before .before .before .before .before .before .before .before .before .before .before .before .before .before .before .in-link .ensures)
-    _ (c .before .before .before .before .before .before .before .before .before .before .before .before .before .part-of .ensures) (c .before .before .before .before .before .before .before .read .result) (c .before .before .before .before .before .before .before .read .ensures .0)
-    (c .used-of .result) (c .used-of .ensures)
+    let a = c .before .before .before .before .before .before .before .before in
+    used-low (a .args .s) (link-long a) _ (c .before .before .before .before .before .before .in-link .ensures) _ (c .before .before .before .before .part-of .ensures) (c .before .before .before .read-reply .result) (c .before .before .before .read-reply .ensures .0) (c .used-of .result) (c .used-of .ensures)
 
 in-link-requires : tie.Need-in-link-requires
 in-link-requires c κs = search needs
@@ -36,37 +24,22 @@ slice-aggregate-part-of : tie.Need-slice-aggregate-part-of
 slice-aggregate-part-of c = search needs
 
 part-of-requires : tie.Need-part-of-requires
-part-of-requires c κs = let h = link-long (c .before .before .before .before .before .before .before .before) in let e = c .before .in-link .ensures in omega arith
+part-of-requires c κs = let h = link-long (c .before .before .before) in let e = c .before .in-link .ensures in omega arith
 
-slice-aggregate-read : tie.Need-slice-aggregate-read
-slice-aggregate-read c = search needs
-
-slice-aggregate-read-2 : tie.Need-slice-aggregate-read-2
-slice-aggregate-read-2 c = sym (pages-long (c .before .before .before .before .before .before .before .before .before .before .before))
-
-slice-aggregate-read-3 : tie.Need-slice-aggregate-read-3
-slice-aggregate-read-3 c = sym (marks-long (c .before .before .before .before .before .before .before .before .before .before .before .before))
-
-slice-aggregate-read-4 : tie.Need-slice-aggregate-read-4
-slice-aggregate-read-4 c = sym (blocks-long (c .before .before .before .before .before .before .before .before .before .before .before .before .before))
-
-slice-aggregate-read-5 : tie.Need-slice-aggregate-read-5
-slice-aggregate-read-5 c = search needs
-
-read-requires : tie.Need-read-requires
-read-requires c κs = search needs
+read-reply-requires : tie.Need-read-reply-requires
+read-reply-requires c κs = search needs
 
 used-of-requires : tie.Need-used-of-requires
 used-of-requires c κs = search needs
 
 slice-aggregate-remove : tie.Need-slice-aggregate-remove
-slice-aggregate-remove c = sym (link-long (c .before .before .before .before .before .before .before .before .before .before .before .before .before .before .before .before .before .before .before .before .before .before .before))
+slice-aggregate-remove c = sym (link-long (c .before .before .before .before .before .before .before .before .before))
 
 remove-requires : tie.Need-remove-requires
 remove-requires c κs =
     let l = used-inside (c .before) in
-    let h = link-long (c .before .before .before .before .before .before .before .before .before .before .before .before .before .before .before .before .before .before .before .before .before .before .before) in
-    let e = c .before .before .before .before .before .before .before .before .before .before .before .before .before .before .before .before .in-link .ensures in
+    let h = link-long (c .before .before .before .before .before .before .before .before .before) in
+    let e = c .before .before .before .before .before .before .before .in-link .ensures in
     (omega (arith, l), omega arith)
 
 first-unread-requires : tie.Need-first-unread-requires
@@ -80,17 +53,12 @@ answered-requires c κs = search needs
 
 returns : tie.Need-returns
 returns c =
-    let a = c .before .before .before .before .before .before .before .before .before .before .before .before .before .before .before .before .before .before .before .before .before .before .before .before .before .before .before in
-    let r = c .before .before .before .before .before .before .before .before .before .before .before .before .read in
-    let e = r .ensures in
+    let a = c .before .before .before .before .before .before .before .before .before .before .before .before .before in
+    let r = c .before .before .before .before .before .before .before .before .read-reply in
     c .answered .ensures
-    ∙ read-done (a .args .s) (link-long a) (c .before .before .before .before .before .before .before .before .before .before .before .before .before .before .before .before .before .before .before .before .in-link .result) (c .before .before .before .before .before .before .before .before .before .before .before .before .before .before .before .before .before .before .before .before .in-link .ensures)
-    _ (c .before .before .before .before .before .before .before .before .before .before .before .before .before .before .before .before .before .before .part-of .ensures) (r .result) (e .0)
-    (c .before .before .before .before .before .used-of .result) (c .before .before .before .before .before .used-of .ensures)
-    _ _ _ _ _ (c .before .first-unread .result)
-    (e .1 .0) (e .1 .1 .0) (e .1 .1 .1 .0) (e .1 .1 .1 .1 .0)
-    (c .before .before .before .remove .ensures)
-    (c .before .first-unread .ensures)
+    ∙ read-done (a .args .s) (link-long a) (c .before .before .before .before .before .before .before .before .before .before .before .in-link .result) (c .before .before .before .before .before .before .before .before .before .before .before .in-link .ensures)
+    _ (c .before .before .before .before .before .before .before .before .before .part-of .ensures) (r .result) (r .ensures .0) (c .before .before .before .before .before .used-of .result) (c .before .before .before .before .before .used-of .ensures)
+    _ (c .before .first-unread .result) (c .before .before .before .remove .ensures) (c .before .first-unread .ensures)
 
 pub read-link-spec : {M : Type 1} → statement M
 read-link-spec =
@@ -99,12 +67,7 @@ read-link-spec =
     in-link-requires
     slice-aggregate-part-of
     part-of-requires
-    slice-aggregate-read
-    slice-aggregate-read-2
-    slice-aggregate-read-3
-    slice-aggregate-read-4
-    slice-aggregate-read-5
-    read-requires
+    read-reply-requires
     used-of-requires
     slice-aggregate-remove
     remove-requires
