@@ -1,23 +1,29 @@
 -- Feeding the input byte by byte prints the output of the whole of it. Assumes nothing.
 use Prim.Native.Nat.{ℕ}
 use mathlib.Core.Path.{_≡_, refl, sym, ap, subst, _∙_}
-use mathlib.Core.Bool.{Bool, true, false, cond}
-use mathlib.Core.List.{List, [], _∷_, _++_, append-assoc, append-nil}
+use mathlib.Core.Bool.{Bool, true, false, cond, _&&_, _||_}
+use mathlib.Core.List.{List, [], _∷_, _++_, append-assoc, append-nil, dropLast}
 use lib.Dec.{eqb}
-use lib.ListN.{length}
+use lib.ListN.{length, replicate}
 use borrow.Author.Tests.{eqb-true, ne-eqb}
 use native.Mathlib.Omega.{arith}
 use Rattle.text.specs.declared.Line.{Line}
 use Rattle.text.specs.Line.{split, dropEmptyLast, linesOf, newline}
 use Rattle.text.specs.Kept.{noLine, lineWith, lineWithAll}
+use Rattle.records.specs.Number.{nothingFree}
 use Rattle.rules.specs.World.{World}
-use Rattle.script.specs.Command.{commandOf, letterOf}
-use Rattle.script.specs.Pair.{perform, pairStart}
-use Rattle.script.specs.Output.{printed, printedAll, outputOf}
+use Rattle.rules.specs.World as call
+use Rattle.rules.specs.Step.{step}
+use Rattle.script.specs.declared.Command.{Command}
+use Rattle.script.specs.declared.Command.the-variants.{Write, Disk, Send, Close, Move, Acknowledge, Take, Flush, Takeover, Other}
+use Rattle.script.specs.Command.{commandOf, letterOf, letterK}
+use Rattle.script.specs.Pair.{Done, done, refused, isEmpty, drained, ackBytes, perform, moveDone, acknowledgeDone, takeoverDone, pairStart}
+use Rattle.script.specs.Output.{printed, printedAll, outputOf, endedLines, anyTakeover}
 use Rattle.text.proofs.SplitLaws.{joined, joined-byte, split-separator, split-other, parts, joined-none}
 use Rattle.text.proofs.KeptLaws.{empty-line}
 use Rattle.script.proofs.CommandLaws.{command-of-line}
-use Rattle.script.specs.Feed.{reading, firstReading, linePrinted, fed, fedPrinted, fedAll, fedAllPrinted, endPrinted}
+use Rattle.script.proofs.FeedPartLaws.{fed-over, fed-other}
+use Rattle.script.specs.Feed.{Reading, reading, firstReading, linePrinted, fed, fedPrinted, fedAll, fedAllPrinted, endPrinted}
 
 -- what follows bytes without a newline goes on with their line
 abbrev Unended : List ℕ → Type 0
@@ -65,7 +71,7 @@ kept-one l [] b = refl
 kept-one l (c ∷ part) b = kept-one (lineWith l c) part b
 
 -- ---- after `k` nothing is printed
-over-printed : (w : World) (l : Line) (input : List ℕ) → fedAllPrinted (reading w l true) input ++ endPrinted (fedAll (reading w l true) input) ≡ []
+pub over-printed : (w : World) (l : Line) (input : List ℕ) → fedAllPrinted (reading w l true) input ++ endPrinted (fedAll (reading w l true) input) ≡ []
 unfolding fedAllPrinted fedAll fed fedPrinted endPrinted
 over-printed w l [] = refl
 over-printed w l (b ∷ bs) = over-printed w l bs
@@ -127,3 +133,71 @@ goes (b ∷ bs) w part u = at-byte b bs (eqb b newline) refl (λ w′ part′ u�
 pub output-fed : (input : List ℕ) → fedAllPrinted firstReading input ++ endPrinted (fedAll firstReading input) ≡ outputOf input
 unfolding outputOf lineWithAll
 output-fed input = goes input pairStart [] unended-none
+
+-- ---- the program is at its end exactly where `k` was answered
+last-done : (b : Bool) (x y : Done) → x .last ≡ false → y .last ≡ false → cond b x y .last ≡ false
+last-done true x y e f = e
+last-done false x y e f = f
+
+last-is : (w : World) (c : Command) → perform w c .last ≡ eqb (letterOf c) letterK
+unfolding perform moveDone acknowledgeDone takeoverDone
+last-is w (Write p v) = refl
+last-is w (Disk b v) = refl
+last-is w (Send n) = refl
+last-is w (Close v) = refl
+last-is w Move =
+    last-done (isEmpty (w .link) && eqb (w .primary .state .waiting) 0) (refused w nothingFree) (done (step (drained w) (call.read (length (drained w .link)) (replicate ackBytes 0)))) refl refl
+last-is w Acknowledge = last-done (isEmpty (w .acks)) (refused w nothingFree) (done (step w (call.ack ackBytes))) refl refl
+last-is w Take = refl
+last-is w Flush = refl
+last-is w Takeover = refl
+last-is w Other = refl
+
+-- whether it is, from a line under way on
+abbrev Ends : World → List ℕ → List ℕ → Type 0
+Ends w part input = fedAll (reading w (lineWithAll noLine part) false) input .over ≡ anyTakeover (endedLines (part ++ input))
+
+not-last : (part : List ℕ) (ps : List (List ℕ)) (q : List ℕ) (qs : List (List ℕ)) → ps ≡ q ∷ qs → dropLast (part ∷ ps) ≡ part ∷ dropLast ps
+not-last part ps q qs e = rw e
+
+ended-newline : (part rest : List ℕ) → Unended part → endedLines (part ++ newline ∷ rest) ≡ part ∷ endedLines rest
+ended-newline part rest u =
+    let p = parts newline rest in
+    ap dropLast (split-ended part rest u) ∙ not-last part (split newline rest) (p .head) (p .rest) (p .is)
+
+ends-none : (w : World) (part : List ℕ) → Unended part → Ends w part []
+unfolding fedAll anyTakeover
+ends-none w part u = rw (append-nil part, split-last part u)
+
+ends-newline : (bs : List ℕ) (w : World) (part : List ℕ) → Unended part → ((w : World) → Ends w [] bs) → Ends w part (newline ∷ bs)
+unfolding fedAll fed anyTakeover lineWithAll
+ends-newline bs w part u next =
+    let kept : fed (reading w (lineWithAll noLine part) false) newline ≡ reading (perform w (commandOf part) .next) noLine (perform w (commandOf part) .last)
+    = ap (λ (c : Command). reading (perform w c .next) noLine (perform w c .last)) (command-of-line part) in
+    ap (λ (r : Reading). fedAll r bs .over) kept
+    ∙ rest (perform w (commandOf part) .last) (perform w (commandOf part) .next)
+    ∙ ap (λ (last : Bool). last || anyTakeover (endedLines bs)) (last-is w (commandOf part))
+    ∙ sym (ap anyTakeover (ended-newline part bs u))
+  where
+    rest : (last : Bool) (w′ : World) → fedAll (reading w′ noLine last) bs .over ≡ last || anyTakeover (endedLines bs)
+    rest true w′ = rw (fed-over w′ noLine bs)
+    rest false w′ = next w′
+
+ends-other : (b : ℕ) (bs : List ℕ) (w : World) (part : List ℕ) → eqb b newline ≡ false → Ends w (part ++ b ∷ []) bs → Ends w part (b ∷ bs)
+unfolding fedAll
+ends-other b bs w part e next =
+    let kept : fed (reading w (lineWithAll noLine part) false) b ≡ reading w (lineWithAll noLine (part ++ b ∷ [])) false
+    = fed-other w (lineWithAll noLine part) b e ∙ ap (λ (l : Line). reading w l false) (sym (kept-one noLine part b)) in
+    ap (λ (r : Reading). fedAll r bs .over) kept ∙ next ∙ ap (λ (l : List ℕ). anyTakeover (endedLines l)) (append-assoc part (b ∷ []) bs)
+
+ends-byte : (b : ℕ) (bs : List ℕ) (t : Bool) → eqb b newline ≡ t → ((w : World) (part : List ℕ) → Unended part → Ends w part bs) → (w : World) (part : List ℕ) → Unended part → Ends w part (b ∷ bs)
+ends-byte b bs true e next w part u = subst (λ (x : ℕ). Ends w part (x ∷ bs)) (sym (eqb-true _ _ e)) (ends-newline bs w part u (λ w′. next w′ [] unended-none))
+ends-byte b bs false e next w part u = ends-other b bs w part e (next w (part ++ b ∷ []) (unended-one part b e u))
+
+ends : (input : List ℕ) (w : World) (part : List ℕ) → Unended part → Ends w part input
+ends [] w part u = ends-none w part u
+ends (b ∷ bs) w part u = ends-byte b bs (eqb b newline) refl (λ w′ part′ u′. ends bs w′ part′ u′) w part u
+
+pub over-fed : (input : List ℕ) → fedAll firstReading input .over ≡ anyTakeover (endedLines input)
+unfolding lineWithAll
+over-fed input = ends input pairStart [] unended-none

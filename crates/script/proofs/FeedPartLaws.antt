@@ -39,7 +39,7 @@ module _ (w : World) (l : Line) where
 -- ---- the bytes of a line, and its newline
 module _ (w : World) where
   -- one byte that is no newline
-  fed-other : (l : Line) (b : ℕ) → eqb b newline ≡ false → fed (reading w l false) b ≡ reading w (lineWith l b) false
+  pub fed-other : (l : Line) (b : ℕ) → eqb b newline ≡ false → fed (reading w l false) b ≡ reading w (lineWith l b) false
   unfolding fed
   fed-other l b e = rw e
 
