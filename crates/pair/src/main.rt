@@ -6,8 +6,8 @@ ghost use Prim.Native.Nat.{_+_, _-_, _≤_, _<_};
 ghost use lib.ListN.{length};
 ghost use Rattle.lists.specs.Part.{part, PutDone};
 ghost use Rattle.text.specs.Line.{newline};
-ghost use Rattle.script.specs.Feed.{fedAll, fedAllPrinted, endPrinted};
-ghost use Rattle.pair.specs.Run.{readingOf};
+ghost use Rattle.script.specs.Feed.{fedAll, fedAllPrinted, endPrinted, firstReading};
+ghost use Rattle.pair.specs.Run.{readingOf, turnNext, turnPrinted, turnMore, SomeTurn, SomeTurns};
 use libc::STDIN_FILENO;
 use libc::STDOUT_FILENO;
 use script::Site;
@@ -27,9 +27,10 @@ struct Step {
     written: usize,
 }
 
-// Whether more is to be read after a turn.
+// After a turn: what is kept, how many bytes are to be written, and whether more is to be read.
 struct Next {
     run: Run,
+    written: usize,
     more: bool,
 }
 
@@ -133,50 +134,80 @@ fn ended(run: Run, out: &mut [u8]) -> usize
     last.written
 }
 
-// Reads a part of the input and prints what it gives.
-fn turn(run: Run) -> Next {
-    let mut input = [0u8; 1024];
-    let got = libc::read(STDIN_FILENO, &mut input);
-    if got <= 0 {
-        return Next { run, more: false };
+// A turn: a part of the input, or its end, which is an empty part. What is to be written goes to the head of out; no more
+// is read after the end of the input nor after `k`.
+fn turn(run: Run, input: &[u8], out: &mut [u8]) -> Next
+    requires { ⌜ (length (now input) ≤ 1024) × (45056 ≤ length (now out)) ⌝ }
+    ensures { λ r. ⌜ readingOf (r .run) ≡ turnNext (readingOf run) (now (input .entry)) ⌝ }
+    ensures { λ r. ⌜ PutDone (turnPrinted (readingOf run) (now (input .entry))) (now (out .entry)) 0 (now (out .exit)) (r .written) ⌝ }
+    ensures { λ r. ⌜ r .written ≤ length (now (out .exit)) ⌝ }
+    ensures { λ r. ⌜ r .more ≡ turnMore (readingOf run) (now (input .entry)) ⌝ }
+{
+    if input.len() == 0 {
+        let written = ended(run, out);
+        return Next {
+            run,
+            written,
+            more: false,
+        };
     }
-    let n = io::count(got, &input);
-    let mut out = [0u8; 45056];
-    let after = fed(run, &input[..n], &mut out);
-    let written = after.written;
-    io::write_all(STDOUT_FILENO, &out[..written]);
+    let after = fed(run, input, out);
     let next = after.run;
     let over = next.over;
+    let written = after.written;
     Next {
         run: next,
+        written,
         more: !over,
     }
 }
 
-// Part after part; the bound on the turns is the largest number, since a loop has to end.
-fn all(run: Run) -> Run {
+// Before any input: the pair started, no line begun.
+fn first() -> Run
+    ensures { λ r. ⌜ readingOf r ≡ firstReading ⌝ }
+{
+    let site = script::sites::started();
+    let line = text::kept::no_line();
+    Run {
+        site,
+        line,
+        over: false,
+    }
+}
+
+// Reads a part of the input, makes its turn and writes what that gives; a read that gives nothing or fails is the end of
+// the input. No contract of read or write says which bytes they move: that the part is what was read, and that the head of
+// out is written, is to be seen here.
+fn next_part(run: Run) -> Next
+    ensures { λ r. ⌜ SomeTurn (readingOf run) (readingOf (r .run)) (r .more) ⌝ }
+{
+    let mut input = [0u8; 1024];
+    let mut out = [0u8; 45056];
+    let got = libc::read(STDIN_FILENO, &mut input);
+    let n = io::count(got, &input);
+    let next = turn(run, &input[..n], &mut out);
+    let written = next.written;
+    io::write_all(STDOUT_FILENO, &out[..written]);
+    next
+}
+
+// Part after part, while more is to be read; the bound on the turns is the largest number, since a loop has to end.
+fn all(run: Run) -> Run
+    ensures { λ r. ⌜ SomeTurns (readingOf run) (readingOf r) ⌝ }
+{
     let mut run = run;
     let mut more = true;
     let mut turns = u64::MAX;
     while turns > 0 && more {
-        let t = turn(run);
-        run = t.run;
-        more = t.more;
+        let next = next_part(run);
+        run = next.run;
+        more = next.more;
         turns -= 1;
     }
     run
 }
 
+// What all that is written comes to is RunRight (specs/Run.antt), of any parts.
 fn main() {
-    let site = script::sites::started();
-    let line = text::kept::no_line();
-    let first = Run {
-        site,
-        line,
-        over: false,
-    };
-    let last = all(first);
-    let mut out = [0u8; 44];
-    let written = ended(last, &mut out);
-    io::write_all(STDOUT_FILENO, &out[..written]);
+    all(first());
 }

@@ -1,19 +1,21 @@
 -- `pair::all` meets its contract. Assumes nothing.
 use native.Mathlib.Omega.{arith}
+use Rattle.pair.specs.Run.{readingOf}
+use Rattle.pair.proofs.TurnLaws.{Going, going-none, going-more, going-ended, going-out}
 use Rattle.pair.proofs.all.Statement.{statement}
 use Rattle.pair.proofs.all.Tie as tie
 
 abbrev Inv-loop : tie.InvT-loop
-Inv-loop run₀ more₀ turns₀ run more turns = Unit {0}
+Inv-loop run₀ more₀ turns₀ run more turns = Going (readingOf run₀) (readingOf run) more turns
 
 abbrev μ-loop : tie.MeasureT-loop
 μ-loop run₀ more₀ turns₀ run more turns = turns
 
 loop-holds : tie.Need-loop-holds Inv-loop μ-loop
-loop-holds c = tt
+loop-holds c = going-none (readingOf (c .args .run))
 
-turn-requires : tie.Need-turn-requires Inv-loop μ-loop
-turn-requires c κs = tt
+next-part-requires : tie.Need-next-part-requires Inv-loop μ-loop
+next-part-requires c κs = tt
 
 sub-turns : tie.Need-sub-turns Inv-loop μ-loop
 sub-turns c = omega arith
@@ -22,13 +24,15 @@ loop-less : tie.Need-loop-less Inv-loop μ-loop
 loop-less c = omega arith
 
 loop-again : tie.Need-loop-again Inv-loop μ-loop
-loop-again c = tt
+loop-again c =
+    let at = c .before .before .before .before .loop in
+    going-more _ _ _ _ (at .inv) _ _ (c .before .before .before .loop-test .taken) (c .before .before .if1 .taken) (c .before .next-part .ensures)
 
 returns : tie.Need-returns Inv-loop μ-loop
-returns c = tt
+returns c = going-ended _ _ _ _ (c .before .before .loop .inv) (c .if1 .left)
 
 returns-2 : tie.Need-returns-2 Inv-loop μ-loop
-returns-2 c = tt
+returns-2 c = going-out _ _ _ _ (c .before .loop .inv) (omega (arith, c .loop-test .left))
 
 pub all-spec : {M : Type 1} → statement M
 all-spec =
@@ -37,7 +41,7 @@ all-spec =
     Inv-loop
     μ-loop
     loop-holds
-    turn-requires
+    next-part-requires
     sub-turns
     loop-less
     loop-again

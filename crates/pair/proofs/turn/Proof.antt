@@ -1,63 +1,43 @@
 -- `pair::turn` meets its contract. Assumes nothing.
-use mathlib.Core.Path.{sym}
-use lib.Seq.{length-take-le}
+use mathlib.Core.Path.{ap, _∙_}
+use mathlib.Core.Bool.{not}
 use borrow.Author.Needs.{needs}
+use Rattle.script.specs.Feed.{Reading}
+use Rattle.pair.specs.Run.{readingOf}
+use Rattle.pair.proofs.TurnLaws.{end-next, end-put, end-more, part-put, part-more}
 use Rattle.pair.proofs.turn.Statement.{statement}
 use Rattle.pair.proofs.turn.Tie as tie
 
-slice-aggregate-read : tie.Need-slice-aggregate-read
-slice-aggregate-read c = search needs
+ended-requires : tie.Need-ended-requires
+ended-requires c κs = search needs
 
-read-requires : tie.Need-read-requires
-read-requires c κs = search needs
+same-length : tie.Need-same-length
+same-length c = search needs
 
 returns : tie.Need-returns
-returns c = search needs
-
-slice-aggregate-count : tie.Need-slice-aggregate-count
-slice-aggregate-count c = search needs
-
-count-requires : tie.Need-count-requires
-count-requires c κs = search needs
-
-array-share-prefix-input : tie.Need-array-share-prefix-input
-array-share-prefix-input c = search needs
-
-slice-aggregate-fed : tie.Need-slice-aggregate-fed
-slice-aggregate-fed c = search needs
-
-slice-aggregate-fed-2 : tie.Need-slice-aggregate-fed-2
-slice-aggregate-fed-2 c = search needs
+returns c =
+    let a = c .before .before .before .before .before .before .before .args in
+    let h = c .before .before .before .before .if1 .taken in
+    let e = c .before .before .ended .ensures in (
+      end-next (readingOf (a .run)) (a .input .now) h,
+      (end-put (readingOf (a .run)) (a .input .now) h _ _ _ (e .0), (e .1, end-more (readingOf (a .run)) (a .input .now) h)),
+    )
 
 fed-requires : tie.Need-fed-requires
 fed-requires c κs = search needs
 
-array-share-prefix-out : tie.Need-array-share-prefix-out
-array-share-prefix-out c = search needs
-
-slice-aggregate-write-all : tie.Need-slice-aggregate-write-all
-slice-aggregate-write-all c = sym (length-take-le _ _ (c .before .before .fed .ensures .1 .1))
-
-write-all-requires : tie.Need-write-all-requires
-write-all-requires c κs = search needs
+same-length-2 : tie.Need-same-length-2
+same-length-2 c = search needs
 
 returns-2 : tie.Need-returns-2
-returns-2 c = search needs
+returns-2 c =
+    let a = c .before .before .before .before .before .before .before .before .args in
+    let h = c .before .before .before .before .before .if1 .left in
+    let e = c .before .before .before .fed .ensures in (
+      e .0,
+      (part-put (readingOf (a .run)) (a .input .now) h _ _ _ (e .1 .0), (e .1 .1, ap (λ (r : Reading). not (r .over)) (e .0) ∙ part-more (readingOf (a .run)) (a .input .now) h)),
+    )
 
 pub turn-spec : {M : Type 1} → statement M
 turn-spec =
-    tie.close
-    (tie.spec
-    slice-aggregate-read
-    read-requires
-    returns
-    slice-aggregate-count
-    count-requires
-    array-share-prefix-input
-    slice-aggregate-fed
-    slice-aggregate-fed-2
-    fed-requires
-    array-share-prefix-out
-    slice-aggregate-write-all
-    write-all-requires
-    returns-2)
+    tie.close (tie.spec ended-requires same-length returns fed-requires same-length-2 returns-2)
