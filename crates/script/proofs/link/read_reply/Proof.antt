@@ -29,8 +29,8 @@ returns c =
     let a = c .before .before .before .before .before .before .before .before .before .before .before .before .before .before .before .before .before in
     let r = c .before .before .before .before .before .before .read in
     let e = r .ensures in (
-      box-read (a .args .b) _ (r .result) (e .0) _ _ _ _ _ (e .1 .0) (e .1 .1 .0) (e .1 .1 .1 .0) (e .1 .1 .1 .1 .0) (e .1 .1 .1 .1 .1),
-      box-reply (a .args .b) _ (r .result) (e .0) _ (e .1 .1 .1 .1 .1),
+      box-read (a .args .b) _ (r .result) (e .0) _ _ _ _ _ (e .1 .0) (e .1 .1 .0) (e .1 .1 .1 .0) (e .1 .1 .1 .1 .0) (e .1 .1 .1 .1 .1 .0),
+      box-reply (a .args .b) _ (r .result) (e .0) _ (e .1 .1 .1 .1 .1 .0),
     )
 
 pub read-reply-spec : {M : Type 1} → statement M
