@@ -39,7 +39,8 @@ ACTIVATION = 6
 abbrev pub processorBytes : ℕ
 processorBytes = 64
 
--- the lengths of the bodies: of a PAGE or a BLOCK besides its U bytes, of a STATE, a COMMIT, and of a record with an epoch alone
+-- the lengths of the bodies: of a PAGE or a BLOCK besides its U bytes, of a STATE, a COMMIT, and of a record with an
+-- epoch alone
 abbrev pub unitBody : ℕ
 unitBody = 6
 

@@ -49,7 +49,8 @@ badAck = 11
 abbrev pub badArea : ℕ
 badArea = 12
 
--- checkpoint or ACK when alone, a record when not receiving, activation when not taking over, a guest write at a standby not active
+-- checkpoint or ACK when alone, a record when not receiving, activation when not taking over, a guest write at a
+-- standby not active
 abbrev pub wrongMode : ℕ
 wrongMode = 13
 

@@ -25,13 +25,13 @@ readLentOk s l =
     && eqb (l .marks) (marksLength s)
     && eqb (l .blocks) (slotsLength s)
 
--- not: "epoch not the last received plus 1"
+-- the epoch is the last received plus 1; else 8
 abbrev pub isNext : Standby → ℕ → Bool
 isNext s epoch = eqb epoch (s .received + 1)
 
 -- PAGE: 2 8 9 ("PAGE not above the last or after STATE"). Of pages that came in rising order the last is at least their
--- count less 1, so that a page below their count is not above the last: an accepted PAGE leaves at most M pages, also in
--- a state that no run reaches
+-- count less 1, so that a page below their count is not above the last: an accepted PAGE leaves at most M pages, in
+-- states that no run reaches too
 abbrev pub pageTests : Standby → ℕ → ℕ → List Test
 pageTests s epoch page =
     test noSuchUnit (ltb page (s .settings .m))
@@ -42,7 +42,7 @@ pageTests s epoch page =
 unfoldable pub pageRefusal : Standby → ℕ → ℕ → ℕ
 pageRefusal s epoch page = refusal (pageTests s epoch page)
 
--- BLOCK: 2 8 9 ("BLOCK after PAGE or STATE": a page came where the next page is not 0, or where pages are counted) 14 17
+-- BLOCK: 2 8 9 14 17 ("BLOCK after PAGE or STATE": a page came where the next page is not 0 or pages are counted)
 abbrev pub blockTests : Standby → ℕ → ℕ → List Test
 blockTests s epoch block =
     test noSuchUnit (ltb block (s .settings .d))

@@ -60,7 +60,8 @@ started g l processor =
     let number = startRefusal g l in
     record { primary = pick number (openedPrimary g) noPrimary; standby = pick number (openedStandby g processor) noStandby; number = number }
 
--- the buffers: "copies the primary's memory, processor state and disk to the standby, clears both ends' M marks and the record area"; the others stay
+-- the buffers: "copies the primary's memory, processor state and disk to the standby, clears both ends' M marks and the
+-- record area"; the others stay
 unfoldable pub startCopy : Settings → StartLent → List ℕ → List ℕ → List ℕ
 startCopy g l image old = pick (startRefusal g l) image old
 

@@ -1,4 +1,5 @@
--- One call on the world: the ends' definitions applied to it. What travels is what the buffers then hold. Assumes nothing.
+-- One call on the world: the ends' definitions applied to it. What travels is what the buffers then hold. Assumes
+-- nothing.
 use Prim.Native.Nat.{ℕ}
 use mathlib.Core.Bool.{cond, _&&_}
 use mathlib.Core.List.{List, [], _++_}

@@ -44,7 +44,7 @@ drainDestination p stream n destination =
 
 -- ---- ACK: 1 13 header 6 7 body 11
 
--- not: "not above the acknowledged epoch or not below the open one"
+-- above the acknowledged epoch and below the open one; else 11
 abbrev pub ackTests : Primary → ℕ → List Test
 ackTests p epoch = test badAck (ltb (p .acknowledged) epoch && ltb epoch (p .epoch)) ∷ []
 

@@ -66,7 +66,8 @@ activationReply s area = standbyReply (activationRefusal s area) s (withMode s A
 unfoldable pub activationArea : Standby → List ℕ → List ℕ
 activationArea s area = pick (activationRefusal s (length area)) (put area 0 (activationRecord (s .received))) area
 
--- ---- the guest's writes: 1 13 2 3, of a page or block of U bytes: what is lent, how many there are, which one, and whether the bytes have their size
+-- ---- the guest's writes: 1 13 2 3, of a page or block of U bytes: what is lent, how many there are, which one, and
+-- whether the bytes have their size
 abbrev pub activeWriteTests : Standby → ℕ → ℕ → ℕ → Bool → List Test
 activeWriteTests s lent units unit sized =
     test outOfRange (standbyOk s && eqb lent (units * s .settings .u))

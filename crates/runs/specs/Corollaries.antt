@@ -1,5 +1,6 @@
 -- What a service engineer reads off demand 3: five claims about every run. Assumes nothing.
--- The calls that count at a cut, `countedCalls cut calls`, are themselves a list of calls: a claim about every list holds at every cut.
+-- The calls that count at a cut, `countedCalls cut calls`, are themselves a list of calls: a claim about every list
+-- holds at every cut.
 use Prim.Native.Nat.{ℕ, _≤_}
 use mathlib.Core.Path.{_≡_}
 use mathlib.Core.Bool.{true, false}
@@ -41,7 +42,8 @@ module _ (g : Settings) (processor : Processor) (buffers : Buffers) where
   abbrev pub answerAfter : List Call → Call → Stepped
   answerAfter calls c = step (pairAfter calls .world) c
 
-  -- ---- 1. a packet that left under protection is in checkpoint r ever after: by demand 3 the one that any later takeover gives
+  -- ---- 1. a packet that left under protection is in checkpoint r ever after: by demand 3 the one that any later
+  -- takeover gives
   abbrev pub PacketSaved : Type 0
   PacketSaved =
       (before : List Call) (destination : List ℕ) (later : List Call)
@@ -49,7 +51,8 @@ module _ (g : Settings) (processor : Processor) (buffers : Buffers) where
       → isAlone (g .t) (pairAfter before .plain) ≡ false
       → Saved (answerAfter before (call.take destination) .handed) (pairAfter before .plain .taken) (pairAfter (before ++ (call.take destination ∷ later)) .plain)
 
-  -- ---- 2. the acknowledged checkpoint is received, at every cut; and no takeover after an accepted ACK gives one before its epoch
+  -- ---- 2. the acknowledged checkpoint is received, at every cut; and no takeover after an accepted ACK gives one
+  -- before its epoch
   abbrev pub AcknowledgedReceived : Type 0
   AcknowledgedReceived = (calls : List Call) (cut : Cut) → pairAfter (countedCalls cut calls) .plain .a ≤ pairAfter (countedCalls cut calls) .plain .r
 
@@ -59,7 +62,8 @@ module _ (g : Settings) (processor : Processor) (buffers : Buffers) where
       → answerAfter before (call.ack n) .outcome .number ≡ 0
       → StillReceived g (answerAfter before (call.ack n) .outcome .value) (pairAfter (before ++ (call.ack n ∷ later)))
 
-  -- ---- 3. an accepted activation leaves the standby with one whole checkpoint, the one received: never a mixture of two
+  -- ---- 3. an accepted activation leaves the standby with one whole checkpoint, the one received: never a mixture of
+  -- two
   abbrev pub OneCheckpoint : Type 0
   OneCheckpoint =
       (before : List Call)
@@ -71,7 +75,8 @@ module _ (g : Settings) (processor : Processor) (buffers : Buffers) where
   PrimaryDiskUntilActivation =
       (calls : List Call) (cut : Cut) → pairAfter (countedCalls cut calls) .plain .activated ≡ false → PrimaryDiskValid (pairAfter (countedCalls cut calls))
 
-  -- ---- 5. once the standby is active it stays so, and r is fixed: what leaves later under protection was accepted before the checkpoint that it took over
+  -- ---- 5. once the standby is active it stays so, and r is fixed: what leaves later under protection was accepted
+  -- before the checkpoint that it took over
   abbrev pub ReceivedFixed : Type 0
   ReceivedFixed =
       (before later : List Call) → active (pairAfter before .world) ≡ true

@@ -11,7 +11,8 @@ pub data Running : Type 0 where
   made : Running
   budget : ℕ → Running
 
--- an end is cut once this many calls of the list have begun, inside its next call of those that follow; or it is not cut
+-- an end is cut once this many calls of the list have begun, inside its next call of those that follow; or it is not
+-- cut
 pub data EndCut : Type 0 where
   uncut : EndCut
   after : ℕ → Running → EndCut
@@ -59,7 +60,8 @@ cutInside notMade c = []
 cutInside made c = c ∷ []
 cutInside (budget b) c = withBudget b c
 
--- what counts of a call of an end, and where the end stands after it: it makes no call after the one that it is cut inside
+-- what counts of a call of an end, and where the end stands after it: it makes no call after the one that it is cut
+-- inside
 abbrev pub counted : EndCut → Call → List Call
 counted uncut c = c ∷ []
 counted (after zero running) c = cutInside running c

@@ -50,7 +50,8 @@ receivedCheckpoint p = checkpointAt p (p .r)
 abbrev pub isAlone : ℕ → Plain → Bool
 isAlone t p = leb t (p .count)
 
--- "At start the primary has the images handed in; checkpoint 0 is these, the processor state and no packets; r, a and the count are 0"
+-- "At start the primary has the images handed in; checkpoint 0 is these, the processor state and no packets; r, a and
+-- the count are 0"
 abbrev pub plainStart : List ℕ → List ℕ → List ℕ → Plain
 plainStart memory disk processor =
     record {

@@ -10,7 +10,8 @@ pub record Both : Type 0 where
   pub world : World
   pub plain : Plain
 
--- the two ways of making a call: on the real ends and on the plain pair. A refutation puts a wrong one in the place of either
+-- the two ways of making a call: on the real ends and on the plain pair. A refutation puts a wrong one in the place of
+-- either
 pub record Steps : Type 0 where
   pub real : World → Call → Stepped
   pub plain : ℕ → Call → Outcome → Plain → Plain
