@@ -8,18 +8,16 @@ use native.Mathlib.Omega.{arith}
 use lib.ListN.{length, replicate, length-replicate}
 use Rattle.records.specs.Kind.{PAGE, ACK, recordLength}
 use Rattle.settings.specs.declared.Settings.{Settings}
-use Rattle.queue.specs.declared.Queue.{Queue}
-use Rattle.queue.specs.Held.{heldPackets}
 use Rattle.rules.specs.StandbyState.{isReceiving}
 use Rattle.rules.specs.World.{World, PrimaryEnd}
 use Rattle.rules.specs.World as call
 use Rattle.runs.specs.Run.{Both, steps, runCall, run, startBoth}
 use Rattle.runs.specs.Cut.{countedCalls}
-use Rattle.runs.specs.Progress.{rounds, Drive, Enough, packetsBefore, closedPackets, CaughtUp, CatchesUp, CatchUp}
+use Rattle.runs.specs.Progress.{rounds, Drive, Enough, notTaken, CaughtUp, CatchesUp, CatchUp}
 use Rattle.runs.proofs.PlainLaws.{run-append}
 use Rattle.runs.proofs.Pending.{Agree}
 use Rattle.runs.proofs.ProgressProved.{call-agree, run-agree, start-agree}
-use Rattle.runs.proofs.TakesLaws.{takes-made}
+use Rattle.runs.proofs.TakesLaws.{drain-as-many, rounds-as-many, acks-as-many, takes-made}
 use Rattle.runs.proofs.Driven.{Driven, received-is, rounds-law, acks-law}
 use Rattle.runs.proofs.DriveLaws.{Still, drain-still, drain-link, drain-acknowledged}
 
@@ -34,11 +32,11 @@ module _ (g : Settings) (b : Both) (a : Agree g b) (alone : b .world .primary .s
   abbrev acknowledged : Both
   acknowledged = run steps (g .u) read (replicate (d .ackTurns) (call.ack (d .ackGiven)))
 
-  caught-up : CaughtUp steps (b .world) (acknowledged .world)
+  caught-up : CaughtUp steps b acknowledged
   caught-up =
       let w = b .world in
       let p = w .primary .state in
-      let s : Still = record { out = []; alone = p .alone; receiving = isReceiving (w .standby .state .mode); epoch = p .epoch; queue = p .queue } in
+      let s : Still = record { out = []; alone = p .alone; receiving = isReceiving (w .standby .state .mode); epoch = p .epoch } in
       let first : Driven g s refl alone receives drained
       = record { agree = call-agree g (call.drain (d .drained) (d .destination)) b a; still = drain-still g b a (d .drained) (d .destination) (e .drain) } in
       let few = drain-link g b a (d .drained) (d .destination) (e .drain) in
@@ -46,17 +44,23 @@ module _ (g : Settings) (b : Both) (a : Agree g b) (alone : b .world .primary .s
       let same = ap (λ (x : PrimaryEnd). x .state .acknowledged) (r .primary) ∙ drain-acknowledged g b a (d .drained) (d .destination) in
       let k = acks-law g s refl alone receives (d .ackGiven) (e .ack) (d .ackTurns) read (r .driven) (r .none) (omega (arith, e .ackTurns)) in
       let epoch = ap (λ (x : Still). x .epoch) (k .driven .still) in
-      let queue = ap (λ (x : Still). x .queue) (k .driven .still) in
+      let v = k .driven .agree .inv .holds in
+      let count = v .history .count in
+      let received = received-is g s refl alone receives acknowledged (k .driven) (k .none) in
+      let left : notTaken (acknowledged .plain) ≡ notTaken (b .plain)
+      = acks-as-many (g .u) (d .ackTurns) (d .ackGiven) read ∙ rounds-as-many (g .u) (d .turns) (d .budget) (d .given) (d .reply) drained ∙ drain-as-many (g .u) b (d .drained) (d .destination) in
       record {
-        received = received-is g s refl alone receives acknowledged (k .driven) (k .none);
+        r = omega (arith, received, v .taker .receivedIs, epoch, count);
+        a = omega (arith, k .last, v .detector .acknowledgedIs, epoch, count);
+        received = received;
         acknowledged = k .last;
-        takes = λ destination room. takes-made g destination room (closedPackets p) acknowledged (k .driven .agree .inv) (k .last ∙ sym epoch) (ap₂ (λ (m : ℕ) (q : Queue). packetsBefore m (heldPackets q)) epoch queue);
+        takes = λ destination room. takes-made g destination room (notTaken (b .plain)) acknowledged (k .driven .agree .inv) (k .last ∙ sym epoch) left;
       }
 
 -- from any pair with both invariants
 pub catches-up : (g : Settings) (b : Both) → Agree g b → CatchesUp steps g b
 catches-up g b a alone receives d e =
-    subst (λ (x : Both). CaughtUp steps (b .world) (x .world))
+    subst (CaughtUp steps b)
     (sym (run-append steps (g .u) (rounds (d .turns) (d .budget) (d .given) (d .reply)) (replicate (d .ackTurns) (call.ack (d .ackGiven))) (runCall steps (g .u) b (call.drain (d .drained) (d .destination)))))
     (caught-up g b a alone receives d e)
 

@@ -11,7 +11,6 @@ use Rattle.lists.proofs.TestLaws.{join, accepts}
 use Rattle.records.specs.declared.Record.{Record}
 use Rattle.records.specs.declared.Record.the-variants as record-of
 use Rattle.settings.specs.declared.Settings.{Settings}
-use Rattle.queue.specs.declared.Queue.{Queue}
 use Rattle.rules.specs.StandbyState.{isReceiving}
 use Rattle.rules.specs.Stream.{drainTests, drainRefusal, drainReply}
 use Rattle.rules.specs.World.{World}
@@ -25,18 +24,17 @@ use Rattle.runs.proofs.Flush as flush
 use Rattle.runs.proofs.Pending.{Agree}
 use Rattle.runs.proofs.FlushFrees.{flush-made}
 
--- the bytes waiting, whether both ends take part, the open epoch and the packets
+-- the bytes waiting, whether both ends take part, the open epoch
 pub record Still : Type 0 where
   pub out : List ℕ
   pub alone : Bool
   pub receiving : Bool
   pub epoch : ℕ
-  pub queue : Queue
 
 abbrev pub stillOf : World → Still
 stillOf w =
     let p = w .primary .state in
-    record { out = take (p .waiting) (w .primary .stream); alone = p .alone; receiving = isReceiving (w .standby .state .mode); epoch = p .epoch; queue = p .queue }
+    record { out = take (p .waiting) (w .primary .stream); alone = p .alone; receiving = isReceiving (w .standby .state .mode); epoch = p .epoch }
 
 -- ---- read: whatever is judged; the link grows no longer
 module _ (w : World) where
@@ -96,7 +94,7 @@ module _ (g : Settings) (b : Both) (a : Agree g b) where
 
     module _ (all : b .world .primary .state .waiting ≤ min n (length destination)) where
       abbrev drainedAll : World → Still
-      drainedAll w = let p = w .primary .state in record { out = []; alone = p .alone; receiving = isReceiving (w .standby .state .mode); epoch = p .epoch; queue = p .queue }
+      drainedAll w = let p = w .primary .state in record { out = []; alone = p .alone; receiving = isReceiving (w .standby .state .mode); epoch = p .epoch }
 
       pub drain-still : stillOf (step (b .world) (call.drain n destination) .next) ≡ drainedAll (b .world)
       drain-still =
@@ -104,7 +102,7 @@ module _ (g : Settings) (b : Both) (a : Agree g b) where
           let c = drain.countOf n destination b in
           let none : p .waiting - c ≡ 0 = omega arith in
           ap (λ (x : Both). stillOf (x .world)) is
-          ∙ ap (λ (m : ℕ). record { out = take m (removed 0 c (p .waiting) (b .world .primary .stream)); alone = p .alone; receiving = isReceiving (b .world .standby .state .mode); epoch = p .epoch; queue = p .queue }) none
+          ∙ ap (λ (m : ℕ). record { out = take m (removed 0 c (p .waiting) (b .world .primary .stream)); alone = p .alone; receiving = isReceiving (b .world .standby .state .mode); epoch = p .epoch }) none
 
       pub drain-link : length (step (b .world) (call.drain n destination) .next .link) ≤ length (b .world .link) + b .world .primary .state .waiting
       drain-link = rw (ap (λ (x : Both). x .world .link) is) (simp (length-append, length-take) (omega arith))

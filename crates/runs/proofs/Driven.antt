@@ -47,7 +47,7 @@ none-pending : (u : ℕ) (ms : List Message) → All (Readable u) ms → length 
 none-pending u [] f h = refl
 none-pending u (x ∷ xs) f h = absurd (omega (arith, length-append (encode x) (encodeAll xs), some-bytes u x (f .0)))
 
--- ---- from the drain on: nothing waits, both ends take part, the open epoch and the packets stay
+-- ---- from the drain on: nothing waits, both ends take part, the open epoch stays
 module _ (g : Settings) (s : Still) (nothing : s .out ≡ []) (protects : s .alone ≡ false) (receives : s .receiving ≡ true) where
   pub record Driven (b : Both) : Type 0 where
     pub agree : Agree g b

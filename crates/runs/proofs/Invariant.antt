@@ -85,6 +85,12 @@ Released n checkpoints [] = Unit {0}
 Released n checkpoints (h ∷ hs) =
     ((j : ℕ) → h .epoch ≤ j → j < length checkpoints → n < length (getD checkpoints j noCheckpoint .packets)) × Released (n + 1) checkpoints hs
 
+-- and in none before it; none has an epoch above the open one
+abbrev pub Unreleased : ℕ → List Checkpoint → List Held → Type 0
+Unreleased n checkpoints [] = Unit {0}
+Unreleased n checkpoints (h ∷ hs) =
+    (h .epoch ≤ length checkpoints) × ((j : ℕ) → j < length checkpoints → n < length (getD checkpoints j noCheckpoint .packets) → h .epoch ≤ j) × Unreleased (n + 1) checkpoints hs
+
 abbrev pub bytesOf : Held → List ℕ
 bytesOf h = h .bytes
 
@@ -93,6 +99,7 @@ pub record Packets (held : List Held) (accepted : List (List ℕ)) (taken : ℕ)
   pub queued : map bytesOf held ≡ drop taken accepted
   pub sum : taken + length held ≡ length accepted
   pub released : Released taken checkpoints held
+  pub unreleased : Unreleased taken checkpoints held
   pub first : (j : ℕ) → j < length checkpoints → FirstOf (getD checkpoints j noCheckpoint .packets) accepted
 
 -- ---- the standby: until it is active it has base, and while receiving what it staged is what the records consumed do to base;

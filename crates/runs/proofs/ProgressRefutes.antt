@@ -115,6 +115,29 @@ never-hands-out p =
     let z : _≡_ {A = ℕ} 18 0 = catchesUp keepsPackets commitCame p refl refl (leastDrive small w) (least-enough small w) .takes (zeros 1514) (lit≤ tt) .0 in
     omega arith
 
+-- ---- a primary that accepts each packet and holds none
+abbrev holdsNone : Steps
+holdsNone = wrongly (insteadOf (call.packet []) stays)
+
+pub never-holds : CatchUpOf holdsNone → ⊥
+unfolding allSteps
+never-holds p =
+    let w = after holdsNone commitCame in
+    let z : _≡_ {A = ℕ} 18 0 = catchesUp holdsNone commitCame p refl refl (leastDrive small w) (least-enough small w) .takes (zeros 1514) (lit≤ tt) .0 in
+    omega arith
+
+-- ---- a checkpoint that is accepted and does nothing: its epoch stays open for ever
+abbrev closesNone : Steps
+closesNone = wrongly (insteadOf (call.checkpoint (processorOf 0)) stays)
+
+pub never-closes : CatchUpOf closesNone → ⊥
+unfolding allSteps
+never-closes p =
+    let calls = call.checkpoint (processorOf 2) ∷ [] in
+    let w = after closesNone calls in
+    let z : _≡_ {A = ℕ} 1 2 = catchesUp closesNone calls p refl refl (leastDrive small w) (least-enough small w) .r in
+    omega arith
+
 -- ---- what a read may be refused for does come: a COMMIT without room for its ACK, where no other record asks for any; less than a whole record
 abbrev pub numberAfter : List Call → Call → ℕ
 numberAfter calls c = numberOf steps (run steps 64 begun calls .world) c

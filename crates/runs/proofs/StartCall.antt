@@ -61,7 +61,7 @@ module _ (g : Settings) (processor : Processor) (b : Buffers) (f : StartFacts g 
   first (suc j) h = absurd (omega arith)
 
   packets : Packets [] [] 0 (zeroth ∷ [])
-  packets = record { queued = refl; sum = refl; released = tt; first = first }
+  packets = record { queued = refl; sum = refl; released = tt; unreleased = tt; first = first }
 
   start-inv : Inv g (begun g processor b)
   unfolding storeAll dueList slotList stagedFrom

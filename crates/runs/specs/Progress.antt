@@ -1,9 +1,9 @@
 -- Progress: the two ends never disagree on what was sent. Demand 3 alone is true of ends that do: the standby would refuse for ever, and nothing would be
 -- lost. After every list of calls the standby accepts the primary's next record, and the primary the next ACK, once it is given whole; and with nothing
 -- more written the two catch up. Assumes nothing.
-use Prim.Native.Nat.{ℕ, zero, suc, _+_, _≤_, _<_, min}
+use Prim.Native.Nat.{ℕ, zero, suc, _+_, _-_, _≤_, _<_, min}
 use mathlib.Core.Path.{_≡_}
-use mathlib.Core.Bool.{Bool, true, false, cond, _&&_, _||_, not}
+use mathlib.Core.Bool.{Bool, true, false, _&&_, _||_, not}
 use mathlib.Core.List.{List, [], _∷_, _++_}
 use lib.Dec.{leb, ltb, eqb}
 use lib.ListN.{length, take, replicate}
@@ -14,12 +14,10 @@ use Rattle.records.specs.Read.{cutShort}
 use Rattle.records.specs.Number.{noRoom, slotsFull}
 use Rattle.settings.specs.declared.Settings.{Settings}
 use Rattle.settings.specs.Range.{mostPacketBytes}
-use Rattle.queue.specs.declared.Packet.{Packet}
-use Rattle.queue.specs.Held.{heldPackets}
-use Rattle.rules.specs.declared.Primary.{Primary}
 use Rattle.rules.specs.StandbyState.{isReceiving}
 use Rattle.rules.specs.World.{World, Processor, Call, Buffers}
 use Rattle.rules.specs.World as call
+use Rattle.runs.specs.Plain.{Checkpoint, Plain, checkpointAt}
 use Rattle.runs.specs.Run.{Both, Steps, steps, run, startBoth}
 use Rattle.runs.specs.Cut.{Cut, countedCalls}
 use Rattle.runs.specs.Demand3.{AllAccepted}
@@ -109,25 +107,30 @@ pub record Enough (g : Settings) (w : World) (d : Drive) : Type 0 where
   pub ackTurns : w .primary .state .epoch ≤ w .primary .state .acknowledged + 1 + d .ackTurns
   pub ack : recordLength (g .u) ACK ≤ d .ackGiven
 
--- how many of these packets are of an epoch before this one, and how many of those held are of a closed one
-abbrev pub packetsBefore : ℕ → List Packet → ℕ
-packetsBefore epoch [] = 0
-packetsBefore epoch (p ∷ ps) = let n = packetsBefore epoch ps in cond (ltb (p .epoch) epoch) (suc n) n
+-- the last checkpoint of the plain pair, and how many of its packets have not left
+abbrev pub lastCheckpoint : Plain → Checkpoint
+lastCheckpoint p = checkpointAt p (length (p .checkpoints) - 1)
 
-abbrev pub closedPackets : Primary → ℕ
-closedPackets p = packetsBefore (p .epoch) (heldPackets (p .queue))
+abbrev pub notTaken : Plain → ℕ
+notTaken p = length (lastCheckpoint p .packets) - p .taken
 
--- the last closed epoch, which is the one before the open one, is received and acknowledged; so every packet of a closed epoch can then be taken
-pub record CaughtUp (κ : Steps) (before after : World) : Type 0 where
-  pub received : after .standby .state .received + 1 ≡ before .primary .state .epoch
-  pub acknowledged : after .primary .state .acknowledged + 1 ≡ before .primary .state .epoch
-  pub takes : (destination : List ℕ) → mostPacketBytes ≤ length destination → AllAccepted κ after (replicate (closedPackets (before .primary .state)) (call.take destination))
+-- the last checkpoint, which is the epoch before the open one, is received and acknowledged; so its packets that have
+-- not left can then all be taken
+pub record CaughtUp (κ : Steps) (before after : Both) : Type 0 where
+  -- by the plain pair
+  pub r : after .plain .r + 1 ≡ length (after .plain .checkpoints)
+  pub a : after .plain .a + 1 ≡ length (after .plain .checkpoints)
+  -- by the real ends
+  pub received : after .world .standby .state .received + 1 ≡ before .world .primary .state .epoch
+  pub acknowledged : after .world .primary .state .acknowledged + 1 ≡ before .world .primary .state .epoch
+  pub takes : (destination : List ℕ) → mostPacketBytes ≤ length destination
+      → AllAccepted κ (after .world) (replicate (notTaken (before .plain)) (call.take destination))
 
 -- where the primary is protected and the standby receives, every drive that is enough leads there
 abbrev pub CatchesUp : Steps → Settings → Both → Type 0
 CatchesUp κ g b =
     b .world .primary .state .alone ≡ false → isReceiving (b .world .standby .state .mode) ≡ true
-    → (d : Drive) → Enough g (b .world) d → CaughtUp κ (b .world) (run κ (g .u) b (driveCalls d) .world)
+    → (d : Drive) → Enough g (b .world) d → CaughtUp κ b (run κ (g .u) b (driveCalls d))
 
 -- after every accepted start and every list of calls, wherever the pair is cut
 abbrev pub CatchUpOf : Steps → Type 0
