@@ -1,12 +1,12 @@
 -- Catching up is proved: a drive that is enough, from its drain to the takes that it makes possible. Assumes nothing.
-use Prim.Native.Nat.{ℕ, _+_, _-_}
-use mathlib.Core.Path.{_≡_, refl, sym, ap, ap₂, _∙_, subst}
+use Prim.Native.Nat.{ℕ, _+_, _-_, _/_}
+use mathlib.Core.Path.{_≡_, refl, sym, ap, _∙_, subst}
 use mathlib.Core.Bool.{true, false}
 use mathlib.Core.List.{[]}
 use native.Mathlib.Nat.{le-refl}
 use native.Mathlib.Omega.{arith}
 use lib.ListN.{length, replicate, length-replicate}
-use Rattle.records.specs.Kind.{PAGE, ACK, recordLength}
+use Rattle.records.specs.Kind.{PAGE, ACK, bodyLength, recordLength}
 use Rattle.settings.specs.declared.Settings.{Settings}
 use Rattle.rules.specs.StandbyState.{isReceiving}
 use Rattle.rules.specs.World.{World, PrimaryEnd}
@@ -77,7 +77,7 @@ leastDrive g w =
     record {
       drained = p .waiting;
       destination = replicate (p .waiting) 0;
-      turns = length (w .link) + p .waiting;
+      turns = (length (w .link) + p .waiting + 11) / 12;
       budget = 1;
       given = recordLength (g .u) PAGE;
       reply = replicate (recordLength (g .u) ACK) 0;
@@ -86,10 +86,11 @@ leastDrive g w =
     }
 
 pub least-enough : (g : Settings) (w : World) → Enough g w (leastDrive g w)
+unfolding recordLength bodyLength
 least-enough g w =
     record {
       drain = omega (arith, length-replicate {A = ℕ} (w .primary .state .waiting) 0);
-      turns = le-refl _;
+      turns = omega arith;
       flush = omega arith;
       read = le-refl _;
       room = omega (arith, length-replicate {A = ℕ} (recordLength (g .u) ACK) 0);

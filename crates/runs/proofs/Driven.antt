@@ -1,5 +1,5 @@
 -- A drive from its drain on: each round of a flush and a read takes a record off the link, and each ACK call raises the acknowledged epoch. Assumes nothing.
-use Prim.Native.Nat.{ℕ, zero, suc, _+_, _-_, _≤_, _<_}
+use Prim.Native.Nat.{ℕ, zero, suc, _+_, _-_, _*_, _≤_, _<_}
 use mathlib.Core.Path.{_≡_, refl, sym, ap, ap₂, _∙_}
 use mathlib.Core.Logic.{⊎-elim}
 use mathlib.Core.Bool.{true, false, not}
@@ -8,7 +8,7 @@ use native.Mathlib.Omega.{arith}
 use lib.ListN.{length, take, replicate, length-append}
 use Rattle.lists.proofs.TestLaws.{eq-or-ne}
 use Rattle.records.specs.declared.Reader.the-variants as reader
-use Rattle.records.specs.Kind.{PAGE, ACK, bodyLength, recordLength}
+use Rattle.records.specs.Kind.{PAGE, COMMIT, ACK, bodyLength, recordLength}
 use Rattle.records.specs.Message.{Message, messageKind, encode, encodeAll}
 use Rattle.records.proofs.MessageLaws.{length-message}
 use Rattle.records.proofs.ReadLaws.{for-test, kind-cases}
@@ -29,7 +29,7 @@ use Rattle.runs.proofs.ReadStep.{whole-given}
 use Rattle.runs.proofs.ReadTests.{room-enough}
 use Rattle.runs.proofs.Walk.{Counts, countsOf, blocksOnly}
 use Rattle.runs.proofs.Pending.{View, Agree}
-use Rattle.runs.proofs.PendingRead.{some-bytes, read-kept}
+use Rattle.runs.proofs.PendingRead.{least-bytes, read-kept}
 use Rattle.runs.proofs.PendingAck.{oldest-made, ack-kept}
 use Rattle.runs.proofs.FlushFrees.{same-view, flush-agree, read-flushed}
 use Rattle.runs.proofs.ProgressProved.{call-agree}
@@ -43,9 +43,10 @@ record-few u x h f =
     let l = kind-cases (λ (k : ℕ). recordLength u k ≤ recordLength u PAGE) (omega arith) (omega arith) (omega arith) (omega arith) (omega arith) k (for-test reader.Standby k (f .1)) in
     omega (arith, length-message u x (f .0))
 
-none-pending : (u : ℕ) (ms : List Message) → All (Readable u) ms → length (encodeAll ms) ≤ 0 → ms ≡ []
-none-pending u [] f h = refl
-none-pending u (x ∷ xs) f h = absurd (omega (arith, length-append (encode x) (encodeAll xs), some-bytes u x (f .0)))
+none-pending : (u : ℕ) (ms : List Message) → 64 ≤ u → All (Readable u) ms → length (encodeAll ms) ≤ 0 → ms ≡ []
+unfolding recordLength bodyLength
+none-pending u [] low f h = refl
+none-pending u (x ∷ xs) low f h = absurd (omega (arith, length-append (encode x) (encodeAll xs), least-bytes u x low (f .0)))
 
 -- ---- from the drain on: nothing waits, both ends take part, the open epoch stays
 module _ (g : Settings) (s : Still) (nothing : s .out ≡ []) (protects : s .alone ≡ false) (receives : s .receiving ≡ true) where
@@ -68,7 +69,7 @@ module _ (g : Settings) (s : Still) (nothing : s .out ≡ []) (protects : s .alo
   pub received-is : (b : Both) → Driven b → length (b .world .link) ≤ 0 → b .world .standby .state .received + 1 ≡ s .epoch
   received-is b d l =
       let p = d .agree .pending in
-      let none = none-pending (g .u) (p .flight .records) (p .flight .readable) (omega (arith, ap length (link-is b d))) in
+      let none = none-pending (g .u) (p .flight .records) (standby-settings g (b .world .standby) (d .agree .inv .holds .standbyKept) .shared .u-low) (p .flight .readable) (omega (arith, ap length (link-is b d))) in
       let walk : countsOf (b .world .standby .state) ≡ blocksOnly (b .world .primary .state .epoch) (b .world .primary .state .blocks) = rw none at (p .walk (on b d)) in
       ap (λ (c : Counts). c .epoch) walk ∙ ap (λ (x : Still). x .epoch) (d .still)
 
@@ -80,8 +81,8 @@ module _ (g : Settings) (s : Still) (nothing : s .out ≡ []) (protects : s .alo
     abbrev roundOf : Both → Both
     roundOf b = runCall steps (g .u) (flushed b) (call.read given reply)
 
-    -- a round leaves fewer bytes on the link, or none were there
-    shorter : (b : Both) (d : Driven b) (ms : List Message) → d .agree .pending .flight .records ≡ ms → length (roundOf b .world .link) ≤ length (b .world .link) - 1
+    -- a round leaves a record less on the link, or none was there
+    shorter : (b : Both) (d : Driven b) (ms : List Message) → d .agree .pending .flight .records ≡ ms → length (roundOf b .world .link) ≤ length (b .world .link) - recordLength (g .u) COMMIT
     shorter b d [] e =
         let link = ap (λ (v : View). v .link) (same-view g b (d .agree) budget) in
         omega (arith, read-less (flushed b .world) given reply, ap length link, ap length (link-is b d ∙ ap encodeAll e))
@@ -108,14 +109,15 @@ module _ (g : Settings) (s : Still) (nothing : s .out ≡ []) (protects : s .alo
     round-primary : (b : Both) → Driven b → roundOf b .world .primary ≡ b .world .primary
     round-primary b d = read-primary (flushed b .world) given reply ∙ flush-primary g b (d .agree) budget
 
-    -- as many rounds as bytes leave none
+    -- as many rounds as COMMITs would fit leave none
     pub record Rounds (b next : Both) : Type 0 where
       pub driven : Driven next
       pub primary : next .world .primary ≡ b .world .primary
       pub none : length (next .world .link) ≤ 0
 
-    pub rounds-law : (k : ℕ) (b : Both) → Driven b → length (b .world .link) ≤ k → Rounds b (run steps (g .u) b (rounds k budget given reply))
-    rounds-law zero b d l = record { driven = d; primary = refl; none = l }
+    pub rounds-law : (k : ℕ) (b : Both) → Driven b → length (b .world .link) ≤ recordLength (g .u) COMMIT * k → Rounds b (run steps (g .u) b (rounds k budget given reply))
+    unfolding recordLength bodyLength
+    rounds-law zero b d l = record { driven = d; primary = refl; none = omega arith }
     rounds-law (suc k) b d l =
         let r = rounds-law k (roundOf b) (round-driven b d) (omega (arith, shorter b d (d .agree .pending .flight .records) refl)) in
         record { driven = r .driven; primary = r .primary ∙ round-primary b d; none = r .none }

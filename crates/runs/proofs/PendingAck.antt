@@ -7,10 +7,11 @@ use mathlib.Core.List.{List, [], _∷_, _++_, map}
 use native.Mathlib.Omega.{arith}
 use lib.ListN.{length, take, drop}
 use borrow.Author.Tests.{lt-ltb}
+use Rattle.lists.specs.LittleEndian.{leAt}
 use Rattle.lists.proofs.TestLaws.{by-test, join, accepts, cond-true, cond-false}
 use Rattle.records.specs.Read.{cutShort}
 use Rattle.records.specs.declared.Reader.the-variants as reader
-use Rattle.records.specs.Kind.{ACK, recordLength}
+use Rattle.records.specs.Kind.{ACK, unitOk, recordLength, headerLength}
 use Rattle.records.specs.Message.{encode, encodeAll, readAs}
 use Rattle.records.specs.Message as message
 use Rattle.records.proofs.MessageLaws.{length-message, used-message}
@@ -22,11 +23,11 @@ use Rattle.rules.specs.World as call
 use Rattle.rules.specs.Step.{Stepped, step}
 use Rattle.rules.proofs.PrimaryFacts.{primary-facts}
 use Rattle.runs.specs.Run.{Both}
-use Rattle.runs.specs.Progress.{wholeRecord, ackNumber}
+use Rattle.runs.specs.Progress.{wholeRecord, withoutFirst, ackNumber}
 use Rattle.runs.proofs.Invariant.{Rising, Inv}
 use Rattle.runs.proofs.Conclusions.{received-exists, rising-le}
 use Rattle.runs.proofs.RecordSteps.{ackSeen, ackBy, ack-step}
-use Rattle.runs.proofs.ReadStep.{AckFound, short, next, whole-given, ack-off, ack-found}
+use Rattle.runs.proofs.ReadStep.{AckFound, short, next, whole-given, size-is, ack-off, ack-found}
 use Rattle.runs.proofs.Ack.{acks-readable, r-low}
 use Rattle.runs.proofs.Pending.{View, viewOf, Leads, Pending, KeepsPending, pending-acked}
 
@@ -38,6 +39,9 @@ leads-rising a r (e ∷ es) h = (h .0, leads-rising e r es (h .1))
 module _ (g : Settings) (b : Both) (i : Inv g b) (p : Pending g (viewOf (b .world))) (on : protected (b .world .primary .state) ≡ true) (n : ℕ) where
   abbrev u : ℕ
   u = b .world .primary .state .settings .u
+
+  unit-ok : unitOk u ≡ true
+  unit-ok = shared-unit (primary-facts (b .world .primary .state) (i .holds .primaryKept .reached .inRange) .settings .shared)
 
   rising : (es : List ℕ) → p .trail .epochs ≡ es → Rising (b .world .primary .state .acknowledged) (b .world .standby .state .received) es
   rising es same = leads-rising _ _ es (rw same at (p .trail .leads))
@@ -74,14 +78,13 @@ module _ (g : Settings) (b : Both) (i : Inv g b) (p : Pending g (viewOf (b .worl
       let x = message.ack e in
       let fits = low e es same in
       let is : b .world .acks ≡ encode x ++ encodeAll (map message.ack es) = p .trail .are ∙ ap (λ (l : List ℕ). encodeAll (map message.ack l)) same in
-      let ok = shared-unit (primary-facts (b .world .primary .state) (i .holds .primaryKept .reached .inRange) .settings .shared) in
       let whole : wholeRecord (take n (b .world .acks)) ≡ true
-      = ap (λ (l : List ℕ). wholeRecord (take n l)) is ∙ whole-given reader.Primary u ok n x (encodeAll (map message.ack es)) (fits, refl) (omega (arith, length-message (g .u) x fits)) in
+      = ap (λ (l : List ℕ). wholeRecord (take n l)) is ∙ whole-given reader.Primary u unit-ok n x (encodeAll (map message.ack es)) (fits, refl) (omega (arith, length-message (g .u) x fits)) in
       ack-number ∙ cond-true (wholeRecord (take n (b .world .acks))) 0 cutShort whole
 
-  -- an accepted one keeps the invariant, and raises the acknowledged epoch
-  abbrev Kept : View → Type 0
-  Kept v = Pending g v × (b .world .primary .state .acknowledged < v .sender .acknowledged)
+  -- an accepted one keeps the invariant, raises the acknowledged epoch, and leaves the ACKs without their first
+  abbrev pub Kept : View → Type 0
+  Kept v = Pending g v × (b .world .primary .state .acknowledged < v .sender .acknowledged) × (v .acks ≡ withoutFirst (b .world .acks))
 
   accepted-by : step (b .world) (call.ack n) .outcome .number ≡ 0 → AckFound (b .world) n (p .trail .epochs) → Kept (viewOf (ackBy (b .world) (ackSeen (b .world) n) .next))
   accepted-by accepted (short s z) = absurd (omega arith)
@@ -89,11 +92,14 @@ module _ (g : Settings) (b : Both) (i : Inv g b) (p : Pending g (viewOf (b .worl
       let w = b .world in
       let x = message.ack e in
       let leads : Leads (w .primary .state .acknowledged) (w .standby .state .received + 1) (e ∷ es) = rw same at (p .trail .leads) in
+      let is : w .acks ≡ encode x ++ encodeAll (map message.ack es) = p .trail .are ∙ ap (λ (l : List ℕ). encodeAll (map message.ack l)) same in
+      let size : headerLength + leAt 2 (w .acks) 0 ≡ length (encode x)
+      = ap (λ (l : List ℕ). headerLength + leAt 2 l 0) is ∙ size-is reader.Primary u unit-ok x (encodeAll (map message.ack es)) (low e es same, refl) in
       rw (seen accepted, used-message u x (low e es same))
-      (pending-acked g (viewOf w) p e (drop (length (encode x)) (w .acks)) (record { epochs = es; are = bytes; leads = leads .1 }), leads .0)
+      (pending-acked g (viewOf w) p e (drop (length (encode x)) (w .acks)) (record { epochs = es; are = bytes; leads = leads .1 }), leads .0, ap (λ (m : ℕ). drop m (w .acks)) (sym size))
 
   pub ack-kept : step (b .world) (call.ack n) .outcome .number ≡ 0
-      → Pending g (viewOf (step (b .world) (call.ack n) .next)) × (b .world .primary .state .acknowledged < step (b .world) (call.ack n) .next .primary .state .acknowledged)
+      → Kept (viewOf (step (b .world) (call.ack n) .next))
   ack-kept accepted = subst (λ (s : Stepped). Kept (viewOf (s .next))) (sym (ack-step (b .world) n)) (accepted-by accepted found)
 
 pub ack-pending : (g : Settings) (n : ℕ) → KeepsPending g (call.ack n)

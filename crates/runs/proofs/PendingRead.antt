@@ -9,13 +9,13 @@ use lib.ListN.{length, take, drop, length-drop}
 use Rattle.lists.specs.LittleEndian.{leAt}
 use Rattle.lists.proofs.TestLaws.{by-test, cond-true, cond-false}
 use Rattle.records.specs.declared.Reader.the-variants as reader
+use Rattle.records.specs.Kind.{COMMIT, bodyLength, recordLength, headerLength}
 use Rattle.records.specs.Read.{cutShort, usedOf}
 use Rattle.records.specs.Number.{slotsFull}
 use Rattle.records.specs.Message.{Message, messageKind, encode, encodeAll, readAs}
 use Rattle.records.specs.Message as message
 use Rattle.records.specs.Write.{ackRecord}
 use Rattle.records.proofs.MessageLaws.{length-message, used-message}
-use Rattle.records.proofs.ReadLaws.{for-test, record-ge}
 use Rattle.records.proofs.WriteLaws.{ack-written}
 use Rattle.settings.specs.declared.Settings.{Settings}
 use Rattle.rules.specs.StandbyState.{isReceiving}
@@ -23,12 +23,13 @@ use Rattle.rules.specs.Judge.{recordRefusal}
 use Rattle.rules.specs.World.{World}
 use Rattle.rules.specs.World as call
 use Rattle.rules.specs.Step.{Stepped, step}
-use Rattle.runs.specs.Progress.{wholeRecord, readNumber}
+use Rattle.runs.specs.Progress.{wholeRecord, withoutFirst, readNumber}
 use Rattle.runs.proofs.Effects.{All, Readable}
 use Rattle.runs.proofs.Invariant.{StandbyKept}
-use Rattle.runs.proofs.KeptLaws.{standby-u}
+use Rattle.runs.proofs.KeptLaws.{standby-u, standby-settings, standby-unit}
 use Rattle.runs.proofs.RecordSteps.{readBy, read-step}
-use Rattle.runs.proofs.ReadStep.{ReadFound, short, next, next-inside, read-off, read-found}
+use Rattle.runs.proofs.Reading.{whole-first}
+use Rattle.runs.proofs.ReadStep.{ReadFound, short, next, size-is, next-inside, read-off, read-found}
 use Rattle.runs.proofs.ReadCommit.{acks-more}
 use Rattle.runs.proofs.Walk.{Counts, countsOf, blocksOnly, Asked, counted, Walk}
 use Rattle.runs.proofs.AskedLaws.{kindNumber, asked-number, asked-full}
@@ -87,9 +88,14 @@ trail-taken g acks a c (message.commit e p b) f t =
     }
 trail-taken g acks a c (message.ack e) f t = absurd f
 
--- every record has a byte
-pub some-bytes : (u : ℕ) (x : Message) → Readable u x → 0 < length (encode x)
-some-bytes u x f = omega (arith, length-message u x (f .0), record-ge u (messageKind x) (for-test reader.Standby (messageKind x) (f .1)))
+-- no record is shorter than a COMMIT
+pub least-bytes : (u : ℕ) (x : Message) → 64 ≤ u → Readable u x → recordLength u COMMIT ≤ length (encode x)
+unfolding recordLength bodyLength
+least-bytes u (message.page e p bs) h f = omega (arith, length-message u (message.page e p bs) (f .0))
+least-bytes u (message.block e n bs) h f = omega (arith, length-message u (message.block e n bs) (f .0))
+least-bytes u (message.state e bs) h f = omega (arith, length-message u (message.state e bs) (f .0))
+least-bytes u (message.commit e p b) h f = omega (arith, length-message u (message.commit e p b) (f .0))
+least-bytes u (message.ack e) h f = absurd (false≢true (f .1))
 
 -- ---- a standby that receives
 module _ (g : Settings) (w : World) (k : StandbyKept g (w .standby)) (p : Pending g (viewOf w)) (on : isReceiving (w .standby .state .mode) ≡ true) (n : ℕ) (reply : List ℕ) where
@@ -131,20 +137,24 @@ module _ (g : Settings) (w : World) (k : StandbyKept g (w .standby)) (p : Pendin
   pub read-full : readNumber g w n reply ≡ slotsFull → (g .s ≤ w .standby .state .slots .staged) × (w .standby .state .blocks < g .b)
   read-full e = full-by found e
 
-  -- an accepted one keeps the invariant, and leaves fewer bytes on the link
-  abbrev Kept : View → Type 0
-  Kept v = Pending g v × (length (v .link) < length (w .link))
+  -- an accepted one keeps the invariant, and leaves the link without its first record, which is no shorter than a COMMIT
+  abbrev pub Kept : View → Type 0
+  Kept v = Pending g v × (length (v .link) + recordLength (g .u) COMMIT ≤ length (w .link)) × (v .link ≡ withoutFirst (w .link))
 
   pending-taken : (x : Message) (xs : List Message) → p .flight .records ≡ x ∷ xs → length (encode x) ≤ length (w .link) → drop (length (encode x)) (w .link) ++ rest ≡ encodeAll xs → Kept (taken (viewOf w) x)
   pending-taken x xs first inside behind =
       let readable : All (Readable (g .u)) (x ∷ xs) = rw first at (p .flight .readable) in
-      let asked = walk x xs first in (
+      let asked = walk x xs first in
+      let begins = whole-first (w .link) rest (encode x) (encodeAll xs) (p .flight .bytes ∙ ap encodeAll first) inside in
+      let size : headerLength + leAt 2 (w .link) 0 ≡ length (encode x)
+      = ap (λ (l : List ℕ). headerLength + leAt 2 l 0) begins ∙ size-is reader.Standby (g .u) (standby-unit g (w .standby) k) x (drop (length (encode x)) (w .link)) (readable .0) in (
         record {
           flight = record { records = xs; lost = p .flight .lost; bytes = behind; lossless = p .flight .lossless; readable = readable .1 };
           walk = λ z. asked .1;
           trail = trail-taken g (w .acks) (w .primary .state .acknowledged) (countsOf (w .standby .state)) x (asked .0) (p .trail);
         },
-        simp length-drop (omega (arith, some-bytes (g .u) x (readable .0))),
+        simp length-drop (omega (arith, least-bytes (g .u) x (standby-settings g (w .standby) k .shared .u-low) (readable .0))),
+        ap (λ (m : ℕ). drop m (w .link)) (sym size),
       )
 
   accepted-by : step w (call.read n reply) .outcome .number ≡ 0 → ReadFound g w k n reply (p .flight .records) rest → Kept (viewOf (step w (call.read n reply) .next))
@@ -157,7 +167,7 @@ module _ (g : Settings) (w : World) (k : StandbyKept g (w .standby)) (p : Pendin
       (sym (ap (λ (t : Stepped). viewOf (t .next)) (read-step w n reply ∙ ap (readBy w (take n (w .link)) reply) (seen e)) ∙ taken-view w (take n (w .link)) reply x fits))
       (pending-taken x xs (f .first) (next-inside (p .flight .records) (w .link) rest n x xs f) (f .behind))
 
-  pub read-kept : step w (call.read n reply) .outcome .number ≡ 0 → Pending g (viewOf (step w (call.read n reply) .next)) × (length (step w (call.read n reply) .next .link) < length (w .link))
+  pub read-kept : step w (call.read n reply) .outcome .number ≡ 0 → Kept (viewOf (step w (call.read n reply) .next))
   read-kept e = accepted-by e found
 
 pub read-pending : (g : Settings) (n : ℕ) (reply : List ℕ) → KeepsPending g (call.read n reply)

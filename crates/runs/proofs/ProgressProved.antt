@@ -21,8 +21,8 @@ use Rattle.runs.proofs.Walk.{blocksOnly}
 use Rattle.runs.proofs.Pending.{View, viewOf, Pending, Agree, KeepsPending}
 use Rattle.runs.proofs.PendingCalls.{memory-write-pending, packet-pending, take-pending, flush-pending, active-memory-write-pending, active-disk-write-pending, activation-pending, standby-tick-pending, primary-tick-pending, drain-pending}
 use Rattle.runs.proofs.PendingSent.{disk-write-pending, checkpoint-pending}
-use Rattle.runs.proofs.PendingRead.{read-number, read-pending}
-use Rattle.runs.proofs.PendingAck.{ack-number, ack-pending}
+use Rattle.runs.proofs.PendingRead.{read-number, read-kept, read-pending}
+use Rattle.runs.proofs.PendingAck.{ack-number, ack-kept, ack-pending}
 use Rattle.runs.proofs.FlushFrees.{waits}
 
 -- ---- start
@@ -90,7 +90,9 @@ module _ (g : Settings) where
       record {
         reads = λ on n reply. read-number g (b .world) (a .inv .holds .standbyKept) (a .pending) on n reply;
         waits = λ on n reply e. waits g b a on n reply e;
+        readUses = λ on n reply e. read-kept g (b .world) (a .inv .holds .standbyKept) (a .pending) on n reply e .2;
         acks = λ protects n. ack-number g b (a .inv) (a .pending) (ap not protects) n;
+        ackUses = λ protects n e. ack-kept g b (a .inv) (a .pending) (ap not protects) n e .2;
       }
 
 pub progress : Progress

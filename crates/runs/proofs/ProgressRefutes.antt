@@ -1,6 +1,6 @@
 -- Programs that only stop the two ends: demand 3 says nothing of them, and progress or catching up is false of each, by computing. Assumes nothing.
 use Prim.Native.Nat.{ℕ, _+_, _-_}
-use mathlib.Core.Path.{_≡_, refl, subst}
+use mathlib.Core.Path.{_≡_, refl, ap, subst}
 use mathlib.Core.Bool.{cond}
 use mathlib.Core.List.{List, [], _∷_, _++_}
 use native.Mathlib.Omega.{arith}
@@ -19,7 +19,7 @@ use Rattle.runs.specs.Progress.{numberOf, GoesOn, ProgressOf, CatchesUp,
 use Rattle.runs.proofs.Compute.{allSteps}
 use Rattle.runs.proofs.CutLaws.{noCut, counted-uncut}
 use Rattle.runs.proofs.Small.{small, processorOf, buffers, begun, small-starts, unit, zeros, sent, reads, stateCame, commitCame}
-use Rattle.runs.proofs.Wrong.{insteadOf, wrongly, accepts, leaving, primaryWith}
+use Rattle.runs.proofs.Wrong.{insteadOf, wrongly, accepts, leaving, primaryWith, travelling}
 use Rattle.runs.proofs.RuledOut.{refuses, sendsCommit, drainsZeros}
 use Rattle.runs.proofs.CatchUpProved.{leastDrive, least-enough}
 
@@ -66,6 +66,14 @@ never-goes-further p =
     let z : _≡_ {A = ℕ} 1 2 = catchesUp staysReading calls p refl refl (leastDrive small w) (least-enough small w) .received in
     omega arith
 
+-- ---- one that uses all bytes of the link with the first record
+abbrev usesLink : World → Call → Stepped → Stepped
+usesLink w c s = cond (accepts s) (leaving s (travelling (s .next) [] (s .next .acks))) s
+
+pub refutes-using-link : ProgressOf (wrongly (insteadOf (call.read 0 []) usesLink)) → ⊥
+unfolding allSteps
+refutes-using-link p = let z : _≡_ {A = ℕ} 0 158 = ap length (goesOn _ sent p .readUses refl 74 (zeros 8) refl) in omega arith
+
 -- ---- a drain that hands over zeros: the standby refuses them with 6
 pub refutes-drain-of-zeros : ProgressOf (wrongly (insteadOf (call.drain 0 []) drainsZeros)) → ⊥
 unfolding allSteps
@@ -103,6 +111,17 @@ never-acknowledges p =
     let w = after refusesAcks commitCame in
     let z : _≡_ {A = ℕ} 1 2 = catchesUp refusesAcks commitCame p refl refl (leastDrive small w) (least-enough small w) .acknowledged in
     omega arith
+
+-- ---- one that uses all ACKs with the first
+abbrev usesAcks : World → Call → Stepped → Stepped
+usesAcks w c s = cond (accepts s) (leaving s (travelling (s .next) (s .next .link) [])) s
+
+abbrev twoAcks : List Call
+twoAcks = commitCame ++ (call.checkpoint (processorOf 3) ∷ call.drain 380 (zeros 380) ∷ reads 2)
+
+pub refutes-using-acks : ProgressOf (wrongly (insteadOf (call.ack 0) usesAcks)) → ⊥
+unfolding allSteps
+refutes-using-acks p = let z : _≡_ {A = ℕ} 0 8 = ap length (goesOn _ twoAcks p .ackUses refl 8 refl) in omega arith
 
 -- ---- 18 with a packet free to go
 abbrev keepsPackets : Steps

@@ -1,5 +1,5 @@
 -- The two calls that read a record, on the records under way: cut short, or the next of them with the number that its tests give. Assumes nothing.
-use Prim.Native.Nat.{ℕ, _≤_}
+use Prim.Native.Nat.{ℕ, _+_, _≤_}
 use mathlib.Core.Path.{_≡_, refl, sym, ap, _∙_, subst}
 use mathlib.Core.Bool.{true, false}
 use mathlib.Core.List.{List, [], _∷_, _++_, map, append-nil}
@@ -10,13 +10,13 @@ use Rattle.records.specs.declared.Record.{Record}
 use Rattle.records.specs.declared.Record.the-variants as record-of
 use Rattle.records.specs.declared.Reader.{Reader}
 use Rattle.records.specs.declared.Reader.the-variants as reader
-use Rattle.records.specs.Kind.{unitOk}
+use Rattle.records.specs.Kind.{unitOk, bodyLength, recordLength, headerLength}
 use Rattle.records.specs.Number.{wrongMode}
 use Rattle.records.specs.Read.{readRecord, kindOf, cutShort}
 use Rattle.records.specs.Read as records
 use Rattle.records.specs.Message.{Message, messageKind, encode, encodeAll, readAs}
 use Rattle.records.specs.Message as message
-use Rattle.records.proofs.MessageLaws.{whole-message}
+use Rattle.records.proofs.MessageLaws.{length-message, read-message, whole-message}
 use Rattle.settings.specs.declared.Settings.{Settings}
 use Rattle.settings.proofs.RangeLaws.{shared-unit}
 use Rattle.rules.specs.declared.ReadLent.{ReadLent}
@@ -85,6 +85,15 @@ module _ (reader : Reader) (u : ℕ) (refuse : Record → ℕ) (pending : List M
 pub whole-given : (reader : Reader) (u : ℕ) → unitOk u ≡ true → (n : ℕ) (x : Message) (rest : List ℕ) → ReadableBy reader u x → length (encode x) ≤ n → wholeRecord (take n (encode x ++ rest)) ≡ true
 whole-given reader u ok n x rest f long =
     tells reader u (take n (encode x ++ rest)) .found (ap records.numberOf (whole-message reader u ok x (f .0) (f .1) n rest long) ∙ read-back u x .0) .0
+
+-- the record that bytes begin with is as long as it says
+pub size-is : (reader : Reader) (u : ℕ) → unitOk u ≡ true → (x : Message) (rest : List ℕ) → ReadableBy reader u x → headerLength + leAt 2 (encode x ++ rest) 0 ≡ length (encode x)
+unfolding recordLength
+size-is reader u ok x rest f =
+    let z = read-message reader u ok x (f .0) (f .1) rest in
+    let back = read-back u x in
+    let t = tells reader u (encode x ++ rest) .found (ap records.numberOf z ∙ back .0) in
+    ap (λ (n : ℕ). headerLength + n) (t .2 ∙ ap (bodyLength u) (t .1 ∙ ap kindOf z ∙ back .2)) ∙ sym (length-message u x (f .0))
 
 -- the next record lies in what is unread
 pub next-inside : (pending : List Message) (unread rest : List ℕ) (n : ℕ) (x : Message) (xs : List Message) → Next pending unread rest (take n unread) x xs → length (encode x) ≤ length unread

@@ -18,7 +18,7 @@ use Rattle.runs.proofs.Effects.{All, ReadableBy}
 
 -- the first bytes of a stream of records that begins with x
 module _ (p q a b : List ℕ) (same : p ++ q ≡ a ++ b) where
-  whole-first : length a ≤ length p → p ≡ a ++ drop (length a) p
+  pub whole-first : length a ≤ length p → p ≡ a ++ drop (length a) p
   whole-first h =
       sym (take-append-drop (length a) p)
       ∙ ap (λ (l : List ℕ). l ++ drop (length a) p) (sym (take-append-le (length a) p q h) ∙ ap (take (length a)) same ∙ take-append-seam a b)

@@ -1,4 +1,4 @@
--- The record test on bytes that it does not refuse: cut short exactly where they do not begin with a whole record, else of the kind that they say. Assumes nothing.
+-- The record test on bytes that it does not refuse: cut short exactly where they do not begin with a whole record, else of the kind that they say, with that kind's length. Assumes nothing.
 use Prim.Native.Nat.{ℕ, _+_}
 use mathlib.Core.Path.{_≡_, refl, ap}
 use mathlib.Core.Bool.{Bool, true, false, cond, _&&_}
@@ -16,32 +16,33 @@ use Rattle.records.specs.Read.{fieldsOf, readRecord, numberOf, kindOf, cutShort
 use Rattle.records.proofs.ReadLaws.{for-test, fields-cases}
 use Rattle.runs.specs.Progress.{wholeRecord}
 
--- what an answer says of the bytes: `whole` is whether they begin with a whole record, and `kind` its kind
-pub record Tells (whole : Bool) (kind : ℕ) (r : Record) : Type 0 where
+-- what an answer says of the bytes: `whole` is whether they begin with a whole record, `kind` its kind, `size` its body's length as it says and `body` as its kind has it
+pub record Tells (whole : Bool) (kind size body : ℕ) (r : Record) : Type 0 where
   pub short : numberOf r ≡ cutShort → whole ≡ false
-  pub found : numberOf r ≡ 0 → (whole ≡ true) × (kind ≡ kindOf r)
+  pub found : numberOf r ≡ 0 → (whole ≡ true) × (kind ≡ kindOf r) × (size ≡ body)
 
 module _ (reader : Reader) (u : ℕ) (s : List ℕ) where
   -- the tests, in their order: b′ is the body's by the length that the record says
-  by-tests : (f : Record) (v h i l b b′ : Bool) → (l ≡ true → b′ ≡ b) → (i ≡ true → (numberOf f ≡ 0) × (leAt 2 s 2 ≡ kindOf f))
-      → Tells (h && b′) (leAt 2 s 2) (cond v (cond h (cond i (cond l (cond b f Short) (Refused 7)) (Refused 6)) Short) (Refused 1))
+  by-tests : (f : Record) (v h i l b b′ : Bool) → (l ≡ true → (b′ ≡ b) × (leAt 2 s 0 ≡ bodyLength u (leAt 2 s 2))) → (i ≡ true → (numberOf f ≡ 0) × (leAt 2 s 2 ≡ kindOf f))
+      → Tells (h && b′) (leAt 2 s 2) (leAt 2 s 0) (bodyLength u (leAt 2 s 2)) (cond v (cond h (cond i (cond l (cond b f Short) (Refused 7)) (Refused 6)) Short) (Refused 1))
   by-tests f false h i l b b′ e t = record { short = λ z. absurd (omega arith); found = λ z. absurd (omega arith) }
   by-tests f true false i l b b′ e t = record { short = λ z. refl; found = λ z. absurd (omega arith) }
   by-tests f true true false l b b′ e t = record { short = λ z. absurd (omega arith); found = λ z. absurd (omega arith) }
   by-tests f true true true false b b′ e t = record { short = λ z. absurd (omega arith); found = λ z. absurd (omega arith) }
-  by-tests f true true true true false b′ e t = record { short = λ z. e refl; found = λ z. absurd (omega arith) }
-  by-tests f true true true true true b′ e t = record { short = λ z. absurd (omega (arith, t refl .0)); found = λ z. (e refl, t refl .1) }
+  by-tests f true true true true false b′ e t = record { short = λ z. e refl .0; found = λ z. absurd (omega arith) }
+  by-tests f true true true true true b′ e t = record { short = λ z. absurd (omega (arith, t refl .0)); found = λ z. (e refl .0, t refl .1, e refl .1) }
 
   fields-tell : isFor reader (leAt 2 s 2) ≡ true → (numberOf (fieldsOf u (leAt 2 s 2) s) ≡ 0) × (leAt 2 s 2 ≡ kindOf (fieldsOf u (leAt 2 s 2) s))
   fields-tell k =
       let kind = leAt 2 s 2 in
       fields-cases (λ (r : Record). (numberOf r ≡ 0) × (leAt 2 s 2 ≡ kindOf r)) u kind s (for-test reader kind k) (λ e. (refl, e)) (λ e. (refl, e)) (λ e. (refl, e)) (λ e. (refl, e)) (λ e. (refl, e))
 
-  body-is : eqb (leAt 2 s 0) (bodyLength u (leAt 2 s 2)) ≡ true → leb (headerLength + leAt 2 s 0) (length s) ≡ leb (recordLength u (leAt 2 s 2)) (length s)
+  body-is : eqb (leAt 2 s 0) (bodyLength u (leAt 2 s 2)) ≡ true
+      → (leb (headerLength + leAt 2 s 0) (length s) ≡ leb (recordLength u (leAt 2 s 2)) (length s)) × (leAt 2 s 0 ≡ bodyLength u (leAt 2 s 2))
   unfolding recordLength
-  body-is e = ap (λ (n : ℕ). leb (headerLength + n) (length s)) (eqb-true (leAt 2 s 0) (bodyLength u (leAt 2 s 2)) e)
+  body-is e = let same = eqb-true (leAt 2 s 0) (bodyLength u (leAt 2 s 2)) e in (ap (λ (n : ℕ). leb (headerLength + n) (length s)) same, same)
 
-  pub tells : Tells (wholeRecord s) (leAt 2 s 2) (readRecord reader u s)
+  pub tells : Tells (wholeRecord s) (leAt 2 s 2) (leAt 2 s 0) (bodyLength u (leAt 2 s 2)) (readRecord reader u s)
   unfolding readRecord
   tells =
       let k = leAt 2 s 2 in

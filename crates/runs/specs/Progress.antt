@@ -1,12 +1,12 @@
 -- Progress: the two ends never disagree on what was sent. Demand 3 alone is true of ends that do: the standby would refuse for ever, and nothing would be
 -- lost. After every list of calls the standby accepts the primary's next record, and the primary the next ACK, once it is given whole; and with nothing
 -- more written the two catch up. Assumes nothing.
-use Prim.Native.Nat.{ℕ, zero, suc, _+_, _-_, _≤_, _<_, min}
+use Prim.Native.Nat.{ℕ, zero, suc, _+_, _-_, _*_, _≤_, _<_, min}
 use mathlib.Core.Path.{_≡_}
 use mathlib.Core.Bool.{Bool, true, false, _&&_, _||_, not}
 use mathlib.Core.List.{List, [], _∷_, _++_}
 use lib.Dec.{leb, ltb, eqb}
-use lib.ListN.{length, take, replicate}
+use lib.ListN.{length, take, drop, replicate}
 use Rattle.lists.specs.LittleEndian.{leAt}
 use Rattle.lists.specs.Refusal.{Test, test, refusal}
 use Rattle.records.specs.Kind.{PAGE, BLOCK, COMMIT, ACK, headerLength, recordLength}
@@ -31,6 +31,10 @@ numberOf κ w c = κ .real w c .outcome .number
 -- it is whole: its header is there, and as many bytes more as that says
 abbrev pub wholeRecord : List ℕ → Bool
 wholeRecord bytes = leb headerLength (length bytes) && leb (headerLength + leAt 2 bytes 0) (length bytes)
+
+-- the bytes behind it
+abbrev pub withoutFirst : List ℕ → List ℕ
+withoutFirst bytes = drop (headerLength + leAt 2 bytes 0) bytes
 
 abbrev pub isOfKind : ℕ → List ℕ → Bool
 isOfKind kind bytes = eqb (leAt 2 bytes 2) kind
@@ -63,7 +67,11 @@ pub record WaitsForFlush (κ : Steps) (g : Settings) (w : World) (n : ℕ) (repl
 pub record GoesOn (κ : Steps) (g : Settings) (w : World) : Type 0 where
   pub reads : isReceiving (w .standby .state .mode) ≡ true → (n : ℕ) (reply : List ℕ) → numberOf κ w (call.read n reply) ≡ readNumber g w n reply
   pub waits : isReceiving (w .standby .state .mode) ≡ true → (n : ℕ) (reply : List ℕ) → numberOf κ w (call.read n reply) ≡ slotsFull → WaitsForFlush κ g w n reply
+  -- an accepted one uses exactly the record
+  pub readUses : isReceiving (w .standby .state .mode) ≡ true → (n : ℕ) (reply : List ℕ) → numberOf κ w (call.read n reply) ≡ 0
+      → κ .real w (call.read n reply) .next .link ≡ withoutFirst (w .link)
   pub acks : w .primary .state .alone ≡ false → (n : ℕ) → numberOf κ w (call.ack n) ≡ ackNumber w n
+  pub ackUses : w .primary .state .alone ≡ false → (n : ℕ) → numberOf κ w (call.ack n) ≡ 0 → κ .real w (call.ack n) .next .acks ≡ withoutFirst (w .acks)
 
 -- after every accepted start and every list of calls, wherever the pair is cut
 abbrev pub ProgressOf : Steps → Type 0
@@ -98,8 +106,9 @@ driveCalls d = call.drain (d .drained) (d .destination) ∷ (rounds (d .turns) (
 pub record Enough (g : Settings) (w : World) (d : Drive) : Type 0 where
   -- the drain is of all that waits
   pub drain : w .primary .state .waiting ≤ min (d .drained) (length (d .destination))
-  -- there are as many rounds as bytes to read; each flushes a block, is given a whole record, and has room for the ACK
-  pub turns : length (w .link) + w .primary .state .waiting ≤ d .turns
+  -- more than enough rounds: one for each record to read if all were COMMITs, the shortest. Each flush has a budget of
+  -- one or more, each read is given a whole record and has room for the ACK
+  pub turns : length (w .link) + w .primary .state .waiting ≤ recordLength (g .u) COMMIT * d .turns
   pub flush : 0 < d .budget
   pub read : recordLength (g .u) PAGE ≤ d .given
   pub room : recordLength (g .u) ACK ≤ length (d .reply)
