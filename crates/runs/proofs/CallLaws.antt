@@ -101,8 +101,8 @@ module _ (P : Standby → Type 0)
 pub stays-in-range : (w : World) (c : Call) → StaysInRange w c
 stays-in-range w c =
     record {
-      primary = λ packets ok. primary-kept w c (record { inRange = ok; packets = packets }) .inRange;
-      standby = λ numbers ok. standby-kept StandbyInRange read-in-range flushed-in-range ticked-in-range activated-in-range w c (record { inRange = ok; numbers = numbers }) .inRange;
+      primary = primary-kept w c;
+      standby = standby-kept StandbyInRange read-in-range flushed-in-range ticked-in-range activated-in-range w c;
     }
 
 -- why a PAGE below the count of pages is refused: this standby has its M pages and the next page 0, in range though no
