@@ -1,4 +1,4 @@
--- Catching up is proved: a drive that is enough, from its drain to the takes that it makes possible. Assumes nothing.
+-- Catching up is proved: an exchange that is enough, from its drain to the takes that it makes possible. Assumes nothing.
 use Prim.Native.Nat.{ℕ, _+_, _-_, _/_}
 use mathlib.Core.Path.{_≡_, refl, sym, ap, _∙_, subst}
 use mathlib.Core.Bool.{true, false}
@@ -13,16 +13,16 @@ use Rattle.rules.specs.World.{World, PrimaryEnd}
 use Rattle.rules.specs.World as call
 use Rattle.runs.specs.Run.{Both, steps, runCall, run, startBoth}
 use Rattle.runs.specs.Cut.{countedCalls}
-use Rattle.runs.specs.Progress.{rounds, Drive, Enough, notTaken, CaughtUp, CatchesUp, CatchUp}
+use Rattle.runs.specs.Progress.{rounds, Exchange, Enough, notTaken, CaughtUp, CatchesUp, CatchUp}
 use Rattle.runs.proofs.PlainLaws.{run-append}
 use Rattle.runs.proofs.Pending.{Agree}
 use Rattle.runs.proofs.ProgressProved.{call-agree, run-agree, start-agree}
 use Rattle.runs.proofs.TakesLaws.{drain-as-many, rounds-as-many, acks-as-many, takes-made}
-use Rattle.runs.proofs.Driven.{Driven, received-is, rounds-law, acks-law}
-use Rattle.runs.proofs.DriveLaws.{Still, drain-still, drain-link, drain-acknowledged}
+use Rattle.runs.proofs.Rounds.{Drained, received-is, rounds-law, acks-law}
+use Rattle.runs.proofs.ExchangeLaws.{Still, drain-still, drain-link, drain-acknowledged}
 
--- ---- the whole drive: drained, read, acknowledged
-module _ (g : Settings) (b : Both) (a : Agree g b) (alone : b .world .primary .state .alone ≡ false) (receives : isReceiving (b .world .standby .state .mode) ≡ true) (d : Drive) (e : Enough g (b .world) d) where
+-- ---- the whole exchange: drained, read, acknowledged
+module _ (g : Settings) (b : Both) (a : Agree g b) (alone : b .world .primary .state .alone ≡ false) (receives : isReceiving (b .world .standby .state .mode) ≡ true) (d : Exchange) (e : Enough g (b .world) d) where
   abbrev drained : Both
   drained = runCall steps (g .u) b (call.drain (d .drained) (d .destination))
 
@@ -37,16 +37,16 @@ module _ (g : Settings) (b : Both) (a : Agree g b) (alone : b .world .primary .s
       let w = b .world in
       let p = w .primary .state in
       let s : Still = record { out = []; alone = p .alone; receiving = isReceiving (w .standby .state .mode); epoch = p .epoch } in
-      let first : Driven g s refl alone receives drained
+      let first : Drained g s refl alone receives drained
       = record { agree = call-agree g (call.drain (d .drained) (d .destination)) b a; still = drain-still g b a (d .drained) (d .destination) (e .drain) } in
       let few = drain-link g b a (d .drained) (d .destination) (e .drain) in
       let r = rounds-law g s refl alone receives (d .budget) (d .given) (d .reply) (e .flush) (e .read) (e .room) (d .turns) drained first (omega (arith, e .turns)) in
       let same = ap (λ (x : PrimaryEnd). x .state .acknowledged) (r .primary) ∙ drain-acknowledged g b a (d .drained) (d .destination) in
-      let k = acks-law g s refl alone receives (d .ackGiven) (e .ack) (d .ackTurns) read (r .driven) (r .none) (omega (arith, e .ackTurns)) in
-      let epoch = ap (λ (x : Still). x .epoch) (k .driven .still) in
-      let v = k .driven .agree .inv .holds in
+      let k = acks-law g s refl alone receives (d .ackGiven) (e .ack) (d .ackTurns) read (r .drained) (r .none) (omega (arith, e .ackTurns)) in
+      let epoch = ap (λ (x : Still). x .epoch) (k .drained .still) in
+      let v = k .drained .agree .inv .holds in
       let count = v .history .count in
-      let received = received-is g s refl alone receives acknowledged (k .driven) (k .none) in
+      let received = received-is g s refl alone receives acknowledged (k .drained) (k .none) in
       let left : notTaken (acknowledged .plain) ≡ notTaken (b .plain)
       = acks-as-many (g .u) (d .ackTurns) (d .ackGiven) read ∙ rounds-as-many (g .u) (d .turns) (d .budget) (d .given) (d .reply) drained ∙ drain-as-many (g .u) b (d .drained) (d .destination) in
       record {
@@ -54,7 +54,7 @@ module _ (g : Settings) (b : Both) (a : Agree g b) (alone : b .world .primary .s
         a = omega (arith, k .last, v .detector .acknowledgedIs, epoch, count);
         received = received;
         acknowledged = k .last;
-        takes = λ destination room. takes-made g destination room (notTaken (b .plain)) acknowledged (k .driven .agree .inv) (k .last ∙ sym epoch) left;
+        takes = λ destination room. takes-made g destination room (notTaken (b .plain)) acknowledged (k .drained .agree .inv) (k .last ∙ sym epoch) left;
       }
 
 -- from any pair with both invariants
@@ -70,9 +70,9 @@ catch-up g processor buffers e calls cut =
     let cs = countedCalls cut calls in
     catches-up g (run steps (g .u) b cs) (run-agree g cs b (start-agree g processor buffers e))
 
--- ---- there is always a drive that is enough, the least
-abbrev pub leastDrive : Settings → World → Drive
-leastDrive g w =
+-- ---- there is always an exchange that is enough, the least
+abbrev pub leastExchange : Settings → World → Exchange
+leastExchange g w =
     let p = w .primary .state in
     record {
       drained = p .waiting;
@@ -85,7 +85,7 @@ leastDrive g w =
       ackGiven = recordLength (g .u) ACK;
     }
 
-pub least-enough : (g : Settings) (w : World) → Enough g w (leastDrive g w)
+pub least-enough : (g : Settings) (w : World) → Enough g w (leastExchange g w)
 unfolding recordLength bodyLength
 least-enough g w =
     record {

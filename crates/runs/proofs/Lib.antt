@@ -60,7 +60,7 @@ pub mod FlushFrees
 pub mod ProgressProved
 pub mod ProgressSays
 pub mod TakesLaws
-pub mod DriveLaws
-pub mod Driven
+pub mod ExchangeLaws
+pub mod Rounds
 pub mod CatchUpProved
 pub mod ProgressRefutes

@@ -21,7 +21,7 @@ use Rattle.runs.proofs.CutLaws.{noCut, counted-uncut}
 use Rattle.runs.proofs.Small.{small, processorOf, buffers, begun, small-starts, unit, zeros, sent, reads, stateCame, commitCame}
 use Rattle.runs.proofs.Wrong.{insteadOf, wrongly, accepts, leaving, primaryWith, travelling}
 use Rattle.runs.proofs.RuledOut.{refuses, sendsCommit, drainsZeros}
-use Rattle.runs.proofs.CatchUpProved.{leastDrive, least-enough}
+use Rattle.runs.proofs.CatchUpProved.{leastExchange, least-enough}
 
 -- ---- what is claimed after a list of calls with no cut
 module _ (κ : Steps) (calls : List Call) where
@@ -48,7 +48,7 @@ unfolding allSteps
 never-receives p =
     let calls = call.checkpoint (processorOf 2) ∷ [] in
     let w = after refusesRecords calls in
-    let z : _≡_ {A = ℕ} 1 2 = catchesUp refusesRecords calls p refl refl (leastDrive small w) (least-enough small w) .received in
+    let z : _≡_ {A = ℕ} 1 2 = catchesUp refusesRecords calls p refl refl (leastExchange small w) (least-enough small w) .received in
     omega arith
 
 -- ---- one that gives the right number and stays as it was: it accepts the same STATE for ever
@@ -63,7 +63,7 @@ unfolding allSteps
 never-goes-further p =
     let calls = call.checkpoint (processorOf 2) ∷ [] in
     let w = after staysReading calls in
-    let z : _≡_ {A = ℕ} 1 2 = catchesUp staysReading calls p refl refl (leastDrive small w) (least-enough small w) .received in
+    let z : _≡_ {A = ℕ} 1 2 = catchesUp staysReading calls p refl refl (leastExchange small w) (least-enough small w) .received in
     omega arith
 
 -- ---- one that uses all bytes of the link with the first record
@@ -109,7 +109,7 @@ pub never-acknowledges : CatchUpOf refusesAcks → ⊥
 unfolding allSteps
 never-acknowledges p =
     let w = after refusesAcks commitCame in
-    let z : _≡_ {A = ℕ} 1 2 = catchesUp refusesAcks commitCame p refl refl (leastDrive small w) (least-enough small w) .acknowledged in
+    let z : _≡_ {A = ℕ} 1 2 = catchesUp refusesAcks commitCame p refl refl (leastExchange small w) (least-enough small w) .acknowledged in
     omega arith
 
 -- ---- one that uses all ACKs with the first
@@ -131,7 +131,7 @@ pub never-hands-out : CatchUpOf keepsPackets → ⊥
 unfolding allSteps
 never-hands-out p =
     let w = after keepsPackets commitCame in
-    let z : _≡_ {A = ℕ} 18 0 = catchesUp keepsPackets commitCame p refl refl (leastDrive small w) (least-enough small w) .takes (zeros 1514) (lit≤ tt) .0 in
+    let z : _≡_ {A = ℕ} 18 0 = catchesUp keepsPackets commitCame p refl refl (leastExchange small w) (least-enough small w) .takes (zeros 1514) (lit≤ tt) .0 in
     omega arith
 
 -- ---- a primary that accepts each packet and holds none
@@ -142,7 +142,7 @@ pub never-holds : CatchUpOf holdsNone → ⊥
 unfolding allSteps
 never-holds p =
     let w = after holdsNone commitCame in
-    let z : _≡_ {A = ℕ} 18 0 = catchesUp holdsNone commitCame p refl refl (leastDrive small w) (least-enough small w) .takes (zeros 1514) (lit≤ tt) .0 in
+    let z : _≡_ {A = ℕ} 18 0 = catchesUp holdsNone commitCame p refl refl (leastExchange small w) (least-enough small w) .takes (zeros 1514) (lit≤ tt) .0 in
     omega arith
 
 -- ---- a checkpoint that is accepted and does nothing: its epoch stays open for ever
@@ -154,7 +154,7 @@ unfolding allSteps
 never-closes p =
     let calls = call.checkpoint (processorOf 2) ∷ [] in
     let w = after closesNone calls in
-    let z : _≡_ {A = ℕ} 1 2 = catchesUp closesNone calls p refl refl (leastDrive small w) (least-enough small w) .r in
+    let z : _≡_ {A = ℕ} 1 2 = catchesUp closesNone calls p refl refl (leastExchange small w) (least-enough small w) .r in
     omega arith
 
 -- ---- what a read may be refused for does come: a COMMIT without room for its ACK, where no other record asks for any; less than a whole record

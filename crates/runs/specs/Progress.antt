@@ -1,6 +1,7 @@
--- Progress: the two ends never disagree on what was sent. Demand 3 alone is true of ends that do: the standby would refuse for ever, and nothing would be
--- lost. After every list of calls the standby accepts the primary's next record, and the primary the next ACK, once it is given whole; and with nothing
--- more written the two catch up. Assumes nothing.
+-- Progress: the two ends never disagree on what was sent. Demand 3 alone is true of ends that do: the standby would
+-- refuse for ever, and nothing would be lost. After every list of calls the standby accepts the primary's next record,
+-- and the primary the next ACK, once it is given whole; and with nothing more written the two catch up. Assumes
+-- nothing.
 use Prim.Native.Nat.{ℕ, zero, suc, _+_, _-_, _*_, _≤_, _<_, min}
 use mathlib.Core.Path.{_≡_}
 use mathlib.Core.Bool.{Bool, true, false, _&&_, _||_, not}
@@ -41,8 +42,9 @@ isOfKind kind bytes = eqb (leAt 2 bytes 2) kind
 
 -- ---- the number of a call that reads one
 
--- while receiving, a read is refused for three things only: less than the whole next record, which is cut short; a COMMIT with a reply under 8 bytes, 5;
--- a BLOCK with all S slots staged, 17. So never with 2, 6, 7, 8, 9, 10 or 14
+-- while receiving, a read answers other than 0 for three things only: less than the whole next record, which is cut
+-- short; a COMMIT with a reply under 8 bytes, 5; a BLOCK with all S slots staged, 17. So it never answers 2, 6 to 10 or
+-- 14
 abbrev pub readTests : Settings → World → ℕ → List ℕ → List Test
 readTests g w n reply =
     let bytes = take n (w .link) in
@@ -54,24 +56,30 @@ readTests g w n reply =
 abbrev pub readNumber : Settings → World → ℕ → List ℕ → ℕ
 readNumber g w n reply = refusal (readTests g w n reply)
 
--- while protected, an ACK call for less than a whole ACK only. So never with 6, 7 or 11
+-- while protected, an ACK call answers other than 0 for less than a whole ACK only, which is cut short. So it never
+-- answers 6, 7 or 11
 abbrev pub ackNumber : World → ℕ → ℕ
 ackNumber w n = refusal (test cutShort (wholeRecord (take n (w .acks))) ∷ [])
 
--- what 17 waits for: all S slots are staged and one at least is due, and any flush of one or more lets the same read be accepted
+-- what 17 waits for: all S slots are staged and one at least is due, and any flush of one or more lets the same read be
+-- accepted
 pub record WaitsForFlush (κ : Steps) (g : Settings) (w : World) (n : ℕ) (reply : List ℕ) : Type 0 where
   pub staged : w .standby .state .slots .staged ≡ g .s
   pub due : 0 < w .standby .state .slots .due
   pub flushed : (k : ℕ) → 0 < k → AllAccepted κ w (call.flush k ∷ call.read n reply ∷ [])
 
 pub record GoesOn (κ : Steps) (g : Settings) (w : World) : Type 0 where
-  pub reads : isReceiving (w .standby .state .mode) ≡ true → (n : ℕ) (reply : List ℕ) → numberOf κ w (call.read n reply) ≡ readNumber g w n reply
-  pub waits : isReceiving (w .standby .state .mode) ≡ true → (n : ℕ) (reply : List ℕ) → numberOf κ w (call.read n reply) ≡ slotsFull → WaitsForFlush κ g w n reply
-  -- an accepted one uses exactly the record
-  pub readUses : isReceiving (w .standby .state .mode) ≡ true → (n : ℕ) (reply : List ℕ) → numberOf κ w (call.read n reply) ≡ 0
-      → κ .real w (call.read n reply) .next .link ≡ withoutFirst (w .link)
+  pub reads : isReceiving (w .standby .state .mode) ≡ true → (n : ℕ) (reply : List ℕ)
+      → numberOf κ w (call.read n reply) ≡ readNumber g w n reply
+  pub waits : isReceiving (w .standby .state .mode) ≡ true → (n : ℕ) (reply : List ℕ)
+      → numberOf κ w (call.read n reply) ≡ slotsFull → WaitsForFlush κ g w n reply
+  -- an accepted read uses exactly the record
+  pub readUses : isReceiving (w .standby .state .mode) ≡ true → (n : ℕ) (reply : List ℕ)
+      → numberOf κ w (call.read n reply) ≡ 0 → κ .real w (call.read n reply) .next .link ≡ withoutFirst (w .link)
   pub acks : w .primary .state .alone ≡ false → (n : ℕ) → numberOf κ w (call.ack n) ≡ ackNumber w n
-  pub ackUses : w .primary .state .alone ≡ false → (n : ℕ) → numberOf κ w (call.ack n) ≡ 0 → κ .real w (call.ack n) .next .acks ≡ withoutFirst (w .acks)
+  -- and so does an accepted ACK call
+  pub ackUses : w .primary .state .alone ≡ false → (n : ℕ)
+      → numberOf κ w (call.ack n) ≡ 0 → κ .real w (call.ack n) .next .acks ≡ withoutFirst (w .acks)
 
 -- after every accepted start and every list of calls, wherever the pair is cut
 abbrev pub ProgressOf : Steps → Type 0
@@ -82,11 +90,13 @@ ProgressOf κ =
 abbrev pub Progress : Type 0
 Progress = ProgressOf steps
 
--- ---- catching up: one drain of all that waits, rounds of a flush and a read, and ACK calls. The arguments of these calls
-pub record Drive : Type 0 where
+-- ---- catching up
+
+-- an exchange: one drain, rounds of a flush and a read, and ACK calls. These are the arguments of its calls
+pub record Exchange : Type 0 where
   pub drained : ℕ
   pub destination : List ℕ
-  -- how many rounds; in each the flush's budget, the bytes given to the read, and its reply
+  -- how many rounds; in each the same: the flush's budget, the bytes given to the read, and its reply
   pub turns : ℕ
   pub budget : ℕ
   pub given : ℕ
@@ -99,47 +109,49 @@ abbrev pub rounds : ℕ → ℕ → ℕ → List ℕ → List Call
 rounds zero budget given reply = []
 rounds (suc k) budget given reply = call.flush budget ∷ (call.read given reply ∷ rounds k budget given reply)
 
-abbrev pub driveCalls : Drive → List Call
-driveCalls d = call.drain (d .drained) (d .destination) ∷ (rounds (d .turns) (d .budget) (d .given) (d .reply) ++ replicate (d .ackTurns) (call.ack (d .ackGiven)))
+abbrev pub exchangeCalls : Exchange → List Call
+exchangeCalls x =
+    call.drain (x .drained) (x .destination)
+    ∷ (rounds (x .turns) (x .budget) (x .given) (x .reply) ++ replicate (x .ackTurns) (call.ack (x .ackGiven)))
 
--- they may be any that are enough at a world
-pub record Enough (g : Settings) (w : World) (d : Drive) : Type 0 where
+-- the arguments may be any that are enough at a world
+pub record Enough (g : Settings) (w : World) (x : Exchange) : Type 0 where
   -- the drain is of all that waits
-  pub drain : w .primary .state .waiting ≤ min (d .drained) (length (d .destination))
+  pub drain : w .primary .state .waiting ≤ min (x .drained) (length (x .destination))
   -- more than enough rounds: one for each record to read if all were COMMITs, the shortest. Each flush has a budget of
   -- one or more, each read is given a whole record and has room for the ACK
-  pub turns : length (w .link) + w .primary .state .waiting ≤ recordLength (g .u) COMMIT * d .turns
-  pub flush : 0 < d .budget
-  pub read : recordLength (g .u) PAGE ≤ d .given
-  pub room : recordLength (g .u) ACK ≤ length (d .reply)
+  pub turns : length (w .link) + w .primary .state .waiting ≤ recordLength (g .u) COMMIT * x .turns
+  pub flush : 0 < x .budget
+  pub read : recordLength (g .u) PAGE ≤ x .given
+  pub room : recordLength (g .u) ACK ≤ length (x .reply)
   -- there are as many ACK calls as closed epochs are not acknowledged; each is given a whole ACK
-  pub ackTurns : w .primary .state .epoch ≤ w .primary .state .acknowledged + 1 + d .ackTurns
-  pub ack : recordLength (g .u) ACK ≤ d .ackGiven
+  pub ackTurns : w .primary .state .epoch ≤ w .primary .state .acknowledged + 1 + x .ackTurns
+  pub ack : recordLength (g .u) ACK ≤ x .ackGiven
 
--- the last checkpoint of the plain pair, and how many of its packets have not left
+-- the last checkpoint of the plain pair
 abbrev pub lastCheckpoint : Plain → Checkpoint
 lastCheckpoint p = checkpointAt p (length (p .checkpoints) - 1)
 
+-- how many of its packets have not left
 abbrev pub notTaken : Plain → ℕ
 notTaken p = length (lastCheckpoint p .packets) - p .taken
 
--- the last checkpoint, which is the epoch before the open one, is received and acknowledged; so its packets that have
--- not left can then all be taken
+-- the last checkpoint is received and acknowledged; so its packets that had not left can then all be taken
 pub record CaughtUp (κ : Steps) (before after : Both) : Type 0 where
   -- by the plain pair
   pub r : after .plain .r + 1 ≡ length (after .plain .checkpoints)
   pub a : after .plain .a + 1 ≡ length (after .plain .checkpoints)
-  -- by the real ends
+  -- by the real ends: it is the epoch before the open one
   pub received : after .world .standby .state .received + 1 ≡ before .world .primary .state .epoch
   pub acknowledged : after .world .primary .state .acknowledged + 1 ≡ before .world .primary .state .epoch
   pub takes : (destination : List ℕ) → mostPacketBytes ≤ length destination
       → AllAccepted κ (after .world) (replicate (notTaken (before .plain)) (call.take destination))
 
--- where the primary is protected and the standby receives, every drive that is enough leads there
+-- where the primary is protected and the standby receives, every exchange that is enough leads there
 abbrev pub CatchesUp : Steps → Settings → Both → Type 0
 CatchesUp κ g b =
     b .world .primary .state .alone ≡ false → isReceiving (b .world .standby .state .mode) ≡ true
-    → (d : Drive) → Enough g (b .world) d → CaughtUp κ b (run κ (g .u) b (driveCalls d))
+    → (x : Exchange) → Enough g (b .world) x → CaughtUp κ b (run κ (g .u) b (exchangeCalls x))
 
 -- after every accepted start and every list of calls, wherever the pair is cut
 abbrev pub CatchUpOf : Steps → Type 0

@@ -1,4 +1,4 @@
--- What the calls of a drive leave as it was, one by one. Assumes nothing.
+-- What the calls of an exchange leave as it was, one by one. Assumes nothing.
 use Prim.Native.Nat.{ℕ, _+_, _-_, _≤_, min}
 use mathlib.Core.Path.{_≡_, refl, ap, _∙_}
 use mathlib.Core.Bool.{Bool}

@@ -1,4 +1,5 @@
--- A drive from its drain on: each round of a flush and a read takes a record off the link, and each ACK call raises the acknowledged epoch. Assumes nothing.
+-- An exchange from its drain on: each round of a flush and a read takes a record off the link, and each ACK call raises
+-- the acknowledged epoch. Assumes nothing.
 use Prim.Native.Nat.{ℕ, zero, suc, _+_, _-_, _*_, _≤_, _<_}
 use mathlib.Core.Path.{_≡_, refl, sym, ap, ap₂, _∙_}
 use mathlib.Core.Logic.{⊎-elim}
@@ -33,7 +34,7 @@ use Rattle.runs.proofs.PendingRead.{least-bytes, read-kept}
 use Rattle.runs.proofs.PendingAck.{oldest-made, ack-kept}
 use Rattle.runs.proofs.FlushFrees.{same-view, flush-agree, read-flushed}
 use Rattle.runs.proofs.ProgressProved.{call-agree}
-use Rattle.runs.proofs.DriveLaws.{Still, stillOf, read-still, read-primary, read-less, ack-still, ack-link, flush-still, flush-primary}
+use Rattle.runs.proofs.ExchangeLaws.{Still, stillOf, read-still, read-primary, read-less, ack-still, ack-link, flush-still, flush-primary}
 
 -- no record is longer than a PAGE
 record-few : (u : ℕ) (x : Message) → 64 ≤ u → Readable u x → length (encode x) ≤ recordLength u PAGE
@@ -50,15 +51,15 @@ none-pending u (x ∷ xs) low f h = absurd (omega (arith, length-append (encode 
 
 -- ---- from the drain on: nothing waits, both ends take part, the open epoch stays
 module _ (g : Settings) (s : Still) (nothing : s .out ≡ []) (protects : s .alone ≡ false) (receives : s .receiving ≡ true) where
-  pub record Driven (b : Both) : Type 0 where
+  pub record Drained (b : Both) : Type 0 where
     pub agree : Agree g b
     pub still : stillOf (b .world) ≡ s
 
-  on : (b : Both) → Driven b → isReceiving (b .world .standby .state .mode) ≡ true
+  on : (b : Both) → Drained b → isReceiving (b .world .standby .state .mode) ≡ true
   on b d = ap (λ (x : Still). x .receiving) (d .still) ∙ receives
 
   -- the link is what is pending
-  link-is : (b : Both) (d : Driven b) → b .world .link ≡ encodeAll (d .agree .pending .flight .records)
+  link-is : (b : Both) (d : Drained b) → b .world .link ≡ encodeAll (d .agree .pending .flight .records)
   link-is b d =
       let p = d .agree .pending in
       let out = ap (λ (x : Still). x .out) (d .still) ∙ nothing in
@@ -66,7 +67,7 @@ module _ (g : Settings) (s : Still) (nothing : s .out ≡ []) (protects : s .alo
       sym (append-nil (b .world .link)) ∙ ap₂ (λ (x y : List ℕ). b .world .link ++ (x ++ y)) (sym out) (sym (p .flight .lossless alone)) ∙ p .flight .bytes
 
   -- nothing is on the link: the last closed epoch is received
-  pub received-is : (b : Both) → Driven b → length (b .world .link) ≤ 0 → b .world .standby .state .received + 1 ≡ s .epoch
+  pub received-is : (b : Both) → Drained b → length (b .world .link) ≤ 0 → b .world .standby .state .received + 1 ≡ s .epoch
   received-is b d l =
       let p = d .agree .pending in
       let none = none-pending (g .u) (p .flight .records) (standby-settings g (b .world .standby) (d .agree .inv .holds .standbyKept) .shared .u-low) (p .flight .readable) (omega (arith, ap length (link-is b d))) in
@@ -82,7 +83,7 @@ module _ (g : Settings) (s : Still) (nothing : s .out ≡ []) (protects : s .alo
     roundOf b = runCall steps (g .u) (flushed b) (call.read given reply)
 
     -- a round leaves a record less on the link, or none was there
-    shorter : (b : Both) (d : Driven b) (ms : List Message) → d .agree .pending .flight .records ≡ ms → length (roundOf b .world .link) ≤ length (b .world .link) - recordLength (g .u) COMMIT
+    shorter : (b : Both) (d : Drained b) (ms : List Message) → d .agree .pending .flight .records ≡ ms → length (roundOf b .world .link) ≤ length (b .world .link) - recordLength (g .u) COMMIT
     shorter b d [] e =
         let link = ap (λ (v : View). v .link) (same-view g b (d .agree) budget) in
         omega (arith, read-less (flushed b .world) given reply, ap length link, ap length (link-is b d ∙ ap encodeAll e))
@@ -99,39 +100,39 @@ module _ (g : Settings) (s : Still) (nothing : s .out ≡ []) (protects : s .alo
         let on′ = ap (λ (x : Still). x .receiving) (flush-still g b a budget) ∙ on b d in
         omega (arith, read-kept g (flushed b .world) (f .inv .holds .standbyKept) (f .pending) on′ given reply made .1, ap length (ap (λ (v : View). v .link) (same-view g b a budget)))
 
-    round-driven : (b : Both) → Driven b → Driven (roundOf b)
-    round-driven b d =
+    round-drained : (b : Both) → Drained b → Drained (roundOf b)
+    round-drained b d =
         record {
           agree = call-agree g (call.read given reply) (flushed b) (flush-agree g b (d .agree) budget);
           still = read-still (flushed b .world) given reply ∙ flush-still g b (d .agree) budget ∙ d .still;
         }
 
-    round-primary : (b : Both) → Driven b → roundOf b .world .primary ≡ b .world .primary
+    round-primary : (b : Both) → Drained b → roundOf b .world .primary ≡ b .world .primary
     round-primary b d = read-primary (flushed b .world) given reply ∙ flush-primary g b (d .agree) budget
 
     -- as many rounds as COMMITs would fit leave none
     pub record Rounds (b next : Both) : Type 0 where
-      pub driven : Driven next
+      pub drained : Drained next
       pub primary : next .world .primary ≡ b .world .primary
       pub none : length (next .world .link) ≤ 0
 
-    pub rounds-law : (k : ℕ) (b : Both) → Driven b → length (b .world .link) ≤ recordLength (g .u) COMMIT * k → Rounds b (run steps (g .u) b (rounds k budget given reply))
+    pub rounds-law : (k : ℕ) (b : Both) → Drained b → length (b .world .link) ≤ recordLength (g .u) COMMIT * k → Rounds b (run steps (g .u) b (rounds k budget given reply))
     unfolding recordLength bodyLength
-    rounds-law zero b d l = record { driven = d; primary = refl; none = omega arith }
+    rounds-law zero b d l = record { drained = d; primary = refl; none = omega arith }
     rounds-law (suc k) b d l =
-        let r = rounds-law k (roundOf b) (round-driven b d) (omega (arith, shorter b d (d .agree .pending .flight .records) refl)) in
-        record { driven = r .driven; primary = r .primary ∙ round-primary b d; none = r .none }
+        let r = rounds-law k (roundOf b) (round-drained b d) (omega (arith, shorter b d (d .agree .pending .flight .records) refl)) in
+        record { drained = r .drained; primary = r .primary ∙ round-primary b d; none = r .none }
 
   -- ---- ACK calls
   module _ (given : ℕ) (long : recordLength (g .u) ACK ≤ given) where
     abbrev acked : Both → Both
     acked b = runCall steps (g .u) b (call.ack given)
 
-    acked-driven : (b : Both) → Driven b → Driven (acked b)
-    acked-driven b d = record { agree = call-agree g (call.ack given) b (d .agree); still = ack-still (b .world) given ∙ d .still }
+    acked-drained : (b : Both) → Drained b → Drained (acked b)
+    acked-drained b d = record { agree = call-agree g (call.ack given) b (d .agree); still = ack-still (b .world) given ∙ d .still }
 
     -- an ACK call lowers the acknowledged epoch never, and raises it where an ACK is under way
-    module _ (b : Both) (d : Driven b) where
+    module _ (b : Both) (d : Drained b) where
       protected-is : protected (b .world .primary .state) ≡ true
       protected-is = ap not (ap (λ (x : Still). x .alone) (d .still) ∙ protects)
 
@@ -152,16 +153,16 @@ module _ (g : Settings) (s : Still) (nothing : s .out ≡ []) (protects : s .alo
       nearer l j h (x ∷ es) e = omega (arith, raised (oldest-made g b (d .agree .inv) (d .agree .pending) protected-is given x es e long))
 
     pub record Acknowledged (next : Both) : Type 0 where
-      pub driven : Driven next
+      pub drained : Drained next
       pub none : length (next .world .link) ≤ 0
       pub last : next .world .primary .state .acknowledged + 1 ≡ s .epoch
 
-    pub acks-law : (j : ℕ) (b : Both) → Driven b → length (b .world .link) ≤ 0 → s .epoch ≤ b .world .primary .state .acknowledged + 1 + j
+    pub acks-law : (j : ℕ) (b : Both) → Drained b → length (b .world .link) ≤ 0 → s .epoch ≤ b .world .primary .state .acknowledged + 1 + j
         → Acknowledged (run steps (g .u) b (replicate j (call.ack given)))
     acks-law zero b d l h =
         let p = b .world .primary .state in
         let below = primary-facts p (d .agree .inv .holds .primaryKept .reached .inRange) .acknowledged in
         let epoch = ap (λ (x : Still). x .epoch) (d .still) in
-        record { driven = d; none = l; last = omega arith }
+        record { drained = d; none = l; last = omega arith }
     acks-law (suc j) b d l h =
-        acks-law j (acked b) (acked-driven b d) (omega (arith, ap length (ack-link (b .world) given))) (nearer b d l j h (d .agree .pending .trail .epochs) refl)
+        acks-law j (acked b) (acked-drained b d) (omega (arith, ap length (ack-link (b .world) given))) (nearer b d l j h (d .agree .pending .trail .epochs) refl)
