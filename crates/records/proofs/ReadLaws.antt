@@ -232,21 +232,6 @@ found-cases P found short refused (Ack e c) = found (Ack e c) refl
 found-cases P found short refused Short = short
 found-cases P found short refused (Refused n) = refused n
 
--- the last arm of a `match`: the places in the enum that are left behind the arms for cut short and refused, and
--- behind the one for an ACK
-pub found-arm : (r : Record) → OneOf (0 ∷ 1 ∷ 2 ∷ 3 ∷ 4 ∷ []) (tagOf the-type r) → isFound r ≡ true
-found-arm = found-cases (λ r. OneOf (0 ∷ 1 ∷ 2 ∷ 3 ∷ 4 ∷ []) (tagOf the-type r) → isFound r ≡ true)
-    (λ r h k. h) (λ k. absurd (miss (0 ∷ 1 ∷ 2 ∷ 3 ∷ 4 ∷ []) 5 tt k)) (λ n k. absurd (miss (0 ∷ 1 ∷ 2 ∷ 3 ∷ 4 ∷ []) 6 tt k))
-
-pub ack-arm {ℓ} : {A : Type ℓ} (ack : ℕ → Cursor → A) (rest : A) (r : Record) → OneOf (0 ∷ 1 ∷ 2 ∷ 3 ∷ 5 ∷ 6 ∷ []) (tagOf the-type r) → onAck r ack rest ≡ rest
-ack-arm ack rest (Page e p c) k = refl
-ack-arm ack rest (Block e n c) k = refl
-ack-arm ack rest (State e c) k = refl
-ack-arm ack rest (Commit e p b c) k = refl
-ack-arm ack rest (Ack e c) k = absurd (miss (0 ∷ 1 ∷ 2 ∷ 3 ∷ 5 ∷ 6 ∷ []) 4 tt k)
-ack-arm ack rest Short k = refl
-ack-arm ack rest (Refused n) k = refl
-
 -- a fact of what is defined by `onAck` is shown of what an ACK gives, and of the rest
 pub on-ack : {A : Type 0} (P : A → Type 0) (ack : ℕ → Cursor → A) (rest : A) (r : Record) → ((e : ℕ) (c : Cursor) → r ≡ Ack e c → P (ack e c)) → P rest → P (onAck r ack rest)
 on-ack P ack rest (Page e p c) f g = g
@@ -256,6 +241,18 @@ on-ack P ack rest (Commit e p b c) f g = g
 on-ack P ack rest (Ack e c) f g = f e c refl
 on-ack P ack rest Short f g = g
 on-ack P ack rest (Refused n) f g = g
+
+-- the last arm of a `match`: the places in the enum that are left behind the arms for cut short and refused, and
+-- behind the one for an ACK
+pub found-arm : (r : Record) → OneOf (0 ∷ 1 ∷ 2 ∷ 3 ∷ 4 ∷ []) (tagOf the-type r) → isFound r ≡ true
+found-arm = found-cases (λ r. OneOf (0 ∷ 1 ∷ 2 ∷ 3 ∷ 4 ∷ []) (tagOf the-type r) → isFound r ≡ true)
+    (λ r h k. h) (λ k. absurd (miss (0 ∷ 1 ∷ 2 ∷ 3 ∷ 4 ∷ []) 5 tt k)) (λ n k. absurd (miss (0 ∷ 1 ∷ 2 ∷ 3 ∷ 4 ∷ []) 6 tt k))
+
+pub ack-arm : {A : Type 0} (ack : ℕ → Cursor → A) (rest : A) (r : Record) → OneOf (0 ∷ 1 ∷ 2 ∷ 3 ∷ 5 ∷ 6 ∷ []) (tagOf the-type r) → onAck r ack rest ≡ rest
+ack-arm ack rest r k =
+    on-ack (λ x. x ≡ rest) ack rest r
+    (λ e c q. absurd (miss (0 ∷ 1 ∷ 2 ∷ 3 ∷ 5 ∷ 6 ∷ []) 4 tt (subst (λ (x : Record). OneOf (0 ∷ 1 ∷ 2 ∷ 3 ∷ 5 ∷ 6 ∷ []) (tagOf the-type x)) q k)))
+    refl
 
 -- ---- what holds of every answer
 
