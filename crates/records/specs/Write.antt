@@ -7,7 +7,7 @@ use lib.Dec.{leb, ltb}
 use lib.ListN.{length}
 use Rattle.lists.specs.Part.{put}
 use Rattle.lists.specs.LittleEndian.{leBytes}
-use Rattle.records.specs.Kind.{PAGE, BLOCK, STATE, COMMIT, ACK, ACTIVATION}
+use Rattle.records.specs.Kind.{PAGE, BLOCK, STATE, COMMIT, ACK, ACTIVATION, unitBody}
 
 -- the length of the body, the kind, the body
 unfoldable pub frame : ℕ → List ℕ → List ℕ
@@ -45,7 +45,7 @@ fitsTwo n = ltb n (2 ^ 16)
 
 -- the numbers of a PAGE or a BLOCK fit: the number, and the length of the body
 abbrev pub unitFits : ℕ → List ℕ → Bool
-unitFits number bytes = fitsTwo number && fitsTwo (length bytes + 6)
+unitFits number bytes = fitsTwo number && fitsTwo (length bytes + unitBody)
 
 -- a record is written where its numbers fit and the part has room, else nothing is
 unfoldable pub hasRoom : Bool → List ℕ → List ℕ → Bool
