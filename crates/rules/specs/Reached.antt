@@ -34,8 +34,8 @@ pub record StandbyReached (s : Standby) : Type 0 where
   pub notDue : s .blocks ≡ s .slots .staged - s .slots .due
 
 -- number 1's ranges hold after a call, accepted or refused, if they held before it: of any states, also those that no
--- run reaches, and so after every list of calls. Beside the ranges only the lengths of the two arrays are asked and kept,
--- which their types give
+-- run reaches, and so after every list of calls. Beside the ranges only the lengths of the two arrays are asked and
+-- kept, which their types give
 pub record StaysInRange (w : World) (c : Call) : Type 0 where
   pub primary : PrimaryReached (w .primary .state) → PrimaryReached (step w c .next .primary .state)
   pub standby : StandbyInRange (w .standby .state) → StandbyInRange (step w c .next .standby .state)

@@ -1,4 +1,5 @@
--- Catching up is proved: an exchange that is enough, from its drain to the takes that it makes possible. Assumes nothing.
+-- Catching up is proved: an exchange that is enough, from its drain to the takes that it makes possible. Assumes
+-- nothing.
 use Prim.Native.Nat.{ℕ, _+_, _-_, _/_}
 use mathlib.Core.Path.{_≡_, refl, sym, ap, _∙_, subst}
 use mathlib.Core.Bool.{true, false}

@@ -1,4 +1,5 @@
--- The record test on bytes that it does not refuse: cut short exactly where they do not begin with a whole record, else of the kind that they say, with that kind's length. Assumes nothing.
+-- The record test on bytes that it does not refuse: cut short exactly where they do not begin with a whole record, else
+-- of the kind that they say, with that kind's length. Assumes nothing.
 use Prim.Native.Nat.{ℕ, _+_}
 use mathlib.Core.Path.{_≡_, refl, ap}
 use mathlib.Core.Bool.{Bool, true, false, cond, _&&_}
@@ -16,7 +17,8 @@ use Rattle.records.specs.Read.{fieldsOf, readRecord, numberOf, kindOf, cutShort
 use Rattle.records.proofs.ReadLaws.{for-test, fields-cases}
 use Rattle.runs.specs.Progress.{wholeRecord}
 
--- what an answer says of the bytes: `whole` is whether they begin with a whole record, `kind` its kind, `size` its body's length as it says and `body` as its kind has it
+-- what an answer says of the bytes: `whole` is whether they begin with a whole record, `kind` its kind, `size` its body's
+-- length as it says and `body` as its kind has it
 pub record Tells (whole : Bool) (kind size body : ℕ) (r : Record) : Type 0 where
   pub short : numberOf r ≡ cutShort → whole ≡ false
   pub found : numberOf r ≡ 0 → (whole ≡ true) × (kind ≡ kindOf r) × (size ≡ body)

@@ -56,8 +56,8 @@ pub record Saved (packet : List ℕ) (n : ℕ) (p : Plain) : Type 0 where
   pub below : n < length (receivedCheckpoint p .packets)
   pub same : packet ≡ getD (receivedCheckpoint p .packets) n []
 
--- p is the plain pair where the take is made, end the one at the cut: its checkpoint r is what a takeover then would have
--- or, once the standby is active, what it took over, since r is fixed from then on (Corollaries: ReceivedFixed)
+-- p is the plain pair where the take is made, end the one at the cut: its checkpoint r is what a takeover then would
+-- have or, once the standby is active, what it took over, since r is fixed from then on (Corollaries: ReceivedFixed)
 pub record HandedRight (t : ℕ) (p end : Plain) (handed : List ℕ) : Type 0 where
   pub queued : p .taken < length (p .accepted)
   pub oldest : handed ≡ getD (p .accepted) (p .taken) []
