@@ -9,8 +9,6 @@ use lib.ListN.{length, take, drop}
 use Rattle.lists.proofs.TestLaws.{by-test}
 use Rattle.records.specs.declared.Record.{Record}
 use Rattle.records.specs.Read.{usedOf, cursorOf}
-use Rattle.records.specs.declared.Record.the-variants as record-of
-use Rattle.records.specs.declared.Reader.the-variants as reader
 use Rattle.records.specs.Write.{ackRecord}
 use Rattle.records.specs.Message.{Message, encode, encodeAll, readAs}
 use Rattle.records.specs.Message as message
