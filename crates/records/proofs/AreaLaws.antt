@@ -13,7 +13,7 @@ use Rattle.lists.proofs.LittleEndianLaws.{leAt-leBytes}
 use Rattle.records.specs.declared.Area.the-variants.{Zero, Activation, Neither}
 use Rattle.records.specs.Kind.{ACTIVATION}
 use Rattle.records.specs.Write.{frame, epochRecord, activationRecord}
-use Rattle.records.specs.Area.{areaLength, allZero, areaOf}
+use Rattle.records.specs.Area.{areaLength, allZero, areaOf, areaNumber, areaValue}
 use Rattle.records.proofs.FrameLaws.{length-epoch}
 
 -- ---- all zero
@@ -63,3 +63,7 @@ area-activation e h =
     let z : allZero s ≡ false = sym (refuted (allZero s) (λ t. let b : _≡_ {A = ℕ} 4 0 = all-zero-at s t 0 in omega arith)) in
     let v : leAt 4 s 4 ≡ e = leAt-leBytes 4 e [] h in
     area-of-record s (length-epoch ACTIVATION e) z refl refl ∙ ap Activation v
+
+-- with the paper's number, and the epoch as its value
+pub area-told : (e : ℕ) → e < 2 ^ 32 → (areaNumber (areaOf (activationRecord e)) ≡ 0) × (areaValue (areaOf (activationRecord e)) ≡ e)
+area-told e h = (ap areaNumber (area-activation e h), ap areaValue (area-activation e h))
