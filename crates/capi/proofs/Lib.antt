@@ -1,0 +1,6 @@
+pub mod WordLaws
+pub mod PrimaryWordLaws
+pub mod StandbyWordLaws
+pub mod DoneLaws
+pub mod AnswerLaws
+pub mod StepLaws

@@ -1,0 +1,157 @@
+-- The primary's words: what a state of them has, and that a state is the state of its words and the words of a state its
+-- words. Assumes nothing.
+use mathlib.Core.Path.{_≡_, refl, sym, ap, _∙_}
+use mathlib.Core.List.{List, [], _∷_, _++_, append-nil}
+use mathlib.Core.Bool.{Bool, true, false, _&&_}
+use Prim.Native.Nat.{ℕ, suc, zero, _+_, _*_, _≤_, _<_}
+use native.Mathlib.Numerals.{add-one}
+use native.Mathlib.Omega.{arith}
+use borrow.Author.Tests.{leb-true, eqb-true, eq-eqb}
+use lib.Dec.{leb}
+use lib.ListN.{length, take, drop, getD, set, length-append, length-drop, drop-of-length-le}
+use lib.Seq.{take-suc-set, take-suc, take-all, length-take-le, drop-cons, append-snoc}
+use Rattle.lists.specs.Part.{put}
+use Rattle.lists.proofs.PartLaws.{put-put, put-next, put-whole, length-put, put-none}
+use Rattle.lists.proofs.TestLaws.{both, join}
+use Rattle.queue.specs.declared.Packet.{Packet}
+use Rattle.rules.specs.declared.Primary.{Primary}
+use Rattle.capi.specs.Word.{isFlag, flagOf, flagWord, allLow, between}
+use Rattle.capi.specs.PrimaryWords.{packetsOf, packetWords, headWords, primaryWords, primaryWordsOk, primaryOf, primaryLength, packetsAt}
+use Rattle.capi.proofs.WordLaws.{low-at, low-append}
+
+-- what words that are a state have
+pub record PrimaryWordFacts (w : List ℕ) : Type 0 where
+  pub many : length w ≡ primaryLength
+  pub low : allLow (between 6 10 w) ≡ true
+  pub flag : getD w 10 0 ≤ 1
+  pub packets : allLow (between packetsAt primaryLength w) ≡ true
+
+pub primary-word-facts : (w : List ℕ) → primaryWordsOk w ≡ true → PrimaryWordFacts w
+unfolding primaryWordsOk
+primary-word-facts w e =
+    let a = both _ _ e in
+    let b = both _ _ (a .0) in
+    let d = both _ _ (b .0) in
+    record { many = eqb-true _ _ (d .0); low = d .1; flag = leb-true _ _ (b .1); packets = a .1 }
+
+pub primary-many : (w : List ℕ) → primaryWordsOk w ≡ true → length w ≡ primaryLength
+primary-many w e = primary-word-facts w e .many
+
+-- a number of a field of 32 bits
+pub primary-field : (w : List ℕ) (i : ℕ) → primaryWordsOk w ≡ true → 6 ≤ i → i < 10 → getD w i 0 < 4294967296
+primary-field w i e h k = let f = primary-word-facts w e in low-at w 6 10 i (f .low) h k (omega (arith, f .many))
+
+-- and of a packet
+pub packet-field : (w : List ℕ) (i : ℕ) → primaryWordsOk w ≡ true → packetsAt ≤ i → i < primaryLength → getD w i 0 < 4294967296
+packet-field w i e h k = let f = primary-word-facts w e in low-at w packetsAt primaryLength i (f .packets) h k (omega (arith, f .many))
+
+-- ---- a packet of words, and the words of packets
+packet-cons : (w : List ℕ) (at : ℕ) → at + 2 ≤ length w → packetsOf (drop at w) ≡ record { epoch = getD w at 0; length = getD w (at + 1) 0 } ∷ packetsOf (drop (at + 2) w)
+unfolding packetsOf
+packet-cons w at h =
+    let e : at + 2 ≡ suc (suc at) = omega arith in
+    rw (drop-cons w at 0 (omega arith), drop-cons w (suc at) 0 (omega arith), add-one at, e)
+
+packet-words-append : (a b : List Packet) → packetWords (a ++ b) ≡ packetWords a ++ packetWords b
+unfolding packetWords
+packet-words-append [] b = refl
+packet-words-append (k ∷ ks) b = rw (packet-words-append ks b)
+
+pub length-packetWords : (ks : List Packet) → length (packetWords ks) ≡ 2 * length ks
+unfolding packetWords
+length-packetWords [] = refl
+length-packetWords (k ∷ ks) = rw (length-packetWords ks) (omega arith)
+
+-- ---- the loops: one packet more is read, and all are; one packet more is stored, and all are
+pub read-more : (w : List ℕ) (l : List Packet) (i at : ℕ) → at + 2 ≤ length w → i < length l
+    → packetsOf (drop packetsAt w) ≡ take i l ++ packetsOf (drop at w)
+    → packetsOf (drop packetsAt w) ≡ take (i + 1) (set l i (record { epoch = getD w at 0; length = getD w (at + 1) 0 })) ++ packetsOf (drop (at + 2) w)
+read-more w l i at h k e =
+    let x : Packet = record { epoch = getD w at 0; length = getD w (at + 1) 0 } in
+    e ∙ ap (λ (r : List Packet). take i l ++ r) (packet-cons w at h)
+    ∙ rw (add-one i, take-suc-set l i x k) (sym (append-snoc (take i l) x (packetsOf (drop (at + 2) w))))
+
+pub read-all : (w : List ℕ) (l : List Packet) (n at : ℕ) → length l ≡ n → length w ≤ at
+    → packetsOf (drop packetsAt w) ≡ take n l ++ packetsOf (drop at w) → packetsOf (drop packetsAt w) ≡ l
+unfolding packetsOf
+read-all w l n at h k e = e ∙ rw (take-all n l (omega arith), drop-of-length-le w k, append-nil)
+
+pub store-more : (w : List ℕ) (ks : List Packet) (z : Packet) (at i : ℕ) → i < length ks → at + 2 * length ks ≤ length w
+    → put (put w at (packetWords (take i ks))) (at + 2 * i) (packetWords (getD ks i z ∷ [])) ≡ put w at (packetWords (take (i + 1) ks))
+store-more w ks z at i h k =
+    let n : length (take i ks) ≡ i = length-take-le i ks (omega arith) in
+    let m : length (packetWords (take i ks)) ≡ 2 * i = length-packetWords (take i ks) ∙ ap (λ (x : ℕ). 2 * x) n in
+    let e : at + 2 * i ≡ at + length (packetWords (take i ks)) = omega arith in
+    rw (e, put-put w at (packetWords (take i ks)) (packetWords (getD ks i z ∷ [])) (omega arith), add-one i, take-suc ks i z h, packet-words-append (take i ks) (getD ks i z ∷ []))
+
+pub low-packets-more : (ks : List Packet) (z : Packet) (i : ℕ) → i < length ks → allLow (packetWords (take i ks)) ≡ true
+    → allLow (packetWords (getD ks i z ∷ [])) ≡ true → allLow (packetWords (take (i + 1) ks)) ≡ true
+low-packets-more ks z i h p q =
+    let k = getD ks i z ∷ [] in
+    rw (add-one i, take-suc ks i z h, packet-words-append (take i ks) k) (low-append (packetWords (take i ks)) (packetWords k) p q)
+
+-- the head of the words and then the packets, over all of them
+pub store-both : (w : List ℕ) (p : Primary) → length w ≡ primaryLength → length (p .queue .packets) ≡ 64
+    → put (put w 0 (headWords p)) packetsAt (packetWords (p .queue .packets)) ≡ primaryWords p
+unfolding primaryWords headWords
+store-both w p h k =
+    let ks = p .queue .packets in
+    let n : length (packetWords ks) ≡ 128 = length-packetWords ks ∙ ap (λ (x : ℕ). 2 * x) k in
+    put-next w (headWords p) (packetWords ks) packetsAt refl (omega arith)
+    ∙ put-whole w (headWords p ++ packetWords ks) (rw (length-append (headWords p) (packetWords ks)) (omega arith))
+
+-- ---- the words of a state whose fields of 32 bits fit are a state's
+length-primaryWords : (p : Primary) → length (p .queue .packets) ≡ 64 → length (primaryWords p) ≡ primaryLength
+unfolding primaryWords headWords
+length-primaryWords p k =
+    let n : length (packetWords (p .queue .packets)) ≡ 128 = length-packetWords (p .queue .packets) ∙ ap (λ (x : ℕ). 2 * x) k in
+    rw (length-append (headWords p) (packetWords (p .queue .packets))) (omega arith)
+
+pub flag-fits : (b : Bool) → isFlag (flagWord b) ≡ true
+flag-fits true = refl
+flag-fits false = refl
+
+pub primary-words-ok : (p : Primary) → length (p .queue .packets) ≡ 64 → allLow (between 6 10 (headWords p)) ≡ true
+    → allLow (packetWords (p .queue .packets)) ≡ true → primaryWordsOk (primaryWords p) ≡ true
+unfolding primaryWordsOk primaryWords headWords
+primary-words-ok p k low packets =
+    let n = length-primaryWords p k in
+    let rest : allLow (between packetsAt primaryLength (primaryWords p)) ≡ true = rw (take-all primaryLength (primaryWords p) (omega (arith, n))) packets in
+    join _ _ (join _ _ (join _ _ (eq-eqb _ _ n) low) (flag-fits (p .alone))) rest
+
+-- ---- a state is the state of its words
+pub flag-again : (b : Bool) → flagOf (flagWord b) ≡ b
+flag-again true = refl
+flag-again false = refl
+
+packets-again : (ks : List Packet) → packetsOf (packetWords ks) ≡ ks
+unfolding packetsOf packetWords
+packets-again [] = refl
+packets-again (k ∷ ks) = rw (packets-again ks)
+
+pub primary-again : (p : Primary) → primaryOf (primaryWords p) ≡ p
+unfolding primaryOf primaryWords headWords
+primary-again p = rw (packets-again (p .queue .packets), flag-again (p .alone))
+
+-- ---- and words that are a state are the words of it
+pub flag-words : (n : ℕ) → n ≤ 1 → flagWord (flagOf n) ≡ n
+flag-words zero h = refl
+flag-words (suc zero) h = refl
+flag-words (suc (suc n)) h = absurd (omega arith)
+
+packets-words : (n : ℕ) (w : List ℕ) → length w ≡ 2 * n → packetWords (packetsOf w) ≡ w
+unfolding packetsOf packetWords
+packets-words zero [] h = refl
+packets-words zero (a ∷ w) h = absurd (omega arith)
+packets-words (suc n) [] h = absurd (omega arith)
+packets-words (suc n) (a ∷ []) h = absurd (omega arith)
+packets-words (suc n) (a ∷ b ∷ w) h = rw (packets-words n w (omega arith))
+
+pub primary-words-again : (w : List ℕ) → primaryWordsOk w ≡ true → primaryWords (primaryOf w) ≡ w
+unfolding primaryOf primaryWords headWords
+primary-words-again w e =
+    let f = primary-word-facts w e in
+    let n : length (drop packetsAt w) ≡ 2 * 64 = rw (length-drop packetsAt w) (omega (arith, f .many)) in
+    let at : (i : ℕ) → i < primaryLength → getD w i 0 ∷ drop (suc i) w ≡ drop i w =
+    λ i h. sym (drop-cons w i 0 (omega (arith, f .many))) in
+    rw (flag-words (getD w 10 0) (f .flag), packets-words 64 (drop packetsAt w) n, at 14 (omega arith), at 13 (omega arith), at 12 (omega arith), at 11 (omega arith), at 10 (omega arith), at 9 (omega arith), at 8 (omega arith), at 7 (omega arith), at 6 (omega arith), at 5 (omega arith), at 4 (omega arith), at 3 (omega arith), at 2 (omega arith), at 1 (omega arith), at 0 (omega arith))

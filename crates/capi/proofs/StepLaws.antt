@@ -1,0 +1,278 @@
+-- What each call's contract says is the step rules' clause of it, on the world that has this end with these words and
+-- buffers: one equation of all that a step leaves. Assumes nothing.
+use mathlib.Core.Path.{_≡_, refl, sym, ap, subst, _∙_}
+use mathlib.Core.List.{List, [], _∷_, _++_}
+use mathlib.Core.Bool.{Bool, true, false, cond}
+use Prim.Native.Nat.{ℕ, zero, suc, _+_, _≤_}
+use native.Mathlib.Nat.{add-zero}
+use native.Mathlib.Omega.{arith}
+use lib.ListN.{length, take, drop, getD, drop-of-length-le, take-append-drop}
+use lib.Seq.{drop-cons, drop-drop}
+use Rattle.lists.specs.Part.{part}
+use Rattle.lists.proofs.TestLaws.{cond-true, cond-false}
+use Rattle.records.specs.Number.{outOfRange}
+use Rattle.records.specs.Kind.{bodyLength, recordLength}
+use Rattle.settings.specs.Range.{settingsOk}
+use Rattle.settings.proofs.RangeLaws.{settings-facts}
+use Rattle.rules.specs.declared.Primary.{Primary}
+use Rattle.rules.specs.declared.Standby.{Standby}
+use Rattle.rules.specs.Start.{started}
+use Rattle.rules.specs.Choose.{choiceOf, choiceNumber}
+use Rattle.rules.specs.declared.Choice.{Choice}
+use Rattle.rules.specs.declared.Choice.the-variants as choice-of
+use Rattle.rules.specs.World.{World, Processor, Buffers, startLent, startNumber, startWorld}
+use Rattle.rules.specs.World as call
+use Rattle.rules.specs.Step.{step, outcome, atPrimary, atStandby}
+use Rattle.capi.specs.Word.{answerWord, answerNumber, answerUsed, answerValue, Left}
+use Rattle.capi.specs.PrimaryWords.{primaryWords, primaryWordsOk, primaryOf}
+use Rattle.capi.specs.StandbyWords.{modeOf, modeWord, firstWords, lastWords, standbyWords, standbyWordsOk, standbyOf, standbyLength}
+use Rattle.capi.specs.PrimaryCalls.{PrimaryDone, MemoryWriteDone, DiskWriteDone, PacketDone, CheckpointDone, DrainDone, AckDone, TakeDone, PrimaryTickDone}
+use Rattle.capi.specs.StandbyCalls.{LentStandby, asLent, isStandby, standbyIn, StandbyDone, ReadDone, FlushDone, StandbyTickDone, ActivationDone, ActiveMemoryWriteDone, ActiveDiskWriteDone}
+use Rattle.capi.specs.PairCalls.{settingsOf, startWordsOk, StartDone, diskValue, choiceWord}
+use Rattle.capi.specs.Joined.{primaryEnd, standbyEnd, withLink, withAcks, toldStep, ackSent}
+use Rattle.capi.proofs.PrimaryWordLaws.{primary-again, flag-words, primary-words-again}
+use Rattle.capi.proofs.StandbyWordLaws.{standby-word-facts}
+use Rattle.capi.proofs.AnswerLaws.{AnswerFits, Parts, answer-parts, memory-write-fits, disk-write-fits, packet-fits, checkpoint-fits, drain-fits, ack-fits, take-fits, primary-tick-fits, read-fits, flush-fits, standby-tick-fits, activation-fits, active-memory-write-fits, active-disk-write-fits, start-fits, choice-fits}
+
+-- ---- what every call leaves, where it is lent a state
+
+-- the state of the words after it is the next one, and the answer's parts are those of the reply
+pub record Told {S : Type 0} (after next : S) (answer n u v : ℕ) : Type 0 where
+  pub state : after ≡ next
+  pub parts : Parts answer n u v
+
+module _ {n u v answer : ℕ} (fits : AnswerFits n u v) where
+  parts-told : {ok : Bool} → ok ≡ true → answer ≡ cond ok (answerWord n u v) outOfRange → Parts answer n u v
+  parts-told ok told = subst (λ (x : ℕ). Parts x n u v) (sym (told ∙ cond-true _ _ _ ok)) (answer-parts n u v fits)
+
+  pub primary-told : {ok : Bool} {w w′ : List ℕ} {next : Primary} → ok ≡ true → PrimaryDone ok w next (answerWord n u v) answer w′ → Told (primaryOf w′) next answer n u v
+  primary-told {next = next} ok done =
+      record { state = ap primaryOf (done .words ∙ cond-true _ _ _ ok) ∙ primary-again next; parts = parts-told ok (done .told) }
+
+  pub standby-told : {ok : Bool} {w w′ : LentStandby} {next : Standby} → ok ≡ true → StandbyDone ok w next (answerWord n u v) answer w′ → Told (standbyIn w′) next answer n u v
+  standby-told ok done = record { state = done .same ok; parts = parts-told ok (done .told) }
+
+-- ---- the primary's calls: the end that a call leaves has the words and the buffers after it
+module _ (κ : World) (w memory disk dirty held stream : List ℕ) (answer : ℕ) (w′ : List ℕ) (ok : primaryWordsOk w ≡ true) where
+  pub memory-write-joined : (page offset : ℕ) (bytes memory′ dirty′ : List ℕ) → MemoryWriteDone w memory dirty page offset bytes answer w′ memory′ dirty′
+      → step (atPrimary κ (primaryEnd w memory disk dirty held stream)) (call.memoryWrite page offset bytes)
+      ≡ toldStep (atPrimary κ (primaryEnd w′ memory′ disk dirty′ held stream)) answer
+  unfolding step
+  memory-write-joined page offset bytes memory′ dirty′ done =
+      let t = primary-told (memory-write-fits w ok _ _ page offset _) ok (done .0) in
+      rw (t .state, t .parts .number-is, t .parts .value-is, done .1, done .2, ok)
+
+  pub disk-write-joined : (block : ℕ) (bytes disk′ stream′ : List ℕ) → DiskWriteDone w disk stream block bytes answer w′ disk′ stream′
+      → step (atPrimary κ (primaryEnd w memory disk dirty held stream)) (call.diskWrite block bytes)
+      ≡ toldStep (atPrimary κ (primaryEnd w′ memory disk′ dirty held stream′)) answer
+  unfolding step
+  disk-write-joined block bytes disk′ stream′ done =
+      let t = primary-told (disk-write-fits w ok _ _ block _) ok (done .0) in
+      rw (t .state, t .parts .number-is, t .parts .value-is, done .1, done .2, ok)
+
+  pub packet-joined : (bytes held′ : List ℕ) → PacketDone w held bytes answer w′ held′
+      → step (atPrimary κ (primaryEnd w memory disk dirty held stream)) (call.packet bytes)
+      ≡ toldStep (atPrimary κ (primaryEnd w′ memory disk dirty held′ stream)) answer
+  unfolding step
+  packet-joined bytes held′ done =
+      let t = primary-told (packet-fits (primaryOf w) _ _) ok (done .0) in
+      rw (t .state, t .parts .number-is, t .parts .value-is, done .1, ok)
+
+  pub checkpoint-joined : (processor : Processor) (dirty′ stream′ : List ℕ) → CheckpointDone w memory dirty stream (processor .bytes) answer w′ dirty′ stream′
+      → step (atPrimary κ (primaryEnd w memory disk dirty held stream)) (call.checkpoint processor)
+      ≡ toldStep (atPrimary κ (primaryEnd w′ memory disk dirty′ held stream′)) answer
+  unfolding step
+  checkpoint-joined processor dirty′ stream′ done =
+      let t = primary-told (checkpoint-fits w ok _ _ _ _) ok (done .0) in
+      rw (t .state, t .parts .number-is, t .parts .value-is, done .1, done .2, ok)
+
+  -- the link gets the first bytes of the destination, as many as the value says
+  pub drain-joined : (n : ℕ) (destination stream′ destination′ : List ℕ) → DrainDone w stream n destination answer w′ stream′ destination′
+      → step (atPrimary κ (primaryEnd w memory disk dirty held stream)) (call.drain n destination)
+      ≡ toldStep (withLink (atPrimary κ (primaryEnd w′ memory disk dirty held stream′)) (κ .link ++ take (answerValue answer) destination′)) answer
+  unfolding step
+  drain-joined n destination stream′ destination′ done =
+      let t = primary-told (drain-fits (primaryOf w) _ n _) ok (done .0) in
+      rw (t .state, t .parts .number-is, t .parts .value-is, done .1, done .2, ok)
+
+  -- the bytes used leave the ACKs
+  pub ack-joined : (n : ℕ) → AckDone w (take n (κ .acks)) answer w′
+      → step (atPrimary κ (primaryEnd w memory disk dirty held stream)) (call.ack n)
+      ≡ toldStep (withAcks (atPrimary κ (primaryEnd w′ memory disk dirty held stream)) (drop (answerUsed answer) (κ .acks))) answer
+  unfolding step
+  ack-joined n done =
+      let t = primary-told (ack-fits w ok _) ok done in
+      rw (t .state, t .parts .number-is, t .parts .used-is, t .parts .value-is)
+
+  -- the packet is the first bytes of the destination, as many as the value says
+  pub take-joined : (destination held′ destination′ : List ℕ) → TakeDone w held destination answer w′ held′ destination′
+      → step (atPrimary κ (primaryEnd w memory disk dirty held stream)) (call.take destination)
+      ≡ record { next = atPrimary κ (primaryEnd w′ memory disk dirty held′ stream); outcome = outcome (answerNumber answer) (answerValue answer); handed = take (answerValue answer) destination′ }
+  unfolding step
+  take-joined destination held′ destination′ done =
+      let t = primary-told (take-fits w ok _ _) ok (done .0) in
+      rw (t .state, t .parts .number-is, t .parts .value-is, done .1, done .2, ok)
+
+  pub primary-tick-joined : PrimaryTickDone w answer w′
+      → step (atPrimary κ (primaryEnd w memory disk dirty held stream)) call.primaryTick
+      ≡ toldStep (atPrimary κ (primaryEnd w′ memory disk dirty held stream)) answer
+  unfolding step
+  primary-tick-joined done =
+      let t = primary-told (primary-tick-fits (primaryOf w)) ok done in
+      rw (t .state, t .parts .number-is, t .parts .value-is)
+
+-- ---- the standby's calls
+module _ (κ : World) (w : LentStandby) (memory disk pages marks blocks area : List ℕ) (answer : ℕ) (w′ : LentStandby) (ok : isStandby w ≡ true) where
+  -- the bytes used leave the link, and the ACK of an accepted COMMIT is sent back
+  pub read-joined : (n : ℕ) (reply memory′ pages′ marks′ blocks′ reply′ : List ℕ) → ReadDone w memory pages marks blocks (take n (κ .link)) reply answer w′ memory′ pages′ marks′ blocks′ reply′
+      → step (atStandby κ (standbyEnd w memory disk pages marks blocks area)) (call.read n reply)
+      ≡ toldStep (withAcks (withLink (atStandby κ (standbyEnd w′ memory′ disk pages′ marks′ blocks′ area)) (drop (answerUsed answer) (κ .link))) (κ .acks ++ ackSent answer reply′)) answer
+  unfolding step recordLength bodyLength
+  read-joined n reply memory′ pages′ marks′ blocks′ reply′ done =
+      let t = standby-told (read-fits (standbyIn w) _ _) ok (done .0) in
+      rw (t .state, t .parts .number-is, t .parts .used-is, t .parts .value-is, done .1, done .2, done .3, done .4, done .5, ok)
+
+  pub flush-joined : (n : ℕ) (blocks′ disk′ : List ℕ) → FlushDone w blocks disk n answer w′ blocks′ disk′
+      → step (atStandby κ (standbyEnd w memory disk pages marks blocks area)) (call.flush n)
+      ≡ toldStep (atStandby κ (standbyEnd w′ memory disk′ pages marks blocks′ area)) answer
+  unfolding step
+  flush-joined n blocks′ disk′ done =
+      let t = standby-told (flush-fits (standbyIn w) _ _ n) ok (done .0) in
+      rw (t .state, t .parts .number-is, t .parts .value-is, done .1, done .2, ok)
+
+  pub standby-tick-joined : (marks′ : List ℕ) → StandbyTickDone w marks answer w′ marks′
+      → step (atStandby κ (standbyEnd w memory disk pages marks blocks area)) call.standbyTick
+      ≡ toldStep (atStandby κ (standbyEnd w′ memory disk pages marks′ blocks area)) answer
+  unfolding step
+  standby-tick-joined marks′ done =
+      let t = standby-told (standby-tick-fits (standbyIn w) _) ok (done .0) in
+      rw (t .state, t .parts .number-is, t .parts .value-is, done .1, ok)
+
+  pub activation-joined : (area′ : List ℕ) → ActivationDone w area answer w′ area′
+      → step (atStandby κ (standbyEnd w memory disk pages marks blocks area)) call.activation
+      ≡ toldStep (atStandby κ (standbyEnd w′ memory disk pages marks blocks area′)) answer
+  unfolding step
+  activation-joined area′ done =
+      let t = standby-told (activation-fits _ _ _ ok _) ok (done .0) in
+      rw (t .state, t .parts .number-is, t .parts .value-is, done .1, ok)
+
+  pub active-memory-write-joined : (page offset : ℕ) (bytes memory′ : List ℕ) → ActiveMemoryWriteDone w memory page offset bytes answer w′ memory′
+      → step (atStandby κ (standbyEnd w memory disk pages marks blocks area)) (call.activeMemoryWrite page offset bytes)
+      ≡ toldStep (atStandby κ (standbyEnd w′ memory′ disk pages marks blocks area)) answer
+  unfolding step
+  active-memory-write-joined page offset bytes memory′ done =
+      let t = standby-told (active-memory-write-fits _ _ _ ok _ page offset _) ok (done .0) in
+      rw (t .state, t .parts .number-is, t .parts .value-is, done .1, ok)
+
+  pub active-disk-write-joined : (block : ℕ) (bytes disk′ : List ℕ) → ActiveDiskWriteDone w disk block bytes answer w′ disk′
+      → step (atStandby κ (standbyEnd w memory disk pages marks blocks area)) (call.activeDiskWrite block bytes)
+      ≡ toldStep (atStandby κ (standbyEnd w′ memory disk′ pages marks blocks area)) answer
+  unfolding step
+  active-disk-write-joined block bytes disk′ done =
+      let t = standby-told (active-disk-write-fits _ _ _ ok _ block _) ok (done .0) in
+      rw (t .state, t .parts .number-is, t .parts .value-is, done .1, ok)
+
+-- ---- start: the world that it leaves, and its number
+pub start-joined : (settings : List ℕ) (processor : Processor) (b : Buffers) (primary : List ℕ) (standby : LentStandby) (answer : ℕ) (dirty′ memory′ disk′ marks′ area′ primary′ : List ℕ) (standby′ : LentStandby)
+    → startWordsOk settings primary (standby .words) ≡ true
+    → StartDone settings (processor .bytes) b primary standby answer dirty′ memory′ disk′ marks′ area′ primary′ standby′
+    → (startWorld (settingsOf settings) processor b
+    ≡ record {
+      primary = primaryEnd primary′ (b .memory) (b .disk) dirty′ (b .held) (b .stream);
+      standby = standbyEnd standby′ memory′ disk′ (b .stagedPages) marks′ (b .stagedBlocks) area′;
+      link = [];
+      acks = [];
+    })
+    × (answerNumber answer ≡ startNumber (settingsOf settings) b)
+unfolding startWorld started
+start-joined settings processor b primary standby answer dirty′ memory′ disk′ marks′ area′ primary′ standby′ ok done =
+    let fits = start-fits (settingsOf settings) (startLent b) (processor .bytes) in
+    let p = primary-told fits ok (done .0) in
+    let s = standby-told fits ok (done .1) in
+    (rw (p .state, s .state, done .2, done .3, done .4, done .5, done .6, ok), p .parts .number-is)
+
+-- an accepted T is the word that was given, not what it was cut to
+pub patience-kept : (settings : List ℕ) → settingsOk (settingsOf settings) ≡ true → settingsOf settings .t ≡ getD settings 7 0
+unfolding settingsOf
+patience-kept settings e = let f = settings-facts (settingsOf settings) e .t-high in omega arith
+
+-- ---- the disk choice: the word's number, and its value, which is 1 for the primary's disk alone and 2 for the
+-- standby's alone
+pub record ChoiceJoined (c : Choice) (word : ℕ) : Type 0 where
+  pub number-is : answerNumber word ≡ choiceNumber c
+  pub value-is : answerValue word ≡ diskValue c
+  pub primary : answerValue word ≡ 1 → c ≡ choice-of.PrimaryDisk
+  pub standby : answerValue word ≡ 2 → c ≡ choice-of.StandbyDisk
+
+pub choice-joined : (primary standby : ℕ) (area : List ℕ) → ChoiceJoined (choiceOf primary standby area) (choiceWord (choiceOf primary standby area))
+choice-joined primary standby area =
+    let c = choiceOf primary standby area in
+    let t = answer-parts _ _ _ (choice-fits primary standby area) in
+    record { number-is = t .number-is; value-is = t .value-is; primary = λ e. first c (sym (t .value-is) ∙ e); standby = λ e. second c (sym (t .value-is) ∙ e) }
+  where
+    first : (c : Choice) → diskValue c ≡ 1 → c ≡ choice-of.PrimaryDisk
+    first choice-of.PrimaryDisk e = refl
+    first choice-of.StandbyDisk e = absurd (omega arith)
+    first (choice-of.Refused n) e = absurd (omega arith)
+
+    second : (c : Choice) → diskValue c ≡ 2 → c ≡ choice-of.StandbyDisk
+    second choice-of.PrimaryDisk e = absurd (omega arith)
+    second choice-of.StandbyDisk e = refl
+    second (choice-of.Refused n) e = absurd (omega arith)
+
+-- ---- what is lent of a standby's state is one, part by part
+lent-same : {w w′ : LentStandby} → w′ .words ≡ w .words → w′ .pending ≡ w .pending → w′ .processor ≡ w .processor → w′ ≡ w
+lent-same a b c = λ i. asLent (a i) (b i) (c i)
+
+-- ---- words that are no state: the answer is 1, and nothing that is lent changes
+module _ {ok : Bool} (none : ok ≡ false) where
+  pub left-none : (new old after : List ℕ) → Left ok new old after → after ≡ old
+  left-none new old after left = left ∙ cond-false _ _ _ none
+
+  pub primary-none : {w w′ : List ℕ} {next : Primary} {word answer : ℕ} → PrimaryDone ok w next word answer w′ → (answer ≡ outOfRange) × (w′ ≡ w)
+  primary-none done = (done .told ∙ cond-false _ _ _ none, left-none _ _ _ (done .words))
+
+  pub standby-none : {w w′ : LentStandby} {next : Standby} {word answer : ℕ} → StandbyDone ok w next word answer w′ → (answer ≡ outOfRange) × (w′ ≡ w)
+  standby-none done = (done .told ∙ cond-false _ _ _ none, lent-same (left-none _ _ _ (done .words)) (left-none _ _ _ (done .staged)) (left-none _ _ _ (done .kept)))
+
+-- ---- a refused call leaves the state, and what leaves the state leaves the words
+
+-- n words from i on before others; before those that follow them they are all from i on
+abbrev wordsFrom : ℕ → ℕ → List ℕ → List ℕ → List ℕ
+wordsFrom zero i w rest = rest
+wordsFrom (suc n) i w rest = getD w i 0 ∷ wordsFrom n (suc i) w rest
+
+words-from : (n i : ℕ) (w : List ℕ) → i + n ≤ length w → wordsFrom n i w (drop (i + n) w) ≡ drop i w
+words-from zero i w h = rw add-zero
+words-from (suc n) i w h =
+    let e : i + suc n ≡ suc i + n = omega arith in
+    rw e (ap (λ (l : List ℕ). getD w i 0 ∷ l) (words-from n (suc i) w (omega arith)) ∙ sym (drop-cons w i 0 (omega arith)))
+
+-- the standby's words that are a state are the words of it
+mode-words : (n : ℕ) → n ≤ 2 → modeWord (modeOf n) ≡ n
+mode-words zero h = refl
+mode-words (suc zero) h = refl
+mode-words (suc (suc zero)) h = refl
+mode-words (suc (suc (suc n))) h = absurd (omega arith)
+
+pub standby-words-again : (w pending processor : List ℕ) → standbyWordsOk w ≡ true → standbyWords (standbyOf w pending processor) ≡ w
+unfolding standbyOf standbyWords firstWords lastWords part
+standby-words-again w pending processor e =
+    let f = standby-word-facts w e in
+    let le : length w ≤ standbyLength = omega (arith, f .many) in
+    let last : wordsFrom 4 75 w [] ≡ drop 75 w = ap (wordsFrom 4 75 w) (sym (drop-of-length-le w le)) ∙ words-from 4 75 w (omega (arith, f .many)) in
+    let rest : take 64 (drop 11 w) ++ drop 75 w ≡ drop 11 w = ap (λ (l : List ℕ). take 64 (drop 11 w) ++ l) (sym (drop-drop 64 11 w)) ∙ take-append-drop 64 (drop 11 w) in
+    rw (flag-words (getD w 78 0) (f .flag), mode-words (getD w 7 0) (f .mode))
+    (ap (λ (l : List ℕ). wordsFrom 11 0 w (take 64 (drop 11 w) ++ l)) last ∙ ap (wordsFrom 11 0 w) rest ∙ words-from 11 0 w (omega (arith, f .many)))
+
+pub primary-refused-words : {w w′ : List ℕ} {next : Primary} {word answer : ℕ} → primaryWordsOk w ≡ true → next ≡ primaryOf w
+    → PrimaryDone (primaryWordsOk w) w next word answer w′ → w′ ≡ w
+primary-refused-words {w} ok same done = done .words ∙ cond-true _ _ _ ok ∙ ap primaryWords same ∙ primary-words-again w ok
+
+pub standby-refused-words : {w w′ : LentStandby} {next : Standby} {word answer : ℕ} → isStandby w ≡ true → next ≡ standbyIn w
+    → StandbyDone (isStandby w) w next word answer w′ → w′ ≡ w
+unfolding standbyOf
+standby-refused-words {w} ok same done =
+    lent-same (done .words ∙ cond-true _ _ _ ok ∙ ap standbyWords same ∙ standby-words-again (w .words) (w .pending) (w .processor) ok)
+    (done .staged ∙ cond-true _ _ _ ok ∙ ap (λ (s : Standby). s .pending) same)
+    (done .kept ∙ cond-true _ _ _ ok ∙ ap (λ (s : Standby). s .processor) same)

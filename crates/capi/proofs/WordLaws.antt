@@ -1,0 +1,106 @@
+-- Laws of words: their fields of 32 bits, the answer's parts, and the loops that read and store them. Assumes nothing.
+use mathlib.Core.Path.{_≡_, refl, sym, ap, _∙_}
+use mathlib.Core.List.{List, [], _∷_, _++_}
+use mathlib.Core.Bool.{Bool, true, false, _&&_, cond}
+use Prim.Native.Nat.{ℕ, suc, zero, _+_, _*_, _-_, _≤_, _<_}
+use native.Mathlib.Numerals.{add-one}
+use native.Mathlib.Omega.{arith}
+use borrow.Author.Tests.{leb-true, le-leb}
+use lib.Dec.{leb}
+use lib.ListN.{length, take, drop, getD, set, length-set}
+use lib.Seq.{take-suc-set, take-suc, take-all, length-take-le, getD-take, getD-drop}
+use Rattle.lists.specs.Part.{part, put}
+use Rattle.lists.proofs.PartLaws.{put-put, length-put, put-none, length-part}
+use Rattle.lists.proofs.ArrayLaws.{set-put, rest-cons, rest-none}
+use Rattle.lists.proofs.ChunkLaws.{part-most}
+use Rattle.lists.proofs.TestLaws.{both, join}
+use Rattle.capi.specs.Word.{isLow, allLow, between, mostField}
+
+-- ---- fields of 32 bits
+
+-- the test of the words from i on, one word more; and no word
+pub low-more : (w : List ℕ) (i n : ℕ) → i < n → n ≤ length w → allLow (between i n w) ≡ (isLow (getD w i 0) && allLow (between (i + 1) n w))
+unfolding allLow
+low-more w i n h k = rw (rest-cons w 0 i n h k)
+
+pub low-end : (w : List ℕ) (i n : ℕ) → n ≤ i → n ≤ length w → allLow (between i n w) ≡ true
+unfolding allLow
+low-end w i n h k = rw (rest-none w i n h k)
+
+-- a word among those that all fit
+low-first : (w : List ℕ) (at to : ℕ) → allLow (between at to w) ≡ true → at < to → to ≤ length w → (getD w at 0 < 4294967296) × (allLow (between (at + 1) to w) ≡ true)
+low-first w at to e h l =
+    let b = both (isLow (getD w at 0)) (allLow (between (at + 1) to w)) (sym (low-more w at to h l) ∙ e) in
+    let n : getD w at 0 ≤ mostField = leb-true (getD w at 0) mostField (b .0) in
+    (omega arith, b .1)
+
+low-from : (w : List ℕ) (d at to i : ℕ) → allLow (between at to w) ≡ true → i ≡ at + d → i < to → to ≤ length w → getD w i 0 < 4294967296
+low-from w zero at to i e p q l = let m : i ≡ at = omega arith in rw m (low-first w at to e (omega arith) l .0)
+low-from w (suc d) at to i e p q l = low-from w d (at + 1) to i (low-first w at to e (omega arith) l .1) (omega arith) q l
+
+pub low-at : (w : List ℕ) (from to i : ℕ) → allLow (between from to w) ≡ true → from ≤ i → i < to → to ≤ length w → getD w i 0 < 4294967296
+low-at w from to i e h k l = low-from w (i - from) from to i e (omega arith) k l
+
+-- words that all fit: none, one and the rest, two parts
+pub low-none : allLow [] ≡ true
+unfolding allLow
+low-none = refl
+
+pub low-cons : (n : ℕ) (w : List ℕ) → n < 4294967296 → allLow w ≡ true → allLow (n ∷ w) ≡ true
+unfolding allLow
+low-cons n w h e = join (isLow n) (allLow w) (le-leb n mostField (omega arith)) e
+
+pub low-append : (a b : List ℕ) → allLow a ≡ true → allLow b ≡ true → allLow (a ++ b) ≡ true
+unfolding allLow
+low-append [] b p q = q
+low-append (n ∷ a) b p q = let e = both (isLow n) (allLow a) p in join (isLow n) (allLow (a ++ b)) (e .0) (low-append a b (e .1) q)
+
+-- one word more is tested
+pub test-more : (a b c : Bool) → (a && b) && c ≡ a && (b && c)
+test-more true b c = refl
+test-more false b c = refl
+
+pub test-end : (a b : Bool) → b ≡ true → a && b ≡ a
+test-end true b e = e
+test-end false b e = refl
+
+-- ---- reading and storing
+module _ {A : Type 0} where
+  pub part-get : (s : List A) (at n i : ℕ) (z : A) → i < n → getD (part at n s) i z ≡ getD s (at + i) z
+  unfolding part
+  part-get s at n i z h = rw (getD-take n (drop at s) i z h, getD-drop at s i z)
+
+  -- an array that is filled with a part of a list
+  pub part-turn : (s l : List A) (at n i : ℕ) (z : A) → i < n → i < length l → at + n ≤ length s → take i l ≡ take i (part at n s)
+      → take (i + 1) (set l i (getD s (at + i) z)) ≡ take (i + 1) (part at n s)
+  part-turn s l at n i z h k m e =
+      let len : length (part at n s) ≡ n = length-part at n s m in
+      let at-i : getD (part at n s) i z ≡ getD s (at + i) z = part-get s at n i z h in
+      rw (add-one i, take-suc-set l i (getD s (at + i) z) k, take-suc (part at n s) i z (omega arith), e, at-i)
+
+  pub part-end : (s l : List A) (at n : ℕ) → length l ≡ n → take n l ≡ take n (part at n s) → l ≡ part at n s
+  part-end s l at n h e = sym (take-all n l (omega arith)) ∙ e ∙ take-all n (part at n s) (part-most at n s)
+
+  -- one element more of a list that is copied in
+  pub store-turn : (d s : List A) (at i : ℕ) (z : A) → i < length s → at + length s ≤ length d
+      → set (put d at (take i s)) (at + i) (getD s i z) ≡ put d at (take (i + 1) s)
+  store-turn d s at i z h k =
+      let n : length (take i s) ≡ i = length-take-le i s (omega arith) in
+      let m : length (put d at (take i s)) ≡ length d = length-put d at (take i s) (omega arith) in
+      let e : at + i ≡ at + length (take i s) = omega arith in
+      set-put (put d at (take i s)) (at + i) (getD s i z) (omega arith)
+      ∙ rw (e, put-put d at (take i s) (getD s i z ∷ []) (omega arith), add-one i, take-suc s i z h)
+
+  pub store-none : (d s : List A) (at : ℕ) → d ≡ put d at (take 0 s)
+  store-none d s at = sym (put-none d at)
+
+  pub store-end : (d s : List A) (at i : ℕ) → i ≡ length s → put d at (take i s) ≡ put d at s
+  store-end d s at i e = ap (put d at) (take-all i s (omega arith))
+
+  -- two stores
+  pub pair-put : (l : List A) (at : ℕ) (a b : A) → at + 2 ≤ length l → set (set l at a) (at + 1) b ≡ put l at (a ∷ b ∷ [])
+  pair-put l at a b h =
+      let e : length (set l at a) ≡ length l = length-set l at a in
+      set-put (set l at a) (at + 1) b (omega arith)
+      ∙ ap (λ (x : List A). put x (at + 1) (b ∷ [])) (set-put l at a (omega arith))
+      ∙ put-put l at (a ∷ []) (b ∷ []) (omega arith)

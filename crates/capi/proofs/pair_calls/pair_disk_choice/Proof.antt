@@ -1,0 +1,50 @@
+-- `pair_calls::pair_disk_choice` meets its contract. Assumes nothing.
+use mathlib.Core.Path.{sym, _∙_}
+use borrow.Author.Needs.{needs}
+use Rattle.capi.proofs.pair_calls.pair_disk_choice.Statement.{statement}
+use Rattle.capi.proofs.pair_calls.pair_disk_choice.Tie as tie
+
+decide-requires : tie.Need-decide-requires
+decide-requires c κs = search needs
+
+enum-told : tie.Need-enum-told
+enum-told c = search needs
+
+reply-requires : tie.Need-reply-requires
+reply-requires c κs = search needs
+
+enum-told-2 : tie.Need-enum-told-2
+enum-told-2 c = search needs
+
+reply-requires-2 : tie.Need-reply-requires-2
+reply-requires-2 c κs = search needs
+
+enum-known-choice : tie.Need-enum-known-choice
+enum-known-choice c = search needs
+
+reply-requires-3 : tie.Need-reply-requires-3
+reply-requires-3 c κs = search needs
+
+returns : tie.Need-returns
+returns c = rw (sym (c .before .before .before .decide .ensures) ∙ c .before .enum-told .given .1) (c .reply .ensures)
+
+returns-2 : tie.Need-returns-2
+returns-2 c = rw (sym (c .before .before .before .decide .ensures) ∙ c .before .enum-told2 .given .1) (c .reply2 .ensures)
+
+returns-3 : tie.Need-returns-3
+returns-3 c = rw (sym (c .before .before .before .before .decide .ensures) ∙ c .before .before .choice .given .1) (c .reply3 .ensures)
+
+pub pair-disk-choice-spec : {M : Type 1} → statement M
+pair-disk-choice-spec =
+    tie.close
+    (tie.spec
+    decide-requires
+    enum-told
+    reply-requires
+    enum-told-2
+    reply-requires-2
+    enum-known-choice
+    reply-requires-3
+    returns
+    returns-2
+    returns-3)

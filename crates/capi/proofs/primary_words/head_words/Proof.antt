@@ -1,0 +1,47 @@
+-- `primary_words::head_words` meets its contract. That the fields of 32 bits fit, their type gives. Assumes nothing.
+use Prim.Native.Nat.{ℕ, _<_}
+use mathlib.Core.Path.{_≡_, refl}
+use mathlib.Core.List.{List, []}
+use mathlib.Core.Bool.{true}
+use native.Mathlib.Omega.{arith}
+use Rattle.capi.specs.Word.{allLow, between}
+use Rattle.capi.specs.PrimaryWords.{headWords}
+use Rattle.capi.proofs.WordLaws.{low-none, low-cons}
+use borrow.Author.Needs.{needs}
+use Rattle.capi.proofs.primary_words.head_words.Statement.{statement}
+use Rattle.capi.proofs.primary_words.head_words.Tie as tie
+
+low : (c : tie.Start) → allLow (between 6 10 (headWords (c .args .p))) ≡ true
+unfolding headWords
+low c =
+    let p = c .args .p in
+    let patience : p .detector .patience < 4294967296 = search needs in
+    let count : p .detector .count < 4294967296 = search needs in
+    let epoch : p .epoch < 4294967296 = search needs in
+    let acknowledged : p .acknowledged < 4294967296 = search needs in
+    low-cons _ _ patience (low-cons _ _ count (low-cons _ _ epoch (low-cons _ _ acknowledged low-none)))
+
+flag-word-requires : tie.Need-flag-word-requires
+flag-word-requires c κs = search needs
+
+cast-t12 : tie.Need-cast-t12
+cast-t12 c = search needs
+
+cast-t13 : tie.Need-cast-t13
+cast-t13 c = search needs
+
+cast-t14 : tie.Need-cast-t14
+cast-t14 c = search needs
+
+cast-t15 : tie.Need-cast-t15
+cast-t15 c = search needs
+
+returns : tie.Need-returns
+unfolding headWords
+returns c =
+    let s = c .before .before .before .before .before .before .before .before in
+    (rw (c .before .before .before .before .flag-word .ensures), low s)
+
+pub head-words-spec : {M : Type 1} → statement M
+head-words-spec =
+    tie.close (tie.spec flag-word-requires cast-t12 cast-t13 cast-t14 cast-t15 returns)

@@ -1,0 +1,65 @@
+-- `primary_words::store_packet` meets its contract. That the fields of 32 bits fit, their type gives. Assumes nothing.
+use Prim.Native.Nat.{ℕ, _<_}
+use mathlib.Core.Path.{_≡_, refl}
+use mathlib.Core.List.{List, [], _∷_}
+use mathlib.Core.Bool.{true}
+use Rattle.capi.specs.Word.{allLow}
+use Rattle.capi.specs.PrimaryWords.{packetWords}
+use Rattle.capi.proofs.WordLaws.{low-none, low-cons, pair-put}
+use native.Mathlib.Omega.{arith}
+use lib.ListN.{length-set}
+use borrow.Author.Needs.{needs}
+use Rattle.capi.proofs.primary_words.store_packet.Statement.{statement}
+use Rattle.capi.proofs.primary_words.store_packet.Tie as tie
+
+low : (c : tie.Start) → allLow (packetWords (c .args .k ∷ [])) ≡ true
+unfolding packetWords
+low c =
+    let k = c .args .k in
+    let epoch : k .epoch < 4294967296 = search needs in
+    let size : k .length < 4294967296 = search needs in
+    low-cons _ _ epoch (low-cons _ _ size low-none)
+
+cast-w : tie.Need-cast-w
+cast-w c = search needs
+
+mul-w : tie.Need-mul-w
+mul-w c = search needs
+
+slice-write-w : tie.Need-slice-write-w
+slice-write-w c = search needs
+
+cast-w-2 : tie.Need-cast-w-2
+cast-w-2 c = search needs
+
+add-w : tie.Need-add-w
+add-w c = search needs
+
+mul-w-2 : tie.Need-mul-w-2
+mul-w-2 c = search needs
+
+slice-write-w-2 : tie.Need-slice-write-w-2
+slice-write-w-2 c = simp length-set (omega arith)
+
+same-length : tie.Need-same-length
+same-length c = search needs
+
+returns : tie.Need-returns
+unfolding packetWords
+returns c =
+    let s = c .before .before in
+    (pair-put (s .args .w .now) (s .args .at) (s .args .k .epoch) (s .args .k .length) (search needs), low s)
+
+pub store-packet-spec : {M : Type 1} → statement M
+store-packet-spec =
+    tie.close
+    (tie.spec
+    cast-w
+    mul-w
+    slice-write-w
+    cast-w-2
+    add-w
+    mul-w-2
+    slice-write-w-2
+    same-length
+    returns)

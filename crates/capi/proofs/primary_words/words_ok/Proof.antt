@@ -1,0 +1,28 @@
+-- `primary_words::words_ok` meets its contract. Assumes nothing.
+use borrow.Author.Tests.{eq-eqb, ne-eqb}
+use Rattle.capi.specs.PrimaryWords.{primaryWordsOk}
+use borrow.Author.Needs.{needs}
+use Rattle.capi.proofs.primary_words.words_ok.Statement.{statement}
+use Rattle.capi.proofs.primary_words.words_ok.Tie as tie
+
+returns : tie.Need-returns
+unfolding primaryWordsOk
+returns c = simp (ne-eqb _ _ (c .if1 .taken))
+
+all-low-requires : tie.Need-all-low-requires
+all-low-requires c κs = search needs
+
+all-low-requires-2 : tie.Need-all-low-requires-2
+all-low-requires-2 c κs = search needs
+
+shared-slice-read-result : tie.Need-shared-slice-read-result
+shared-slice-read-result c = search needs
+
+returns-2 : tie.Need-returns-2
+unfolding primaryWordsOk
+returns-2 c = rw (eq-eqb _ _ (c .before .before .before .if1 .left), c .before .before .all-low .ensures, c .before .all-low2 .ensures)
+
+pub words-ok-spec : {M : Type 1} → statement M
+words-ok-spec =
+    tie.close
+    (tie.spec returns all-low-requires all-low-requires-2 shared-slice-read-result returns-2)

@@ -1,0 +1,37 @@
+-- `standby_words::words_ok` meets its contract. Assumes nothing.
+use borrow.Author.Tests.{eq-eqb, ne-eqb}
+use Rattle.capi.specs.StandbyWords.{standbyWordsOk}
+use borrow.Author.Needs.{needs}
+use Rattle.capi.proofs.standby_words.words_ok.Statement.{statement}
+use Rattle.capi.proofs.standby_words.words_ok.Tie as tie
+
+returns : tie.Need-returns
+unfolding standbyWordsOk
+returns c = simp (ne-eqb _ _ (c .if1 .taken))
+
+all-low-requires : tie.Need-all-low-requires
+all-low-requires c κs = search needs
+
+shared-slice-read-result : tie.Need-shared-slice-read-result
+shared-slice-read-result c = search needs
+
+shared-slice-read-result-2 : tie.Need-shared-slice-read-result-2
+shared-slice-read-result-2 c = search needs
+
+shared-slice-read-result-3 : tie.Need-shared-slice-read-result-3
+shared-slice-read-result-3 c = search needs
+
+returns-2 : tie.Need-returns-2
+unfolding standbyWordsOk
+returns-2 c = rw (eq-eqb _ _ (c .before .before .before .before .if1 .left), c .before .before .before .all-low .ensures)
+
+pub words-ok-spec : {M : Type 1} → statement M
+words-ok-spec =
+    tie.close
+    (tie.spec
+    returns
+    all-low-requires
+    shared-slice-read-result
+    shared-slice-read-result-2
+    shared-slice-read-result-3
+    returns-2)

@@ -1,0 +1,62 @@
+-- `word::all_low` meets its contract. The loop's invariant: the words passed and the test of the rest. Assumes nothing.
+use Prim.Native.Nat.{ℕ, _+_, _-_, _≤_}
+use mathlib.Core.Path.{_≡_, refl, sym, ap, _∙_}
+use mathlib.Core.Bool.{Bool, true, _&&_}
+use native.Mathlib.Omega.{arith}
+use lib.ListN.{getD}
+use Rattle.capi.specs.Word.{isLow, allLow, between}
+use Rattle.capi.proofs.WordLaws.{low-more, low-end, test-more, test-end}
+use borrow.Author.Needs.{needs}
+use Rattle.capi.proofs.word.all_low.Statement.{statement}
+use Rattle.capi.proofs.word.all_low.Tie as tie
+
+abbrev Inv-loop : tie.InvT-loop
+Inv-loop w from to low₀ i₀ low i = (from ≤ i) × (i ≤ to) × ((low && allLow (between i to w)) ≡ allLow (between from to w))
+
+abbrev μ-loop : tie.MeasureT-loop
+μ-loop w from to low₀ i₀ low i = to - i
+
+loop-holds : tie.Need-loop-holds Inv-loop μ-loop
+loop-holds c = (omega arith, omega arith, refl)
+
+mul-low : tie.Need-mul-low Inv-loop μ-loop
+mul-low c = search needs
+
+shared-slice-read-low : tie.Need-shared-slice-read-low Inv-loop μ-loop
+shared-slice-read-low c = search needs
+
+add-i : tie.Need-add-i Inv-loop μ-loop
+add-i c = search needs
+
+loop-less : tie.Need-loop-less Inv-loop μ-loop
+loop-less c = search needs
+
+loop-again : tie.Need-loop-again Inv-loop μ-loop
+loop-again c =
+    let a = c .before .before .before .args in
+    let l = c .before .before .loop in (
+      omega arith,
+      omega arith,
+      test-more (l .low) (isLow (getD (a .w .now) (l .i) 0)) (allLow (between (l .i + 1) (a .to) (a .w .now)))
+          ∙ ap (λ (x : Bool). l .low && x) (sym (low-more (a .w .now) (l .i) (a .to) (omega arith) (omega arith))) ∙ l .inv .2,
+    )
+
+returns : tie.Need-returns Inv-loop μ-loop
+returns c =
+    let a = c .before .before .args in
+    let l = c .before .loop in
+    sym (test-end (l .low) (allLow (between (l .i) (a .to) (a .w .now))) (low-end (a .w .now) (l .i) (a .to) (omega arith) (omega arith))) ∙ l .inv .2
+
+pub all-low-spec : {M : Type 1} → statement M
+all-low-spec =
+    tie.close
+    (tie.spec
+    Inv-loop
+    μ-loop
+    loop-holds
+    mul-low
+    shared-slice-read-low
+    add-i
+    loop-less
+    loop-again
+    returns)

@@ -1,0 +1,72 @@
+-- Start, which makes the words of both states, and the disk choice. Assumes nothing.
+use Prim.Native.Nat.{ℕ, min}
+use mathlib.Core.Bool.{Bool, _&&_}
+use mathlib.Core.List.{List}
+use lib.Dec.{eqb}
+use lib.ListN.{length, getD}
+use Rattle.settings.specs.declared.Settings.{Settings}
+use Rattle.rules.specs.declared.Choice.{Choice}
+use Rattle.rules.specs.declared.Choice.the-variants as choice-of
+use Rattle.rules.specs.Choose.{choiceNumber}
+use Rattle.rules.specs.Start.{started, startMarks, startCopy, startArea}
+use Rattle.rules.specs.World.{Buffers, startLent}
+use Rattle.capi.specs.Word.{replyWord, mostField, Left}
+use Rattle.capi.specs.PrimaryWords.{primaryLength}
+use Rattle.capi.specs.StandbyWords.{standbyLength}
+use Rattle.capi.specs.PrimaryCalls.{PrimaryDone}
+use Rattle.capi.specs.StandbyCalls.{LentStandby, StandbyDone}
+
+-- ---- the settings as words: U M D B S Q L T. A T above every 32-bit number is out of its range, and so is the largest of
+-- these, as which it is taken
+abbrev pub settingsLength : ℕ
+settingsLength = 8
+
+unfoldable pub settingsOf : List ℕ → Settings
+settingsOf w =
+    record { u = getD w 0 0; m = getD w 1 0; d = getD w 2 0; b = getD w 3 0; s = getD w 4 0; q = getD w 5 0; l = getD w 6 0; t = min (getD w 7 0) mostField }
+
+-- as many words as there are settings, and room for the words of both states; else 1, and nothing changes
+unfoldable pub startWordsOk : List ℕ → List ℕ → List ℕ → Bool
+startWordsOk settings primary standby =
+    eqb (length settings) settingsLength && eqb (length primary) primaryLength && eqb (length standby) standbyLength
+
+-- the words of both states, those of a refused start too, and the five buffers that start changes
+abbrev pub StartDone : (settings first : List ℕ) (b : Buffers) (primary : List ℕ) (standby : LentStandby) (answer : ℕ) (dirty′ memory′ disk′ marks′ area′ primary′ : List ℕ) (standby′ : LentStandby) → Type 0
+StartDone settings first b primary standby answer dirty′ memory′ disk′ marks′ area′ primary′ standby′ =
+    let g = settingsOf settings in
+    let l = startLent b in
+    let made = started g l first in
+    let ok = startWordsOk settings primary (standby .words) in
+    PrimaryDone ok primary (made .primary) (replyWord (made .number) 0) answer primary′
+    × StandbyDone ok standby (made .standby) (replyWord (made .number) 0) answer standby′
+    × Left ok (startMarks g l (b .dirty)) (b .dirty) dirty′
+    × Left ok (startCopy g l (b .memory) (b .standbyMemory)) (b .standbyMemory) memory′
+    × Left ok (startCopy g l (b .disk) (b .standbyDisk)) (b .standbyDisk) disk′
+    × Left ok (startMarks g l (b .stagedMarks)) (b .stagedMarks) marks′
+    × Left ok (startArea g l (b .area)) (b .area) area′
+
+-- the eleven buffers that start is lent
+abbrev pub lentBuffers : (memory disk dirty held stream standbyMemory standbyDisk stagedPages stagedMarks stagedBlocks area : List ℕ) → Buffers
+lentBuffers memory disk dirty held stream standbyMemory standbyDisk stagedPages stagedMarks stagedBlocks area =
+    record {
+      memory = memory;
+      disk = disk;
+      dirty = dirty;
+      held = held;
+      stream = stream;
+      standbyMemory = standbyMemory;
+      standbyDisk = standbyDisk;
+      stagedPages = stagedPages;
+      stagedMarks = stagedMarks;
+      stagedBlocks = stagedBlocks;
+      area = area;
+    }
+
+-- ---- the disk choice: its value is 1 for the primary's disk, 2 for the standby's, 0 where there is none
+abbrev pub diskValue : Choice → ℕ
+diskValue choice-of.PrimaryDisk = 1
+diskValue choice-of.StandbyDisk = 2
+diskValue (choice-of.Refused n) = 0
+
+abbrev pub choiceWord : Choice → ℕ
+choiceWord c = replyWord (choiceNumber c) (diskValue c)

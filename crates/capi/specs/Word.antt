@@ -1,0 +1,60 @@
+-- Numbers, flags and answers as 64-bit words. Assumes nothing.
+use Prim.Native.Nat.{ℕ, _+_, _*_, _/_, _%_}
+use mathlib.Core.Path.{_≡_}
+use mathlib.Core.Bool.{Bool, true, _&&_, cond}
+use mathlib.Core.List.{List, [], _∷_}
+use lib.Dec.{leb, eqb}
+use lib.ListN.{take, drop}
+use Rattle.rules.specs.declared.Answer.{Answer}
+use Rattle.rules.specs.Reply.{numberOf, valueOf, usedOf}
+
+-- ---- the answer of a call as one word: the number in the low 16 bits, the bytes used in the next 16, the value above
+abbrev pub answerWord : ℕ → ℕ → ℕ → ℕ
+answerWord number used value = number % 65536 + 65536 * (used % 65536) + 4294967296 * (value % 4294967296)
+
+-- its three parts, as the caller takes them out
+abbrev pub answerNumber : ℕ → ℕ
+answerNumber word = word % 65536
+
+abbrev pub answerUsed : ℕ → ℕ
+answerUsed word = word / 65536 % 65536
+
+abbrev pub answerValue : ℕ → ℕ
+answerValue word = word / 4294967296
+
+-- of a call that reads no record
+abbrev pub replyWord : ℕ → ℕ → ℕ
+replyWord number value = answerWord number 0 value
+
+-- of one that reads a record; cut short has its number, 256
+abbrev pub toldWord : Answer → ℕ
+toldWord a = answerWord (numberOf a) (usedOf a) (valueOf a)
+
+-- ---- a word that fits a field of 32 bits
+abbrev pub mostField : ℕ
+mostField = 4294967295
+
+abbrev pub isLow : ℕ → Bool
+isLow n = leb n mostField
+
+unfoldable pub allLow : List ℕ → Bool
+allLow [] = true
+allLow (n ∷ ns) = isLow n && allLow ns
+
+-- the words from one place on, up to another
+abbrev pub between : ℕ → ℕ → List ℕ → List ℕ
+between from to w = drop from (take to w)
+
+-- ---- a flag: 0 or 1
+abbrev pub isFlag : ℕ → Bool
+isFlag n = leb n 1
+
+abbrev pub flagOf : ℕ → Bool
+flagOf n = eqb n 1
+
+abbrev pub flagWord : Bool → ℕ
+flagWord b = cond b 1 0
+
+-- ---- what a call leaves of what it is lent: the new where it is lent a state, else the old
+abbrev pub Left : Bool → List ℕ → List ℕ → List ℕ → Type 0
+Left ok new old after = after ≡ cond ok new old

@@ -1,0 +1,7 @@
+// Every call of the two ends, start and the disk choice, for C: a state is lent as words, and the answer is one word.
+mod pair_calls;
+mod primary_calls;
+mod primary_words;
+mod standby_calls;
+mod standby_words;
+mod word;

@@ -1,0 +1,151 @@
+// The primary's calls.
+ghost use Rattle.capi.specs.PrimaryCalls.{MemoryWriteDone, DiskWriteDone, PacketDone, CheckpointDone, DrainDone, AckDone, TakeDone, PrimaryTickDone};
+use crate::primary_words;
+use crate::word;
+use records::number;
+
+// Bytes inside one page; the page becomes dirty.
+#[no_mangle]
+pub extern "C" fn primary_memory_write(
+    state: &mut [u64],
+    memory: &mut [u8],
+    dirty: &mut [u64],
+    page: usize,
+    offset: usize,
+    bytes: &[u8],
+) -> u64
+    ensures { λ r. ⌜ MemoryWriteDone (now (state .entry)) (now (memory .entry)) (now (dirty .entry)) page offset (now (bytes .entry)) r (now (state .exit)) (now (memory .exit)) (now (dirty .exit)) ⌝ }
+{
+    if !primary_words::words_ok(state) {
+        return number::OUT_OF_RANGE;
+    }
+    let p = primary_words::primary_of(state);
+    let r = primary::writes::memory_write(p, memory, dirty, page, offset, bytes);
+    let next = r.state;
+    primary_words::store(state, next);
+    word::reply(r.number, r.value)
+}
+
+// One block.
+#[no_mangle]
+pub extern "C" fn primary_disk_write(
+    state: &mut [u64],
+    disk: &mut [u8],
+    stream: &mut [u8],
+    block: usize,
+    bytes: &[u8],
+) -> u64
+    ensures { λ r. ⌜ DiskWriteDone (now (state .entry)) (now (disk .entry)) (now (stream .entry)) block (now (bytes .entry)) r (now (state .exit)) (now (disk .exit)) (now (stream .exit)) ⌝ }
+{
+    if !primary_words::words_ok(state) {
+        return number::OUT_OF_RANGE;
+    }
+    let p = primary_words::primary_of(state);
+    let r = primary::writes::disk_write(p, disk, stream, block, bytes);
+    let next = r.state;
+    primary_words::store(state, next);
+    word::reply(r.number, r.value)
+}
+
+// A packet is held with the open epoch.
+#[no_mangle]
+pub extern "C" fn primary_packet(state: &mut [u64], held: &mut [u8], bytes: &[u8]) -> u64
+    ensures { λ r. ⌜ PacketDone (now (state .entry)) (now (held .entry)) (now (bytes .entry)) r (now (state .exit)) (now (held .exit)) ⌝ }
+{
+    if !primary_words::words_ok(state) {
+        return number::OUT_OF_RANGE;
+    }
+    let p = primary_words::primary_of(state);
+    let r = primary::packets::packet(p, held, bytes);
+    let next = r.state;
+    primary_words::store(state, next);
+    word::reply(r.number, r.value)
+}
+
+// Every dirty page, STATE and COMMIT go to the stream; the next epoch is open.
+#[no_mangle]
+pub extern "C" fn primary_checkpoint(
+    state: &mut [u64],
+    memory: &[u8],
+    dirty: &mut [u64],
+    stream: &mut [u8],
+    processor: &[u8; 64],
+) -> u64
+    ensures { λ r. ⌜ CheckpointDone (now (state .entry)) (now (memory .entry)) (now (dirty .entry)) (now (stream .entry)) (now (processor .entry)) r (now (state .exit)) (now (dirty .exit)) (now (stream .exit)) ⌝ }
+{
+    if !primary_words::words_ok(state) {
+        return number::OUT_OF_RANGE;
+    }
+    let at_checkpoint = *processor;
+    let p = primary_words::primary_of(state);
+    let r = primary::checkpoint::checkpoint(p, memory, dirty, stream, at_checkpoint);
+    let next = r.state;
+    primary_words::store(state, next);
+    word::reply(r.number, r.value)
+}
+
+// The head of the stream moves to the destination.
+#[no_mangle]
+pub extern "C" fn primary_drain(
+    state: &mut [u64],
+    stream: &mut [u8],
+    n: usize,
+    destination: &mut [u8],
+) -> u64
+    ensures { λ r. ⌜ DrainDone (now (state .entry)) (now (stream .entry)) n (now (destination .entry)) r (now (state .exit)) (now (stream .exit)) (now (destination .exit)) ⌝ }
+{
+    if !primary_words::words_ok(state) {
+        return number::OUT_OF_RANGE;
+    }
+    let p = primary_words::primary_of(state);
+    let r = primary::stream::drain(p, stream, n, destination);
+    let next = r.state;
+    primary_words::store(state, next);
+    word::reply(r.number, r.value)
+}
+
+// Reads an ACK.
+#[no_mangle]
+pub extern "C" fn primary_acknowledge(state: &mut [u64], bytes: &[u8]) -> u64
+    ensures { λ r. ⌜ AckDone (now (state .entry)) (now (bytes .entry)) r (now (state .exit)) ⌝ }
+{
+    if !primary_words::words_ok(state) {
+        return number::OUT_OF_RANGE;
+    }
+    let p = primary_words::primary_of(state);
+    let r = primary::stream::acknowledge(p, bytes);
+    let next = r.state;
+    let answer = r.answer;
+    primary_words::store(state, next);
+    word::told(answer)
+}
+
+// The oldest packet, if it is free to go.
+#[no_mangle]
+pub extern "C" fn primary_take(state: &mut [u64], held: &mut [u8], destination: &mut [u8]) -> u64
+    ensures { λ r. ⌜ TakeDone (now (state .entry)) (now (held .entry)) (now (destination .entry)) r (now (state .exit)) (now (held .exit)) (now (destination .exit)) ⌝ }
+{
+    if !primary_words::words_ok(state) {
+        return number::OUT_OF_RANGE;
+    }
+    let p = primary_words::primary_of(state);
+    let r = primary::packets::take(p, held, destination);
+    let next = r.state;
+    primary_words::store(state, next);
+    word::reply(r.number, r.value)
+}
+
+// A tick.
+#[no_mangle]
+pub extern "C" fn primary_tick(state: &mut [u64]) -> u64
+    ensures { λ r. ⌜ PrimaryTickDone (now (state .entry)) r (now (state .exit)) ⌝ }
+{
+    if !primary_words::words_ok(state) {
+        return number::OUT_OF_RANGE;
+    }
+    let p = primary_words::primary_of(state);
+    let r = primary::tick::tick(p);
+    let next = r.state;
+    primary_words::store(state, next);
+    word::reply(r.number, r.value)
+}

@@ -1,0 +1,151 @@
+// The primary's state as words.
+ghost use mathlib.Core.Path.{_≡_};
+ghost use mathlib.Core.Bool.{true};
+ghost use mathlib.Core.List.{[], _∷_};
+ghost use Prim.Native.Nat.{_<_, _≤_, _+_};
+ghost use lib.ListN.{length, drop};
+ghost use Rattle.lists.specs.Part.{put};
+ghost use Rattle.capi.specs.Word.{allLow, between};
+ghost use Rattle.capi.specs.PrimaryWords.{primaryLength, packetsAt, packetsOf, primaryOf, packetWords, headWords, primaryWords, primaryWordsOk};
+use crate::word;
+use detector::Detector;
+use queue::Packet;
+use queue::Queue;
+use rules::Primary;
+use settings::MOST_PACKETS;
+use settings::PrimarySettings;
+
+// How many words a state has, and where its packets begin.
+pub const LENGTH: usize = 143;
+
+const PACKETS: usize = 15;
+
+// Whether words are a state.
+pub fn words_ok(w: &[u64]) -> bool
+    ensures { λ r. ⌜ r ≡ primaryWordsOk (now (w .entry)) ⌝ }
+{
+    if w.len() != LENGTH {
+        return false;
+    }
+    let numbers = word::all_low(w, 6, 10);
+    let packets = word::all_low(w, PACKETS, LENGTH);
+    numbers & (w[10] <= 1) & packets
+}
+
+fn packets_of(w: &[u64]) -> [Packet; 64]
+    requires { ⌜ primaryWordsOk (now w) ≡ true ⌝ }
+    ensures { λ r. ⌜ r ≡ packetsOf (drop packetsAt (now (w .entry))) ⌝ }
+{
+    let none = Packet {
+        epoch: 0,
+        length: 0,
+    };
+    let mut packets = [none; MOST_PACKETS];
+    let mut i = 0;
+    while i < MOST_PACKETS {
+        let at = PACKETS + 2 * i;
+        packets[i] = Packet {
+            epoch: word::field(w[at]),
+            length: word::field(w[at + 1]),
+        };
+        i += 1;
+    }
+    packets
+}
+
+// The state of words.
+pub fn primary_of(w: &[u64]) -> Primary
+    requires { ⌜ primaryWordsOk (now w) ≡ true ⌝ }
+    ensures { λ r. ⌜ r ≡ primaryOf (now (w .entry)) ⌝ }
+{
+    let settings = PrimarySettings {
+        u: w[0] as usize,
+        m: w[1] as usize,
+        d: w[2] as usize,
+        b: w[3] as usize,
+        q: w[4] as usize,
+        l: w[5] as usize,
+    };
+    let detector = Detector {
+        patience: word::field(w[6]),
+        count: word::field(w[7]),
+    };
+    let packets = packets_of(w);
+    let queue = Queue {
+        count: w[13] as usize,
+        bytes: w[14] as usize,
+        packets: packets,
+    };
+    Primary {
+        settings: settings,
+        detector: detector,
+        epoch: word::field(w[8]),
+        acknowledged: word::field(w[9]),
+        alone: word::flag_of(w[10]),
+        blocks: w[11] as usize,
+        waiting: w[12] as usize,
+        queue: queue,
+    }
+}
+
+fn head_words(p: Primary) -> [u64; 15]
+    ensures { λ r. ⌜ r ≡ headWords p ⌝ }
+    ensures { λ r. ⌜ allLow (between 6 10 r) ≡ true ⌝ }
+{
+    let g = p.settings;
+    let d = p.detector;
+    let k = p.queue;
+    let alone = word::flag_word(p.alone);
+    [
+        g.u as u64,
+        g.m as u64,
+        g.d as u64,
+        g.b as u64,
+        g.q as u64,
+        g.l as u64,
+        d.patience as u64,
+        d.count as u64,
+        p.epoch as u64,
+        p.acknowledged as u64,
+        alone,
+        p.blocks as u64,
+        p.waiting as u64,
+        k.count as u64,
+        k.bytes as u64,
+    ]
+}
+
+fn store_packet(w: &mut [u64], at: usize, k: Packet)
+    requires { ⌜ at + 2 ≤ length (now w) ⌝ }
+    ensures { λ _. ⌜ now (w .exit) ≡ put (now (w .entry)) at (packetWords (k ∷ [])) ⌝ }
+    ensures { λ _. ⌜ allLow (packetWords (k ∷ [])) ≡ true ⌝ }
+{
+    w[at] = k.epoch as u64;
+    w[at + 1] = k.length as u64;
+}
+
+fn store_packets(w: &mut [u64], packets: [Packet; 64])
+    requires { ⌜ length (now w) ≡ primaryLength ⌝ }
+    ensures { λ _. ⌜ now (w .exit) ≡ put (now (w .entry)) packetsAt (packetWords packets) ⌝ }
+    ensures { λ _. ⌜ allLow (packetWords packets) ≡ true ⌝ }
+{
+    let mut i = 0;
+    while i < MOST_PACKETS {
+        let k = packets[i];
+        store_packet(w, PACKETS + 2 * i, k);
+        i += 1;
+    }
+}
+
+// Leaves the words of a state. That they are a state again, the types of its fields give.
+pub fn store(w: &mut [u64], p: Primary)
+    requires { ⌜ length (now w) ≡ primaryLength ⌝ }
+    ensures { λ _. ⌜ now (w .exit) ≡ primaryWords p ⌝ }
+    ensures { λ _. ⌜ primaryWordsOk (now (w .exit)) ≡ true ⌝ }
+{
+    let k = p.queue;
+    let packets = k.packets;
+    let head = head_words(p);
+    word::store_at(w, 0, &head);
+    store_packets(w, packets);
+}

@@ -1,0 +1,174 @@
+// The standby's calls. Its two processor states, the staged and the kept one, are lent beside its words.
+ghost use Rattle.capi.specs.StandbyCalls.{asLent, ReadDone, FlushDone, StandbyTickDone, ActivationDone, ActiveMemoryWriteDone, ActiveDiskWriteDone};
+use crate::standby_words;
+use crate::word;
+use records::number;
+
+// Reads one record of the stream.
+#[no_mangle]
+pub extern "C" fn standby_read(
+    state: &mut [u64],
+    pending: &mut [u8; 64],
+    processor: &mut [u8; 64],
+    memory: &mut [u8],
+    pages: &mut [u8],
+    marks: &mut [u64],
+    blocks: &mut [u8],
+    bytes: &[u8],
+    reply: &mut [u8],
+) -> u64
+    ensures { λ r. ⌜ ReadDone (asLent (now (state .entry)) (now (pending .entry)) (now (processor .entry))) (now (memory .entry)) (now (pages .entry)) (now (marks .entry)) (now (blocks .entry)) (now (bytes .entry)) (now (reply .entry)) r (asLent (now (state .exit)) (now (pending .exit)) (now (processor .exit))) (now (memory .exit)) (now (pages .exit)) (now (marks .exit)) (now (blocks .exit)) (now (reply .exit)) ⌝ }
+{
+    if !standby_words::words_ok(state) {
+        return number::OUT_OF_RANGE;
+    }
+    let staged = *pending;
+    let kept = *processor;
+    let s = standby_words::standby_of(state, staged, kept);
+    let r = standby::read::read(s, bytes, memory, pages, marks, blocks, reply);
+    let next = r.state;
+    let answer = r.answer;
+    standby_words::store(state, next);
+    let next_staged = next.pending;
+    let next_kept = next.processor;
+    *pending = next_staged;
+    *processor = next_kept;
+    word::told(answer)
+}
+
+// Stores blocks that are due.
+#[no_mangle]
+pub extern "C" fn standby_flush(
+    state: &mut [u64],
+    pending: &mut [u8; 64],
+    processor: &mut [u8; 64],
+    blocks: &mut [u8],
+    disk: &mut [u8],
+    n: usize,
+) -> u64
+    ensures { λ r. ⌜ FlushDone (asLent (now (state .entry)) (now (pending .entry)) (now (processor .entry))) (now (blocks .entry)) (now (disk .entry)) n r (asLent (now (state .exit)) (now (pending .exit)) (now (processor .exit))) (now (blocks .exit)) (now (disk .exit)) ⌝ }
+{
+    if !standby_words::words_ok(state) {
+        return number::OUT_OF_RANGE;
+    }
+    let staged = *pending;
+    let kept = *processor;
+    let s = standby_words::standby_of(state, staged, kept);
+    let r = standby::flush::flush(s, blocks, disk, n);
+    let next = r.state;
+    standby_words::store(state, next);
+    let next_staged = next.pending;
+    let next_kept = next.processor;
+    *pending = next_staged;
+    *processor = next_kept;
+    word::reply(r.number, r.value)
+}
+
+// A tick.
+#[no_mangle]
+pub extern "C" fn standby_tick(
+    state: &mut [u64],
+    pending: &mut [u8; 64],
+    processor: &mut [u8; 64],
+    marks: &mut [u64],
+) -> u64
+    ensures { λ r. ⌜ StandbyTickDone (asLent (now (state .entry)) (now (pending .entry)) (now (processor .entry))) (now (marks .entry)) r (asLent (now (state .exit)) (now (pending .exit)) (now (processor .exit))) (now (marks .exit)) ⌝ }
+{
+    if !standby_words::words_ok(state) {
+        return number::OUT_OF_RANGE;
+    }
+    let staged = *pending;
+    let kept = *processor;
+    let s = standby_words::standby_of(state, staged, kept);
+    let r = standby::takeover::tick(s, marks);
+    let next = r.state;
+    standby_words::store(state, next);
+    let next_staged = next.pending;
+    let next_kept = next.processor;
+    *pending = next_staged;
+    *processor = next_kept;
+    word::reply(r.number, r.value)
+}
+
+// Activation.
+#[no_mangle]
+pub extern "C" fn standby_activate(
+    state: &mut [u64],
+    pending: &mut [u8; 64],
+    processor: &mut [u8; 64],
+    area: &mut [u8],
+) -> u64
+    ensures { λ r. ⌜ ActivationDone (asLent (now (state .entry)) (now (pending .entry)) (now (processor .entry))) (now (area .entry)) r (asLent (now (state .exit)) (now (pending .exit)) (now (processor .exit))) (now (area .exit)) ⌝ }
+{
+    if !standby_words::words_ok(state) {
+        return number::OUT_OF_RANGE;
+    }
+    let staged = *pending;
+    let kept = *processor;
+    let s = standby_words::standby_of(state, staged, kept);
+    let r = standby::takeover::activate(s, area);
+    let next = r.state;
+    standby_words::store(state, next);
+    let next_staged = next.pending;
+    let next_kept = next.processor;
+    *pending = next_staged;
+    *processor = next_kept;
+    word::reply(r.number, r.value)
+}
+
+// The guest's write once the standby is active.
+#[no_mangle]
+pub extern "C" fn standby_memory_write(
+    state: &mut [u64],
+    pending: &mut [u8; 64],
+    processor: &mut [u8; 64],
+    memory: &mut [u8],
+    page: usize,
+    offset: usize,
+    bytes: &[u8],
+) -> u64
+    ensures { λ r. ⌜ ActiveMemoryWriteDone (asLent (now (state .entry)) (now (pending .entry)) (now (processor .entry))) (now (memory .entry)) page offset (now (bytes .entry)) r (asLent (now (state .exit)) (now (pending .exit)) (now (processor .exit))) (now (memory .exit)) ⌝ }
+{
+    if !standby_words::words_ok(state) {
+        return number::OUT_OF_RANGE;
+    }
+    let staged = *pending;
+    let kept = *processor;
+    let s = standby_words::standby_of(state, staged, kept);
+    let r = standby::takeover::memory_write(s, memory, page, offset, bytes);
+    let next = r.state;
+    standby_words::store(state, next);
+    let next_staged = next.pending;
+    let next_kept = next.processor;
+    *pending = next_staged;
+    *processor = next_kept;
+    word::reply(r.number, r.value)
+}
+
+// The same of a block.
+#[no_mangle]
+pub extern "C" fn standby_disk_write(
+    state: &mut [u64],
+    pending: &mut [u8; 64],
+    processor: &mut [u8; 64],
+    disk: &mut [u8],
+    block: usize,
+    bytes: &[u8],
+) -> u64
+    ensures { λ r. ⌜ ActiveDiskWriteDone (asLent (now (state .entry)) (now (pending .entry)) (now (processor .entry))) (now (disk .entry)) block (now (bytes .entry)) r (asLent (now (state .exit)) (now (pending .exit)) (now (processor .exit))) (now (disk .exit)) ⌝ }
+{
+    if !standby_words::words_ok(state) {
+        return number::OUT_OF_RANGE;
+    }
+    let staged = *pending;
+    let kept = *processor;
+    let s = standby_words::standby_of(state, staged, kept);
+    let r = standby::takeover::disk_write(s, disk, block, bytes);
+    let next = r.state;
+    standby_words::store(state, next);
+    let next_staged = next.pending;
+    let next_kept = next.processor;
+    *pending = next_staged;
+    *processor = next_kept;
+    word::reply(r.number, r.value)
+}

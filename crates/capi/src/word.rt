@@ -1,0 +1,84 @@
+// Numbers, flags and answers as 64-bit words.
+ghost use mathlib.Core.Path.{_≡_};
+ghost use Prim.Native.Nat.{_<_, _≤_, _+_};
+ghost use lib.ListN.{length};
+ghost use Rattle.lists.specs.Part.{put};
+ghost use Rattle.capi.specs.Word.{replyWord, toldWord, answerWord, allLow, between, flagOf, flagWord};
+use records::CUT_SHORT;
+use rules::Answer;
+
+// The largest number of a field of 32 bits.
+pub const MOST_FIELD: u64 = 4294967295;
+
+// Whether the words from one place on, up to another, all fit a field of 32 bits. It looks at each of them, so that the compiler can look at several at once.
+pub fn all_low(w: &[u64], from: usize, to: usize) -> bool
+    requires { ⌜ (from ≤ to) × (to ≤ length (now w)) ⌝ }
+    ensures { λ r. ⌜ r ≡ allLow (between from to (now (w .entry))) ⌝ }
+{
+    let mut low = true;
+    let mut i = from;
+    while i < to {
+        low = low & (w[i] <= MOST_FIELD);
+        i += 1;
+    }
+    low
+}
+
+// A word that fits a field of 32 bits, as that field.
+pub fn field(n: u64) -> u32
+    requires { ⌜ n < 4294967296 ⌝ }
+    ensures { λ r. ⌜ r ≡ n ⌝ }
+{
+    n as u32
+}
+
+pub fn flag_of(n: u64) -> bool
+    ensures { λ r. ⌜ r ≡ flagOf n ⌝ }
+{
+    n == 1
+}
+
+pub fn flag_word(b: bool) -> u64
+    ensures { λ r. ⌜ r ≡ flagWord b ⌝ }
+{
+    if b {
+        return 1;
+    }
+    0
+}
+
+fn answer(number: u64, used: u64, value: u64) -> u64
+    ensures { λ r. ⌜ r ≡ answerWord number used value ⌝ }
+{
+    number % 65536 + 65536 * (used % 65536) + 4294967296 * (value % 4294967296)
+}
+
+// The answer of a call that reads no record.
+pub fn reply(number: u64, value: u64) -> u64
+    ensures { λ r. ⌜ r ≡ replyWord number value ⌝ }
+{
+    answer(number, 0, value)
+}
+
+// The answer of a call that reads a record.
+pub fn told(a: Answer) -> u64
+    ensures { λ r. ⌜ r ≡ toldWord a ⌝ }
+{
+    match a {
+        Answer::Accepted { value, used } => answer(0, used as u64, value),
+        Answer::Short => answer(CUT_SHORT, 0, 0),
+        Answer::Refused { number } => answer(number, 0, 0),
+    }
+}
+
+// Copies words in at a place.
+pub fn store_at(w: &mut [u64], at: usize, src: &[u64])
+    requires { ⌜ at + length (now src) ≤ length (now w) ⌝ }
+    ensures { λ _. ⌜ now (w .exit) ≡ put (now (w .entry)) at (now (src .entry)) ⌝ }
+{
+    let mut i = 0;
+    while i < src.len() {
+        w[at + i] = src[i];
+        i += 1;
+    }
+}
