@@ -4,7 +4,7 @@
 //! The compared things run by turns, in short batches. A time is the median of its batches, in processor time of
 //! this thread. What has to be made anew before each call is timed by itself and taken off.
 
-#[path = "../tests/drive/model.rs"]
+#[path = "../tests/calls/model.rs"]
 mod model;
 
 mod cases;

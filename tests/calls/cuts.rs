@@ -1,14 +1,15 @@
 //! The cut, by running: lists of calls with the plain pair beside them, cut at every place.
 //!
-//! Everything goes through the program, and its answers are compared line by line with the model's; so what is
-//! checked here on the model's world is checked of the program's answers.
+//! Every call is made by the library too, and all that it gives is compared with the model's; so what is checked here
+//! on the model's world is checked of the library's.
 use crate::arguments::{fresh_world, start_args};
 use crate::generate::{ending_mood, next_step, perform, lively_mood, Step};
+use crate::items::code;
 use crate::model::*;
 use crate::plain::Plain;
 use crate::random::Random;
 use crate::sink::Sink;
-use crate::world::{code, Args, World};
+use crate::world::{Args, World};
 
 #[derive(Default)]
 pub struct Tally {
@@ -149,7 +150,7 @@ fn cut_at(r: &Random, sink: &mut Sink, tally: &mut Tally, places: &[Both], steps
 fn cut_from(r: &Random, sink: &mut Sink, tally: &mut Tally, from: &Both, rest: &[Step], quiet: bool) -> Check {
     tally.cuts += 1;
     choose(sink, tally, &mut from.clone())?;
-    // Where the standby is as at the place before, its takeover is the same lines again: most are left out.
+    // Where the standby is as at the place before, its takeover is the same calls again: most are left out.
     if !quiet || r.percent(20) {
         take_over(sink, tally, &mut from.clone())?;
     }

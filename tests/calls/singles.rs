@@ -1,10 +1,10 @@
 //! Single calls on random states, starts and disk choices.
 use crate::arguments::*;
-use crate::form::{Item, INPUT};
+use crate::items::{code, Item, INPUT};
 use crate::model::*;
 use crate::random::Random;
 use crate::sink::Sink;
-use crate::world::{code, Args, World};
+use crate::world::{Args, World};
 
 /// Settings for a single call. What the call's buffers do not depend on may be anything in range.
 fn settings_for(r: &Random, which: usize) -> Settings {
@@ -125,10 +125,7 @@ pub fn any_standby(r: &Random, s: &Settings, which: usize) -> Standby {
     t
 }
 
-/// The most bytes that a line gives a buffer.
-const MOST: u64 = 65_536;
-
-/// The product as a length, where a line holds so many bytes, else a short one.
+/// The product as a length, where a buffer is given so many bytes, else a short one.
 fn length(a: u64, b: u64) -> u64 {
     a.checked_mul(b).filter(|&product| product <= MOST).unwrap_or(64)
 }
@@ -159,7 +156,7 @@ fn lend(r: &Random, which: usize, primary: Primary, standby: Standby) -> World {
 /// Marks of every sort: none, all, many, few.
 fn marks(r: &Random, m: u64) -> Vec<u64> {
     let sort = r.below(4);
-    let mut words = r.words(mark_words(m).min(1_024));
+    let mut words = r.words(mark_words(m).min(4_096));
     for word in words.iter_mut() {
         *word = match sort {
             0 => 0,
@@ -171,7 +168,7 @@ fn marks(r: &Random, m: u64) -> Vec<u64> {
     words
 }
 
-fn any_world(r: &Random, which: usize) -> World {
+pub fn any_world(r: &Random, which: usize) -> World {
     let s = settings_for(r, which);
     let (primary, standby) = (any_primary(r, &s), any_standby(r, &s, which));
     lend(r, which, primary, standby)

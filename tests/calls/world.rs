@@ -1,4 +1,5 @@
 //! Both ends with all their buffers and the link between them, and one call made on them by the model.
+use crate::items::code;
 use crate::model::*;
 
 #[derive(Clone)]
@@ -43,27 +44,6 @@ impl Args {
     }
 }
 
-/// The codes of the calls.
-pub mod code {
-    pub const START: usize = 0;
-    pub const MEMORY_WRITE: usize = 1;
-    pub const DISK_WRITE: usize = 2;
-    pub const PACKET: usize = 3;
-    pub const CHECKPOINT: usize = 4;
-    pub const DRAIN: usize = 5;
-    pub const ACK: usize = 6;
-    pub const TAKE: usize = 7;
-    pub const PRIMARY_TICK: usize = 8;
-    pub const READ: usize = 9;
-    pub const FLUSH: usize = 10;
-    pub const STANDBY_TICK: usize = 11;
-    pub const ACTIVATION: usize = 12;
-    pub const STANDBY_MEMORY_WRITE: usize = 13;
-    pub const STANDBY_DISK_WRITE: usize = 14;
-    pub const CHOICE: usize = 15;
-    pub const ALL: usize = 16;
-}
-
 /// Makes one call by the model.
 pub fn run(which: usize, w: &mut World, a: &mut Args) -> Reply {
     let (p, s) = (&mut w.primary, &mut w.standby);
@@ -94,8 +74,17 @@ pub fn run(which: usize, w: &mut World, a: &mut Args) -> Reply {
         _ => {
             let (number, chosen) = disk_choice(&w.disk, &w.standby_disk, &w.area);
             a.out = chosen.to_vec();
-            Reply { number, value: 0, used: 0 }
+            Reply { number, value: chosen_number(number, &w.area), used: 0 }
         }
+    }
+}
+
+/// The disk chosen as the C interface names it: 1 is the primary's, 2 the standby's, 0 none.
+fn chosen_number(number: u64, area: &[u8]) -> u64 {
+    match number {
+        0 if area.iter().all(|&byte| byte == 0) => 1,
+        0 => 2,
+        _ => 0,
     }
 }
 

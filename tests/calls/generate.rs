@@ -1,9 +1,10 @@
 //! Lists of calls from an accepted start. The model carries the world from call to call.
 use crate::arguments::*;
+use crate::items::code;
 use crate::model::*;
 use crate::random::Random;
 use crate::sink::Sink;
-use crate::world::{carry, code, Args, World};
+use crate::world::{carry, Args, World};
 
 /// A call of a list. `part`: a read or an ACK gets so many of the first unread bytes, instead of `args.data`.
 #[derive(Clone)]
@@ -83,7 +84,7 @@ pub fn list(r: &Random, sink: &mut Sink, settings: Settings, length: u64, near_t
     }
 }
 
-/// A world after an accepted start that went through the program too.
+/// A world after an accepted start that was compared too.
 pub fn started(r: &Random, sink: &mut Sink, settings: Settings) -> World {
     let mut w = fresh_world(r, &settings);
     let mut args = start_args(r, settings);
@@ -108,7 +109,7 @@ fn head_record(bytes: &[u8]) -> usize {
     if bytes.len() < 4 { 4 } else { 4 + u16::from_le_bytes([bytes[0], bytes[1]]) as usize }
 }
 
-/// Makes the step's call, by the model and through the program, and carries its bytes over the link.
+/// Makes the step's call, by the model and by the library, and carries its bytes over the link.
 pub fn perform(sink: &mut Sink, w: &mut World, step: &mut Step) -> Reply {
     fill(w, step);
     let reply = sink.call(step.which, w, &mut step.args);

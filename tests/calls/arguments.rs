@@ -1,12 +1,16 @@
 //! Settings, worlds with buffers, and the arguments of calls: mostly sensible, sometimes odd.
+use crate::items::code;
 use crate::model::*;
 use crate::random::Random;
-use crate::world::{code, Args, World};
+use crate::world::{Args, World};
+
+/// The most bytes that a buffer is given where the calls are many; large.rs has the longest ones.
+pub const MOST: u64 = 1 << 20;
 
 fn with_stream(r: &Random, mut s: Settings) -> Settings {
     let (record, least) = (s.u + 10, least_stream(s.u, s.m, s.b));
     let more = [0, 0, 1, r.below(100), record, record * r.range(1, 4), 2 * record + 84, 3 * least];
-    s.l = (least + r.pick(&more)).min(65_536);
+    s.l = (least + r.pick(&more)).min(33_554_432);
     s
 }
 
@@ -49,15 +53,16 @@ pub fn limit_settings(r: &Random) -> Settings {
     s
 }
 
-/// Large pages, many pages, or much held; every buffer at most 65,536 bytes.
+/// Large pages, many pages or blocks, or much held.
 pub fn large_settings(r: &Random) -> Settings {
     let mut s = small_settings(r);
-    match r.below(5) {
+    match r.below(6) {
         0 => (s.u, s.b, s.s) = (4_096, r.range(0, 3), r.range(3, 6)),
-        1 => (s.m, s.b, s.s) = (r.pick(&[255, 256, 257, 884]), 0, 2),
+        1 => (s.u, s.m, s.b, s.s) = (64, r.pick(&[255, 256, 257, 884, 1_024, 4_095, 4_096]), r.range(0, 2), 2),
         2 => s.q = r.pick(&[1_514, 1_515, 3_000, 32_768]),
-        3 => (s.u, s.d) = (r.pick(&[1_024, 4_032, 4_096]), r.pick(&[1, 15, 16])),
-        _ => (s.u, s.d) = (64, r.pick(&[255, 256, 257, 1_024])),
+        3 => (s.u, s.d) = (r.pick(&[1_024, 4_032, 4_096]), r.pick(&[1, 15, 16, 65])),
+        4 => (s.u, s.m) = (r.pick(&[1_024, 4_032, 4_096]), r.pick(&[15, 16, 64, 65])),
+        _ => (s.u, s.d) = (64, r.pick(&[255, 256, 257, 1_024, 4_095, 4_096])),
     }
     with_stream(r, s)
 }
@@ -178,12 +183,12 @@ fn packet_bytes(r: &Random, p: &Primary, odd: u64) -> Vec<u8> {
 }
 
 fn drain_arguments(r: &Random, a: &mut Args, p: &Primary) {
-    let (waiting, record) = (p.waiting.min(65_536), sane(p.u) + 10);
+    let (waiting, record) = (p.waiting.min(MOST), sane(p.u) + 10);
     let some = r.below(waiting + 1);
     a.n = r.pick(&[waiting, waiting, waiting, some, some, record, 72, 12, 1, 0, waiting + 1, 1 << 32, u64::MAX]);
     let fits = a.n.min(waiting);
     let room = r.pick(&[fits, fits, fits, fits, fits + 3, waiting, some, record, 0, 1]);
-    a.out = r.bytes(room.min(65_536));
+    a.out = r.bytes(room.min(MOST));
 }
 
 fn take_destination(r: &Random, p: &Primary, odd: u64) -> Vec<u8> {

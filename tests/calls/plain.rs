@@ -1,7 +1,8 @@
 //! The plain pair of document 01's "Whole runs". It is fed each call's arguments, number and value, and never
 //! sees an end's state or buffers.
+use crate::items::code;
 use crate::model::Reply;
-use crate::world::{code, Args};
+use crate::world::Args;
 use std::rc::Rc;
 
 pub struct Checkpoint {

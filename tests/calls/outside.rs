@@ -1,11 +1,12 @@
 //! Pushing exactly one thing of a state or of the settings out of its range.
+use crate::arguments::MOST;
 use crate::model::*;
 use crate::random::Random;
 
 pub const CLAUSES: u64 = 22;
 
-/// Numbers of 64 bits that are small, or as the number given, when cut to 32. T, counts of ticks and epochs are
-/// fields of 32 bits on a line, so they get none of these.
+/// Numbers of 64 bits that are small, or as the number given, when cut to 32. T, counts of ticks and epochs are fields
+/// of 32 bits, so they get none of these here: words with one that does not fit are no state (no_state.rs).
 fn wide(r: &Random, number: u64) -> u64 {
     let above = (1 << 32) + (number & 0xffff_ffff);
     r.pick(&[above, above, 1 << 63, u64::MAX, u64::MAX - 1])
@@ -149,10 +150,10 @@ pub fn push_setting(r: &Random, s: &mut Settings, clause: u64) {
     }
 }
 
-/// The settings by which buffers are lent: the same where a line holds them, else short ones.
+/// The settings by which buffers are lent: the same where a buffer is given so many bytes, else short ones.
 pub fn lendable(s: &Settings) -> Settings {
     let u = if s.u <= 4_160 { s.u } else { 64 };
-    let pages = |count: u64| if count <= 65_536 && count * u <= 65_536 { count } else { 1 };
-    let bytes = |count: u64| if count <= 65_536 { count } else { 100 };
+    let pages = |count: u64| if count <= MOST && count * u <= MOST { count } else { 1 };
+    let bytes = |count: u64| if count <= MOST { count } else { 100 };
     Settings { u, m: pages(s.m), d: pages(s.d), b: s.b, s: pages(s.s), q: bytes(s.q), l: bytes(s.l), t: s.t }
 }

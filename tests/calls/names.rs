@@ -1,0 +1,51 @@
+//! The names of the parts of a call, for telling a difference.
+use crate::items::Item;
+
+const SETTINGS: [&str; 8] = ["U", "M", "D", "B", "S", "Q", "L", "T"];
+const PRIMARY: [&str; 15] = [
+    "U", "M", "D", "B", "Q", "L", "T", "count of ticks", "open epoch", "acknowledged", "alone",
+    "blocks of the open epoch", "waiting bytes", "packets held", "bytes held",
+];
+const STANDBY: [&str; 11] =
+    ["U", "M", "D", "B", "S", "T", "count of ticks", "mode", "last received epoch", "staged", "due"];
+const STANDBY_LAST: [&str; 4] = ["blocks of this epoch", "pages of this epoch", "next page", "STATE seen"];
+
+pub fn item_name(item: Item) -> &'static str {
+    match item {
+        Item::Settings => "settings",
+        Item::Primary => "primary",
+        Item::Standby => "standby",
+        Item::Marks => "dirty marks",
+        Item::StandbyMarks => "staged marks",
+        Item::Cpu => "processor state given",
+        Item::Pending => "staged processor state",
+        Item::Kept => "kept processor state",
+        Item::Memory => "memory",
+        Item::Disk => "disk",
+        Item::Held => "held",
+        Item::Stream => "stream",
+        Item::StandbyMemory => "standby memory",
+        Item::StandbyDisk => "standby disk",
+        Item::Pages => "staged pages",
+        Item::Blocks => "staged blocks",
+        Item::Area => "record area",
+        Item::Data => "data",
+        Item::Out => "destination or reply",
+        _ => "number",
+    }
+}
+
+/// One word of an item that is made of words.
+pub fn word_name(item: Item, at: usize) -> String {
+    let name = match (item, at) {
+        (Item::Settings, 0..8) => SETTINGS[at].to_string(),
+        (Item::Primary, 0..15) => PRIMARY[at].to_string(),
+        (Item::Primary, _) if at % 2 == 1 => format!("packet {}'s epoch", (at - 15) / 2),
+        (Item::Primary, _) => format!("packet {}'s length", (at - 15) / 2),
+        (Item::Standby, 0..11) => STANDBY[at].to_string(),
+        (Item::Standby, 11..75) => format!("slot {}'s block number", at - 11),
+        (Item::Standby, 75..79) => STANDBY_LAST[at - 75].to_string(),
+        _ => format!("word {at}"),
+    };
+    format!("{}: {name}", item_name(item))
+}

@@ -1,0 +1,34 @@
+//! What came in the calls that were compared.
+use crate::items::code;
+use crate::sink::Sink;
+
+pub fn print_numbers(sink: &Sink) {
+    println!("numbers by call code (256 is cut short):");
+    print!("{:>7}{:>9}", "number", "all");
+    (0..code::ALL).for_each(|which| print!("{which:>7}"));
+    println!();
+    for (row, counts) in sink.seen.iter().enumerate() {
+        let name = if row == 21 { 256 } else { row };
+        print!("{name:>7}{:>9}", counts.iter().sum::<u64>());
+        counts.iter().for_each(|count| print!("{count:>7}"));
+        println!();
+    }
+}
+
+pub fn print_records(sink: &Sink) {
+    let [_, pages, blocks, states, commits] = sink.records;
+    println!("records accepted: {pages} PAGE, {blocks} BLOCK, {states} STATE, {commits} COMMIT");
+    let [pages, blocks] = sink.by_count;
+    println!("records out of order by the count of pages alone: {pages} PAGE, {blocks} BLOCK");
+}
+
+/// Every number from 1 to 20, and cut short, must have come; 9 also by the count of pages alone, of a PAGE and a BLOCK.
+pub fn all_numbers_seen(sink: &Sink) -> bool {
+    let missing: Vec<usize> = (1..22).filter(|&row| sink.seen[row].iter().sum::<u64>() == 0).collect();
+    missing.iter().for_each(|row| println!("number {} never came", if *row == 21 { 256 } else { *row }));
+    let counted = sink.by_count.iter().all(|&count| count > 0);
+    if !counted {
+        println!("number 9 never came by the count of pages alone, of a PAGE or of a BLOCK");
+    }
+    missing.is_empty() && counted
+}

@@ -1,0 +1,105 @@
+//! The model's world and a call's arguments as the words and bytes of the C interface.
+use crate::items::{given, Item, PRIMARY_WORDS, SETTINGS_WORDS, STANDBY_WORDS};
+use crate::lent::Lent;
+use crate::model::{Mode, Primary, Settings, Standby};
+use crate::world::{Args, World};
+
+pub struct View<'a> {
+    w: &'a World,
+    a: &'a Args,
+    settings: [u64; SETTINGS_WORDS],
+    primary: [u64; PRIMARY_WORDS],
+    standby: [u64; STANDBY_WORDS],
+}
+
+impl<'a> View<'a> {
+    pub fn new(w: &'a World, a: &'a Args) -> View<'a> {
+        let settings = settings_words(&a.settings);
+        View { w, a, settings, primary: primary_words(&w.primary), standby: standby_words(&w.standby) }
+    }
+
+    pub fn words(&self, item: Item) -> &[u64] {
+        match item {
+            Item::Settings => &self.settings,
+            Item::Primary => &self.primary,
+            Item::Standby => &self.standby,
+            Item::Marks => &self.w.marks,
+            _ => &self.w.standby_marks,
+        }
+    }
+
+    pub fn bytes(&self, item: Item) -> &[u8] {
+        match item {
+            Item::Cpu => &self.a.cpu,
+            Item::Pending => &self.w.standby.staged_cpu,
+            Item::Kept => &self.w.standby.kept_cpu,
+            Item::Memory => &self.w.memory,
+            Item::Disk => &self.w.disk,
+            Item::Held => &self.w.held,
+            Item::Stream => &self.w.stream,
+            Item::StandbyMemory => &self.w.standby_memory,
+            Item::StandbyDisk => &self.w.standby_disk,
+            Item::Pages => &self.w.pages,
+            Item::Blocks => &self.w.blocks,
+            Item::Area => &self.w.area,
+            Item::Data => &self.a.data,
+            _ => &self.a.out,
+        }
+    }
+
+    pub fn number(&self, item: Item) -> u64 {
+        match item {
+            Item::Place => self.a.place,
+            Item::Offset => self.a.offset,
+            _ => self.a.n,
+        }
+    }
+
+    /// Lends one item.
+    pub fn lend(&self, l: &mut Lent, item: Item) {
+        if item.is_words() {
+            l.words_mut(item).load(self.words(item));
+        } else if item.is_bytes() {
+            l.bytes_mut(item).load(self.bytes(item));
+        } else {
+            l.set_number(item, self.number(item));
+        }
+    }
+
+    /// Lends everything that the call is given. The states that start makes hold other words before, so that a word
+    /// which it leaves is seen.
+    pub fn lend_all(&self, l: &mut Lent, which: usize) {
+        given(which).for_each(|item| self.lend(l, item));
+        l.lend_states(which, 0x0123_4567_89ab_cdef, 0x5c);
+    }
+}
+
+fn settings_words(s: &Settings) -> [u64; SETTINGS_WORDS] {
+    [s.u, s.m, s.d, s.b, s.s, s.q, s.l, s.t]
+}
+
+fn primary_words(p: &Primary) -> [u64; PRIMARY_WORDS] {
+    let mut words = [0; PRIMARY_WORDS];
+    words[..15].copy_from_slice(&[
+        p.u, p.m, p.d, p.b, p.q, p.l, p.t, p.count, p.open as u64, p.acknowledged as u64, p.alone as u64, p.blocks,
+        p.waiting, p.packets, p.held,
+    ]);
+    for (entry, packet) in words[15..].chunks_exact_mut(2).zip(&p.queue) {
+        entry.copy_from_slice(&[packet.epoch as u64, packet.length]);
+    }
+    words
+}
+
+fn standby_words(s: &Standby) -> [u64; STANDBY_WORDS] {
+    let mode = match s.mode {
+        Mode::Receiving => 0,
+        Mode::TakingOver => 1,
+        Mode::Active => 2,
+    };
+    let mut words = [0; STANDBY_WORDS];
+    let head = [s.u, s.m, s.d, s.b, s.s, s.t, s.count, mode, s.received as u64, s.staged, s.due];
+    words[..11].copy_from_slice(&head);
+    words[11..75].copy_from_slice(&s.slots);
+    words[75..].copy_from_slice(&[s.blocks, s.pages, s.next_page, s.state_seen as u64]);
+    words
+}
