@@ -4,6 +4,7 @@
 //! alone. Every number, word and byte that a call gives or is lent must be the model's. The last line is
 //! `N passed, 0 failed`.
 mod arguments;
+mod beyond;
 mod call;
 mod capi;
 mod checker;
@@ -11,6 +12,7 @@ mod cuts;
 mod generate;
 mod guarded;
 mod items;
+mod large;
 mod lent;
 mod model;
 mod names;
@@ -51,8 +53,10 @@ const TESTS: [Test; 14] = [
     ("disk choices", 20, |r, sink, end| until(sink, end, |sink| singles::choice(r, sink))),
 ];
 
-/// The kind that comes on top.
+/// The kinds that come on top.
+const LARGE: &str = "memory of every size";
 const CUTS: &str = "runs cut at every place";
+const ON_TOP: [&str; 2] = [LARGE, CUTS];
 
 fn until(sink: &mut Sink, end: u64, mut one: impl FnMut(&mut Sink)) {
     while sink.calls < end {
@@ -168,7 +172,7 @@ fn argument(at: usize, default: u64) -> u64 {
 
 /// The kinds of run, all of them or the one of this name.
 fn kinds(only: &Option<String>) -> Vec<&'static str> {
-    let all: Vec<&str> = TESTS.iter().map(|test| test.0).chain([CUTS]).collect();
+    let all: Vec<&str> = TESTS.iter().map(|test| test.0).chain(ON_TOP).collect();
     let Some(only) = only else { return all };
     if !all.contains(&only.as_str()) {
         println!("there is no kind of run '{only}', but these: {}", all.join(", "));
@@ -187,8 +191,11 @@ fn main() {
         share += part;
         noted(name, &mut sink, |sink| test(&r, sink, calls * share / 1_000));
     }
-    if kinds.contains(&CUTS) {
-        noted(CUTS, &mut sink, |sink| cut_runs(&r, sink, calls, seed));
+    for name in ON_TOP.into_iter().filter(|name| kinds.contains(name)) {
+        noted(name, &mut sink, |sink| match name {
+            LARGE => demanded(large::run(&r, sink)),
+            _ => cut_runs(&r, sink, calls, seed),
+        });
     }
     // that every number comes is a test of all kinds together
     let seen_all = only.is_some() || report::all_numbers_seen(&sink);
