@@ -1,12 +1,13 @@
 //! Compares the calls of libcapi.a with the model, call by call.
 //!
-//! `compare [calls [seed [kind]]]`: at least so many calls (200,000) with this seed (1), or those of one kind of run
-//! alone. Every number, word and byte that a call gives or is lent must be the model's. The last line is
-//! `N passed, 0 failed`.
+//! `compare program [calls [seed [kind]]]`: at least so many calls (200,000) with this seed (1), or those of one kind
+//! of run alone. Every number, word and byte that a call gives or is lent must be the model's. The program is the one
+//! that FORM.md describes. The last line is `N passed, 0 failed`.
 mod arguments;
 mod beyond;
 mod call;
 mod capi;
+mod changed_lines;
 mod checker;
 mod cuts;
 mod generate;
@@ -14,6 +15,7 @@ mod guarded;
 mod items;
 mod large;
 mod lent;
+mod lines;
 mod model;
 mod names;
 mod no_state;
@@ -21,6 +23,7 @@ mod outside;
 mod plain;
 mod print_form;
 mod random;
+mod recognise;
 mod report;
 mod singles;
 mod sink;
@@ -56,7 +59,8 @@ const TESTS: [Test; 14] = [
 /// The kinds that come on top.
 const LARGE: &str = "memory of every size";
 const CUTS: &str = "runs cut at every place";
-const ON_TOP: [&str; 2] = [LARGE, CUTS];
+const LINES: &str = "lines through the program";
+const ON_TOP: [&str; 3] = [LARGE, CUTS, LINES];
 
 fn until(sink: &mut Sink, end: u64, mut one: impl FnMut(&mut Sink)) {
     while sink.calls < end {
@@ -182,8 +186,12 @@ fn kinds(only: &Option<String>) -> Vec<&'static str> {
 }
 
 fn main() {
-    let (calls, seed, begun) = (argument(1, 200_000), argument(2, 1), Instant::now());
-    let only = std::env::args().nth(3);
+    let Some(program) = std::env::args().nth(1) else {
+        eprintln!("usage: compare program [calls [seed [kind]]]");
+        exit(2)
+    };
+    let (calls, seed, begun) = (argument(2, 200_000), argument(3, 1), Instant::now());
+    let only = std::env::args().nth(4);
     let kinds = kinds(&only);
     let (mut sink, r) = (Sink::new(seed), Random::new(seed));
     let mut share = 0;
@@ -194,7 +202,8 @@ fn main() {
     for name in ON_TOP.into_iter().filter(|name| kinds.contains(name)) {
         noted(name, &mut sink, |sink| match name {
             LARGE => demanded(large::run(&r, sink)),
-            _ => cut_runs(&r, sink, calls, seed),
+            CUTS => cut_runs(&r, sink, calls, seed),
+            _ => demanded(lines::run(&r, sink, &program)),
         });
     }
     // that every number comes is a test of all kinds together

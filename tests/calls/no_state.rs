@@ -76,6 +76,11 @@ pub fn run(r: &Random, sink: &mut Sink, end: u64) -> Result<(), String> {
     }
 }
 
+/// Every field of every call once at every number that does not fit.
+pub fn fields(r: &Random, sink: &mut Sink) {
+    targets().iter_mut().for_each(|target| unfit_field(r, sink, target));
+}
+
 /// The call on a state in range but for this field, at each number that does not fit it.
 fn unfit_field(r: &Random, sink: &mut Sink, target: &mut Target) {
     let (which, item, at) = (target.which, target.item, target.word);

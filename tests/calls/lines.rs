@@ -1,0 +1,135 @@
+//! The program that reads lines (FORM.md), compared with the calls themselves: good lines of every code, changed ones,
+//! and lines at the limits of the form.
+use crate::arguments::small_settings;
+use crate::changed_lines;
+use crate::checker::Check;
+use crate::generate::list;
+use crate::items::code;
+use crate::random::Random;
+use crate::singles;
+use crate::sink::{Sink, Text};
+use crate::{no_state, outside};
+use std::io::{Read, Write};
+use std::process::{Command, Stdio};
+use std::thread;
+
+const GOOD_LINES: usize = 20_000;
+
+pub fn run(r: &Random, sink: &mut Sink, program: &str) -> Check {
+    let text = good_lines(r, sink);
+    let (lines, answers) = (text.lines.concat(), text.answers.concat());
+    same(&lines, &answers, &printed(program, &[&lines])?)?;
+    every_code(&text)?;
+    examples(program)?;
+    changed_lines::compare(r, program, &text)?;
+    limits(program)
+}
+
+/// Calls of every code as lines with the answers of the calls themselves.
+fn good_lines(r: &Random, sink: &mut Sink) -> Text {
+    sink.text = Some(Text::default());
+    let count = |sink: &Sink| sink.text.as_ref().map_or(0, |text| text.lines.len());
+    no_state::fields(r, sink);
+    while count(sink) < GOOD_LINES {
+        list(r, sink, small_settings(r), 40, false);
+        (0..40).for_each(|_| singles::any_single(r, sink));
+        (3..7).for_each(|clause| {
+            let mut settings = small_settings(r);
+            singles::start(r, sink, settings, r.percent(30));
+            outside::push_setting(r, &mut settings, clause);
+            singles::start(r, sink, settings, false);
+            singles::choice(r, sink);
+        });
+    }
+    sink.text.take().unwrap_or_default()
+}
+
+fn every_code(text: &Text) -> Check {
+    for which in 0..code::ALL {
+        let head = format!("{which} ");
+        if !text.lines.iter().any(|line| line.starts_with(head.as_bytes())) {
+            return Err(format!("no line of code {which}"));
+        }
+    }
+    Ok(())
+}
+
+/// Lines with answers that an earlier program of the same form gave: the order of the items is in one table for both
+/// programs here, and a mistake in it would be seen by nothing else.
+fn examples(program: &str) -> Check {
+    let (lines, answers) = (include_bytes!("examples.in"), include_bytes!("examples.out"));
+    same(lines, answers, &printed(program, &[lines])?)
+}
+
+/// What the program prints on this input. It must end well, whatever it is given.
+pub fn printed(program: &str, input: &[&[u8]]) -> Result<Vec<u8>, String> {
+    let run = Command::new(program).stdin(Stdio::piped()).stdout(Stdio::piped()).stderr(Stdio::piped()).spawn();
+    let mut child = run.map_err(|error| format!("{program}: {error}"))?;
+    let (stdin, stdout) = (child.stdin.take(), child.stdout.take());
+    let mut answers = Vec::new();
+    thread::scope(|scope| {
+        // Where the program ends early the writing fails; the answers tell it.
+        scope.spawn(move || stdin.map(|mut stdin| input.iter().try_for_each(|part| stdin.write_all(part))));
+        stdout.map(|mut stdout| stdout.read_to_end(&mut answers))
+    });
+    let mut said = String::new();
+    child.stderr.take().map(|mut stderr| stderr.read_to_string(&mut said));
+    let status = child.wait().map_err(|error| error.to_string())?;
+    if status.success() && said.is_empty() { Ok(answers) } else { Err(format!("the program: {status}, {said}")) }
+}
+
+/// Compares line by line, and tells the first that differs.
+pub fn same(lines: &[u8], wanted: &[u8], given: &[u8]) -> Check {
+    if wanted == given {
+        return Ok(());
+    }
+    let newline = |byte: &u8| *byte == b'\n';
+    let (mut lines, mut wanted, mut given) = (lines.split(newline), wanted.split(newline), given.split(newline));
+    loop {
+        let (line, one, other) = (lines.next(), wanted.next(), given.next());
+        if one != other || line.is_none() {
+            let (line, one, other) = (shortened(line), shortened(one), shortened(other));
+            return Err(format!("a line's answer differs\nsent: {line}\nwanted: {one}\ngiven: {other}"));
+        }
+    }
+}
+
+fn shortened(line: Option<&[u8]>) -> String {
+    let text = String::from_utf8_lossy(line.unwrap_or(b"(none)"));
+    let head: String = text.chars().take(2_000).collect();
+    if head.len() == text.len() { head } else { format!("{head} ... ({} bytes)", text.len()) }
+}
+
+/// The most bytes and words that the form has, and one more.
+fn limits(program: &str) -> Check {
+    let digits = vec![b'0'; 2 * 67_108_864];
+    let long = printed(program, &[b"15 67108864 ", &digits, b" 0 8 0000000000000000\n"])?;
+    same(b"15 67108864 ..", b"1 0\n", &long)?;
+    let longer = printed(program, &[b"15 67108865 ", &digits, b"00 0 8 0000000000000000\n"])?;
+    same(b"15 67108865 ..", b"!\n", &longer)?;
+    let state = [b"0 ".repeat(79), b"0".repeat(128), b" ".to_vec(), b"0".repeat(128)].concat();
+    let words = b" 9".repeat(1_048_576);
+    let many = printed(program, &[b"11 ", &state, b" 1048576", &words, b"\n"])?;
+    same(b"11 .. 1048576 ..", &[b"1 0 ", &state[..], b" 1048576", &words, b"\n"].concat(), &many)?;
+    let more = printed(program, &[b"11 ", &state, b" 1048577 9", &words, b"\n"])?;
+    same(b"11 .. 1048577 ..", b"!\n", &more)?;
+    others(program)
+}
+
+/// Inputs that are empty or not of the form.
+fn others(program: &str) -> Check {
+    let good = b"15 0 0 8 0000000000000000";
+    same(b"", b"", &printed(program, &[])?)?;
+    same(good, b"0 0\n", &printed(program, &[good, b"\n"])?)?;
+    let bad: [&[u8]; 8] = [
+        b"\n", b"16\n", b"15\n", b" 15 0 0 0\n", b"15  0 0 0\n", b"15 0 0 0 \n", b"15 0 0 1 0\n", b"15 1 0 0\n",
+    ];
+    for bad in bad {
+        same(bad, b"!\n", &printed(program, &[bad])?)?;
+        same(bad, b"0 0\n!\n", &printed(program, &[good, b"\n", bad, good, b"\n"])?)?;
+    }
+    for cut in [&good[..], b"15 0 0 0", b"15 0 0 8 00000000000000", b"1", b"15 "] {
+        same(cut, b"!\n", &printed(program, &[cut])?)?;
+    }
+    Ok(())
+}
