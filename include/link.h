@@ -1,4 +1,19 @@
-/* What the link daemon calls in liblink.a. */
+/*
+ * What the link daemon calls in liblink.a: the record test and the disk choice.
+ *
+ * For both calls:
+ *
+ * - No pointer is ever null: for a length of 0, pass any valid pointer.
+ * - Buffers are lent for the call only: none is kept, and these two calls write none.
+ * - The buffers of one call must not overlap each other: the calls are proved for separate slices.
+ *   (Since these two only read, one disk lent twice does no harm.)
+ * - No pointer needs an alignment beyond its type's; one to bytes needs none.
+ * - Any thread may call, since nothing is shared or kept between calls. Nothing may write a buffer
+ *   while a call reads it.
+ * - After 6 or 7 the place of the next record cannot be found again: drop the link.
+ * - A record has at most U + 10 bytes, so that a buffer of U + 10 bytes always holds one.
+ * - disk_choice reads only the lengths of the two disks, never their bytes.
+ */
 
 #ifndef STANDBY_PAIR_LINK_H
 #define STANDBY_PAIR_LINK_H
@@ -13,9 +28,7 @@ extern "C" {
 /*
  * The record test: is there a record at the head of these bytes?
  *
- * u is the setting U, the bytes in a page and in a block. bytes points to len readable bytes. They
- * are read during the call only, and never written. bytes is never a null pointer: for len 0, pass
- * any valid pointer.
+ * u is the setting U, the bytes in a page and in a block. bytes points to len readable bytes.
  *
  * The answer is one word, number + 256 * kind + 65536 * used:
  *
@@ -28,7 +41,8 @@ extern "C" {
  *
  * They are judged in this order: 1, fewer than the header's 4 bytes (cut short), 6, 7, fewer bytes
  * than the record's (cut short). Bytes behind the record are not looked at. Nor are the body's
- * fields: only the end that reads the record judges its epoch, numbers and counts.
+ * fields: only the end that reads the record judges its epoch, numbers and counts. With U in its
+ * range, U + 10 bytes are never cut short.
  */
 uint64_t record_test(uint64_t u, const uint8_t *bytes, size_t len);
 
@@ -76,8 +90,7 @@ static inline int record_cut_short(uint64_t word)
  * The disk choice: from which disk does the guest start again, after both boxes failed?
  *
  * primary and standby point to the bytes of the two disks, area to the record area of the standby's
- * disk. Only the area's bytes are looked at; of the disks only the lengths. None is written. No
- * pointer is ever null: for a length of 0, pass any valid pointer.
+ * disk. Only the area's bytes are looked at; of the disks only the lengths.
  *
  * The answer is one word:
  *
