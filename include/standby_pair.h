@@ -1,0 +1,401 @@
+/*
+ * The two ends of a standby pair, as a host calls them in libcapi.a.
+ *
+ * The primary end holds the guest's memory and disk and makes checkpoints of them; the standby end
+ * receives these and takes over. Every call is proved to do what document 01 says, for any words,
+ * lengths and bytes, under what this header asks of the caller:
+ *
+ * - No pointer is ever null: for a length of 0, pass any valid pointer.
+ * - Buffers are lent for the call only, and none is kept.
+ * - The buffers of one call, its states among them, must not overlap each other: the calls are
+ *   proved for separate slices.
+ * - No pointer needs an alignment beyond its type's: 8 for words, none for bytes.
+ * - Any thread may call, since nothing is shared or kept between calls. Calls on the same state or
+ *   the same buffers must not overlap in time.
+ *
+ * And of the link between the ends:
+ *
+ * - After 6 or 7 the place of the next record cannot be found again: drop the link.
+ * - A record has at most U + 10 bytes, so that a buffer of U + 10 bytes always holds one.
+ *
+ * pair_disk_choice (and disk_choice of link.h) reads only the lengths of the two disks, never their
+ * bytes.
+ *
+ * The host keeps the states and the buffers, and hands the same ones to every call of their end.
+ * Between calls it may read them, and leaves them as they are. One thing more it may do: where the
+ * guest writes its memory without primary_memory_write, it sets the page's bit in `dirty` itself,
+ * which is all that the call would have done.
+ *
+ * Lengths are exact. All are counted in elements, of the settings that pair_start was given:
+ *
+ *   buffer                    element   length             what it holds
+ *   settings                  uint64_t  SETTINGS_WORDS     U M D B S Q L T
+ *   primary's state           uint64_t  PRIMARY_WORDS
+ *   standby's state           uint64_t  STANDBY_WORDS
+ *   pending, processor        uint8_t   PROCESSOR_BYTES    rest of the standby's state; no length
+ *   memory (of each end)      uint8_t   M * U              page p from byte p * U on
+ *   disk (of each end)        uint8_t   D * U              block b from byte b * U on
+ *   dirty                     uint64_t  MARK_WORDS(M)      page p: bit p mod 64 of word p div 64
+ *   held                      uint8_t   Q                  the held packets, oldest first
+ *   stream                    uint8_t   L                  the records that wait for drain
+ *   staged_pages              uint8_t   M * U              pages of the checkpoint under way
+ *   staged_marks              uint64_t  MARK_WORDS(M)      which pages these are
+ *   staged_blocks             uint8_t   S * U              staged and due blocks, oldest first
+ *   area                      uint8_t   AREA_BYTES         the record area of the standby's disk
+ *   bytes, destination, reply uint8_t   any
+ *
+ * A state is words (and, for the standby, pending and processor). Words that are no state are
+ * refused with 1, and nothing is changed: their count is not exact; T, the count of ticks, an epoch
+ * (open, acknowledged, received, of any of the 64 packets) or the length of any of the 64 packets
+ * is not below 2^32; alone or STATE seen is above 1; the mode is above 2. All other words are taken
+ * as they are, and document 01's ranges of a state are then judged, with 1 too.
+ */
+
+#ifndef STANDBY_PAIR_H
+#define STANDBY_PAIR_H
+
+#include <stddef.h>
+#include <stdint.h>
+
+#include "link.h" /* the kinds of records, RECORD_PAGE to RECORD_ACK */
+
+#ifdef __cplusplus
+extern "C" {
+#endif
+
+/* ---- The answer of a call: one word. ---- */
+
+/* Document 01's numbers. Every call says below which it gives, in the order of its tests. */
+enum {
+    NUMBER_ACCEPTED = 0,
+    NUMBER_OUT_OF_RANGE = 1,    /* a setting, a lent length or a state is out of its range */
+    NUMBER_NO_SUCH_UNIT = 2,    /* page number not below M, block not below D */
+    NUMBER_BAD_SIZE = 3,        /* a memory write empty or past its page, block data not U bytes */
+    NUMBER_BAD_PACKET = 4,      /* a packet not of 1 to 1514 bytes */
+    NUMBER_NO_ROOM = 5,         /* reply under 8 bytes, or destination shorter than the packet */
+    NUMBER_BAD_KIND = 6,        /* the record's kind is not for this end: drop the link */
+    NUMBER_BAD_LENGTH = 7,      /* the record's length is not its kind's: drop the link */
+    NUMBER_BAD_EPOCH = 8,       /* the record's epoch is not the last received plus 1 */
+    NUMBER_OUT_OF_ORDER = 9,    /* the record is out of order in its checkpoint */
+    NUMBER_BAD_COUNTS = 10,     /* COMMIT's counts differ from those received */
+    NUMBER_BAD_ACK = 11,        /* the ACK is old, or of an epoch not yet closed */
+    NUMBER_BAD_AREA = 12,       /* the record area is neither zero nor an activation */
+    NUMBER_WRONG_MODE = 13,     /* alone, not receiving, not taking over, or not active */
+    NUMBER_ALLOWANCE_USED = 14, /* the epoch already has B blocks */
+    NUMBER_STREAM_FULL = 15,    /* the stream lacks the bytes needed */
+    NUMBER_QUEUE_FULL = 16,     /* 64 packets are held, or Q would be passed */
+    NUMBER_SLOTS_FULL = 17,     /* S blocks are staged */
+    NUMBER_NOTHING_FREE = 18,   /* no packet may be handed out */
+    NUMBER_LAST_EPOCH = 19,     /* the open epoch is 4294967295 */
+    NUMBER_BLOCKS_DUE = 20,     /* blocks are still due at activation */
+    NUMBER_CUT_SHORT = 256      /* ours: the record is not all there; give it with more behind it */
+};
+
+/* 0 where the call is accepted, NUMBER_CUT_SHORT, or why it is refused. */
+static inline unsigned answer_number(uint64_t answer)
+{
+    return (unsigned)(answer & 65535);
+}
+
+/* How many of the lent bytes the record used: standby_read and primary_acknowledge only. */
+static inline size_t answer_used(uint64_t answer)
+{
+    return (size_t)(answer >> 16 & 65535);
+}
+
+/* The call's value; 0 where it is refused or cut short. */
+static inline uint32_t answer_value(uint64_t answer)
+{
+    return (uint32_t)(answer >> 32);
+}
+
+/* Whether more bytes are wanted before the record can be judged. */
+static inline int answer_cut_short(uint64_t answer)
+{
+    return answer_number(answer) == NUMBER_CUT_SHORT;
+}
+
+/* ---- Settings, lengths and limits. ---- */
+
+/* Where each setting stands. */
+enum {
+    SETTING_U = 0, /* bytes in a page and in a block: 64 to 4096, a multiple of 64 */
+    SETTING_M = 1, /* memory pages: 1 to 4096 */
+    SETTING_D = 2, /* disk blocks: 0 to 4096 */
+    SETTING_B = 3, /* block writes allowed per epoch: 0 to 64 */
+    SETTING_S = 4, /* block slots staged at the standby: B to 64 */
+    SETTING_Q = 5, /* bytes of held packets: 0 to 32768 */
+    SETTING_L = 6, /* bytes of outgoing stream: LEAST_STREAM(U, M, B) to 33554432 */
+    SETTING_T = 7, /* ticks of patience: 1 to 60000 */
+    SETTINGS_WORDS = 8
+};
+
+enum {
+    PROCESSOR_BYTES = 64,
+    AREA_BYTES = 8,
+    MOST_PACKETS = 64,
+    MOST_PACKET_BYTES = 1514,
+    MOST_SLOTS = 64,
+
+    /* Whole records: a PAGE or BLOCK has U + UNIT_RECORD bytes, and none has more than these. */
+    UNIT_RECORD = 10,
+    STATE_RECORD = 72,
+    COMMIT_RECORD = 12,
+    ACK_RECORD = 8
+};
+
+/* Words of dirty marks, and of staged marks, for m pages. */
+#define MARK_WORDS(m) (((m) + 63) / 64)
+
+/* The least L: a checkpoint of every page, with all the blocks of its epoch. */
+#define LEAST_STREAM(u, m, b) \
+    (((m) + (b)) * ((u) + UNIT_RECORD) + STATE_RECORD + COMMIT_RECORD)
+
+/* ---- The states, word by word. ---- */
+
+/* A primary. */
+enum {
+    PRIMARY_U = 0,
+    PRIMARY_M = 1,
+    PRIMARY_D = 2,
+    PRIMARY_B = 3,
+    PRIMARY_Q = 4,
+    PRIMARY_L = 5,
+    PRIMARY_T = 6,
+    PRIMARY_TICKS = 7,        /* ticks counted */
+    PRIMARY_EPOCH = 8,        /* the open epoch */
+    PRIMARY_ACKNOWLEDGED = 9, /* the last acknowledged epoch */
+    PRIMARY_ALONE = 10,       /* 1 when alone, else 0 */
+    PRIMARY_BLOCKS = 11,      /* block writes of the open epoch */
+    PRIMARY_WAITING = 12,     /* bytes of the stream that wait for drain */
+    PRIMARY_HELD_PACKETS = 13,
+    PRIMARY_HELD_BYTES = 14,
+    PRIMARY_PACKETS = 15,     /* MOST_PACKETS packets of PACKET_WORDS words, oldest first */
+    PRIMARY_WORDS = 143
+};
+
+/* Packet i of a primary begins at word PRIMARY_PACKETS + i * PACKET_WORDS. */
+enum {
+    PACKET_EPOCH = 0,
+    PACKET_LENGTH = 1,
+    PACKET_WORDS = 2
+};
+
+/* A standby, besides its two processor states. */
+enum {
+    STANDBY_U = 0,
+    STANDBY_M = 1,
+    STANDBY_D = 2,
+    STANDBY_B = 3,
+    STANDBY_S = 4,
+    STANDBY_T = 5,
+    STANDBY_TICKS = 6,       /* ticks counted */
+    STANDBY_MODE = 7,        /* MODE_RECEIVING, MODE_TAKING_OVER or MODE_ACTIVE */
+    STANDBY_RECEIVED = 8,    /* the last received epoch */
+    STANDBY_STAGED = 9,      /* blocks staged, those that are due among them */
+    STANDBY_DUE = 10,        /* blocks that are due */
+    STANDBY_SLOTS = 11,      /* MOST_SLOTS block numbers, oldest first */
+    STANDBY_BLOCKS = 75,     /* BLOCKs of the checkpoint under way */
+    STANDBY_PAGES = 76,      /* PAGEs of the checkpoint under way */
+    STANDBY_NEXT_PAGE = 77,  /* the least page number that may come next */
+    STANDBY_STATE_SEEN = 78, /* 1 once its STATE has come, else 0 */
+    STANDBY_WORDS = 79
+};
+
+enum {
+    MODE_RECEIVING = 0,
+    MODE_TAKING_OVER = 1,
+    MODE_ACTIVE = 2
+};
+
+/* ---- Start. ----
+ *
+ * Copies the primary's memory, disk and first processor state to the standby, clears both ends' M
+ * marks and the record area, and opens epoch 1: checkpoint 0, already received and acknowledged.
+ * Gives 1. Value 0.
+ *
+ * Changes: dirty, standby_memory, standby_disk, staged_marks, area, primary, standby, pending (64
+ * zeros) and processor. Where it is refused: both states and both processor states become wholly
+ * zero, a state that every later call refuses with 1, and nothing else is changed. Only where the
+ * words of the settings or of a state are not of their count is nothing changed at all.
+ *
+ * Where the two ends are in two boxes, start is made in one of them with the buffers of both, and
+ * the standby's part of it (standby, pending, processor and the six buffers of the standby) is
+ * carried over.
+ */
+uint64_t pair_start(const uint64_t *settings, size_t settings_len, const uint8_t *first,
+                    const uint8_t *memory, size_t memory_len, const uint8_t *disk, size_t disk_len,
+                    uint64_t *dirty, size_t dirty_len, const uint8_t *held, size_t held_len,
+                    const uint8_t *stream, size_t stream_len, uint8_t *standby_memory,
+                    size_t standby_memory_len, uint8_t *standby_disk, size_t standby_disk_len,
+                    const uint8_t *staged_pages, size_t staged_pages_len, uint64_t *staged_marks,
+                    size_t staged_marks_len, const uint8_t *staged_blocks,
+                    size_t staged_blocks_len, uint8_t *area, size_t area_len, uint64_t *primary,
+                    size_t primary_len, uint64_t *standby, size_t standby_len, uint8_t *pending,
+                    uint8_t *processor);
+
+/* ---- The primary's calls. ----
+ *
+ * A refused call, and one that is cut short, leaves the state and every buffer as before; its value
+ * is 0. An accepted one changes the buffers that its line "Changes" names, and no other.
+ */
+
+/*
+ * Memory write: 1 to U bytes inside one page, which becomes dirty even if its bytes are equal.
+ * Gives 1 2 3. Value: the open epoch. Changes: memory, dirty.
+ */
+uint64_t primary_memory_write(uint64_t *state, size_t state_len, uint8_t *memory,
+                              size_t memory_len, uint64_t *dirty, size_t dirty_len, size_t page,
+                              size_t offset, const uint8_t *bytes, size_t bytes_len);
+
+/*
+ * Disk write: one block, U bytes, stored on the disk, and a BLOCK appended to the stream. When
+ * alone nothing is appended or counted.
+ * Gives 1 2 3 14 15, when alone no 14 and 15. After 14 the guest waits for the next checkpoint,
+ * after 15 for drain. Value: the open epoch. Changes: state, disk, stream.
+ */
+uint64_t primary_disk_write(uint64_t *state, size_t state_len, uint8_t *disk, size_t disk_len,
+                            uint8_t *stream, size_t stream_len, size_t block,
+                            const uint8_t *bytes, size_t bytes_len);
+
+/*
+ * Packet: copied, and held with the open epoch.
+ * Gives 1 4 16. After 16 the guest waits until packets have been taken. Value: packets held.
+ * Changes: state, held.
+ */
+uint64_t primary_packet(uint64_t *state, size_t state_len, uint8_t *held, size_t held_len,
+                        const uint8_t *bytes, size_t bytes_len);
+
+/*
+ * Checkpoint: appends every dirty page, STATE with this processor state, and COMMIT to the stream;
+ * clears the marks; opens the next epoch. The guest stands still from the moment of its processor
+ * state until the call has returned.
+ * Gives 1 13 15 19. After 15, drain and call again: the marks are kept, nothing is lost.
+ * Value: the epoch closed. Changes: state, dirty, stream.
+ */
+uint64_t primary_checkpoint(uint64_t *state, size_t state_len, const uint8_t *memory,
+                            size_t memory_len, uint64_t *dirty, size_t dirty_len, uint8_t *stream,
+                            size_t stream_len, const uint8_t *processor);
+
+/*
+ * Drain: moves the first min(n, waiting, destination_len) bytes of the stream to the head of
+ * destination; its later bytes stay. They are cut anywhere, in a record too, and are now the
+ * host's to send.
+ * Gives 1. Value: bytes moved. Changes: state, stream, destination.
+ */
+uint64_t primary_drain(uint64_t *state, size_t state_len, uint8_t *stream, size_t stream_len,
+                       size_t n, uint8_t *destination, size_t destination_len);
+
+/*
+ * ACK: reads one ACK at the head of bytes, which acknowledges all epochs up to its own. Bytes
+ * behind it are not looked at.
+ * Gives 1 13, cut short (of its header), 6 7, cut short (of its body), 11. Value: its epoch; used:
+ * ACK_RECORD. Changes: state.
+ */
+uint64_t primary_acknowledge(uint64_t *state, size_t state_len, const uint8_t *bytes,
+                             size_t bytes_len);
+
+/*
+ * Take: hands out the oldest packet, at the head of destination, if its epoch is acknowledged or
+ * the primary is alone; the destination's later bytes stay. MOST_PACKET_BYTES hold any packet.
+ * Gives 1 18 5. Value: its length. Changes: state, held, destination.
+ */
+uint64_t primary_take(uint64_t *state, size_t state_len, uint8_t *held, size_t held_len,
+                      uint8_t *destination, size_t destination_len);
+
+/*
+ * Tick: counts while a closed epoch is unacknowledged; at T the primary is alone (PRIMARY_ALONE),
+ * and what waits in the stream is dropped. Alone it lets packets go without a standby: see that the
+ * standby cannot take over any more before you take them.
+ * Gives 1. Value 0. Changes: state.
+ */
+uint64_t primary_tick(uint64_t *state, size_t state_len);
+
+/* ---- The standby's calls. ----
+ *
+ * The state is state, pending and processor together. pending is the processor state of the last
+ * STATE; processor that of the last received checkpoint, with which the guest starts after a
+ * takeover. Refused calls are as with the primary.
+ */
+
+/*
+ * Read: reads one record at the head of bytes; bytes behind it are not looked at. A PAGE or BLOCK
+ * is staged. A COMMIT copies the staged pages into memory, keeps the processor state, makes the
+ * blocks due and writes the ACK into the first ACK_RECORD bytes of reply, for the host to send
+ * back: only then is the checkpoint received.
+ * Gives 1 13, cut short (of its header), 6 7, cut short (of its body), 2, 5 (COMMIT only), 8 9 10
+ * 14 17. After 17, flush and give the same record again. Value: the record's kind, RECORD_PAGE to
+ * RECORD_COMMIT; used: its bytes.
+ * Changes: state; by a PAGE staged_pages and staged_marks, by a BLOCK staged_blocks, by a STATE
+ * pending, by a COMMIT processor, memory, staged_marks and reply.
+ */
+uint64_t standby_read(uint64_t *state, size_t state_len, uint8_t *pending, uint8_t *processor,
+                      uint8_t *memory, size_t memory_len, uint8_t *staged_pages,
+                      size_t staged_pages_len, uint64_t *staged_marks, size_t staged_marks_len,
+                      uint8_t *staged_blocks, size_t staged_blocks_len, const uint8_t *bytes,
+                      size_t bytes_len, uint8_t *reply, size_t reply_len);
+
+/*
+ * Flush: stores min(n, due) due blocks on the disk, in order of arrival, and frees their slots. In
+ * any mode.
+ * Gives 1. Value: blocks stored. Changes: state, staged_blocks, disk.
+ */
+uint64_t standby_flush(uint64_t *state, size_t state_len, uint8_t *pending, uint8_t *processor,
+                       uint8_t *staged_blocks, size_t staged_blocks_len, uint8_t *disk,
+                       size_t disk_len, size_t n);
+
+/*
+ * Tick: counts while receiving, and the count returns to 0 at each accepted COMMIT. At T the
+ * standby takes over (MODE_TAKING_OVER): what it has of a checkpoint not wholly received is
+ * dropped.
+ * Gives 1. Value 0. Changes: state, and at T staged_marks.
+ */
+uint64_t standby_tick(uint64_t *state, size_t state_len, uint8_t *pending, uint8_t *processor,
+                      uint64_t *staged_marks, size_t staged_marks_len);
+
+/*
+ * Activation: writes the record with the last received epoch into the area, and the standby is
+ * active: memory, disk and processor are that checkpoint's, and the guest starts from them. Store
+ * the area with the disk before the guest runs; and see that the primary does not run any more.
+ * Gives 1 13 20. After 20, flush. Value: the last received epoch. Changes: state, area.
+ */
+uint64_t standby_activate(uint64_t *state, size_t state_len, uint8_t *pending, uint8_t *processor,
+                          uint8_t *area, size_t area_len);
+
+/*
+ * Memory write of the guest at an active standby: 1 to U bytes inside one page.
+ * Gives 1 13 2 3. Value: the last received epoch. Changes: memory.
+ */
+uint64_t standby_memory_write(uint64_t *state, size_t state_len, uint8_t *pending,
+                              uint8_t *processor, uint8_t *memory, size_t memory_len, size_t page,
+                              size_t offset, const uint8_t *bytes, size_t bytes_len);
+
+/*
+ * Disk write of the guest at an active standby: one block, U bytes.
+ * Gives 1 13 2 3. Value: the last received epoch. Changes: disk.
+ */
+uint64_t standby_disk_write(uint64_t *state, size_t state_len, uint8_t *pending,
+                            uint8_t *processor, uint8_t *disk, size_t disk_len, size_t block,
+                            const uint8_t *bytes, size_t bytes_len);
+
+/* ---- After both boxes fail. ---- */
+
+/*
+ * Disk choice: from which disk the guest starts again. An area of zeros means the primary's, an
+ * activation record the standby's. The two disks are equally long; their bytes are not read.
+ * Gives 1 12. Value: CHOICE_PRIMARY or CHOICE_STANDBY. Changes nothing.
+ */
+uint64_t pair_disk_choice(const uint8_t *primary, size_t primary_len, const uint8_t *standby,
+                          size_t standby_len, const uint8_t *area, size_t area_len);
+
+/* The values of the disk choice. */
+enum {
+    CHOICE_PRIMARY = 1,
+    CHOICE_STANDBY = 2
+};
+
+#ifdef __cplusplus
+}
+#endif
+
+#endif
