@@ -1,0 +1,124 @@
+#include "guest.h"
+
+#include <errno.h>
+#include <stdio.h>
+#include <stdlib.h>
+#include <string.h>
+#include <sys/socket.h>
+#include <unistd.h>
+
+/* Numbers that look random and are the same for the same start (splitmix64). */
+static uint64_t next_random(uint64_t *state)
+{
+    uint64_t z = *state += 0x9e3779b97f4a7c15;
+
+    z = (z ^ z >> 30) * 0xbf58476d1ce4e5b9;
+    z = (z ^ z >> 27) * 0x94d049bb133111eb;
+    return z ^ z >> 31;
+}
+
+static void random_bytes(uint64_t *state, uint8_t *bytes, size_t length)
+{
+    for (size_t i = 0; i < length; i++)
+        bytes[i] = (uint8_t)next_random(state);
+}
+
+void make_step(uint64_t n, struct step *s)
+{
+    uint64_t random = n << 32;
+    unsigned choice = next_random(&random) % 16;
+
+    s->action = choice == 0 ? DISK_WRITE : choice <= 3 ? PACKET : MEMORY_WRITE;
+    s->unit = next_random(&random) % (s->action == DISK_WRITE ? D : M);
+    s->offset = s->action == MEMORY_WRITE ? next_random(&random) % U : 0;
+    s->length = s->action == DISK_WRITE ? U : 1 + next_random(&random) % (U - s->offset);
+    random_bytes(&random, s->bytes, s->length);
+}
+
+void processor_after(uint64_t n, uint8_t processor[PROCESSOR_BYTES])
+{
+    uint64_t random = ~n;
+
+    random_bytes(&random, processor, PROCESSOR_BYTES);
+    memcpy(processor, &n, sizeof n);
+}
+
+uint64_t steps_of(const uint8_t processor[PROCESSOR_BYTES])
+{
+    uint64_t n;
+
+    memcpy(&n, processor, sizeof n);
+    return n;
+}
+
+void images_after(uint64_t n, uint8_t memory[M * U], uint8_t disk[D * U])
+{
+    uint64_t random = 1;
+    struct step s;
+
+    random_bytes(&random, memory, M * U);
+    random_bytes(&random, disk, D * U);
+    for (uint64_t i = 0; i < n; i++) {
+        make_step(i, &s);
+        if (s.action == MEMORY_WRITE)
+            memcpy(memory + s.unit * U + s.offset, s.bytes, s.length);
+        if (s.action == DISK_WRITE)
+            memcpy(disk + s.unit * U, s.bytes, s.length);
+    }
+}
+
+static int equal(const char *what, const uint8_t *is, const uint8_t *wanted, size_t length)
+{
+    for (size_t i = 0; i < length; i++)
+        if (is[i] != wanted[i]) {
+            printf("%s: byte %zu is %u and not %u\n", what, i, is[i], wanted[i]);
+            return 0;
+        }
+    return 1;
+}
+
+int images_equal(uint64_t n, const uint8_t memory[M * U], const uint8_t disk[D * U])
+{
+    static uint8_t wanted_memory[M * U], wanted_disk[D * U];
+    int good;
+
+    images_after(n, wanted_memory, wanted_disk);
+    good = equal("memory", memory, wanted_memory, M * U);
+    return equal("disk", disk, wanted_disk, D * U) && good;
+}
+
+int processor_equal(uint64_t n, const uint8_t processor[PROCESSOR_BYTES])
+{
+    uint8_t wanted[PROCESSOR_BYTES];
+
+    processor_after(n, wanted);
+    return equal("processor state", processor, wanted, PROCESSOR_BYTES);
+}
+
+void network_receive(struct network *n)
+{
+    uint8_t packet[MOST_PACKET_BYTES];
+    struct step s;
+    ssize_t length;
+
+    while (n->fd >= 0) {
+        length = recv(n->fd, packet, sizeof packet, 0);
+        if (length < 0 && (errno == EAGAIN || errno == EWOULDBLOCK))
+            return;
+        if (length < 0 && errno == EINTR)
+            continue;
+        if (length <= 0) {
+            close(n->fd);
+            n->fd = -1;
+            return;
+        }
+        do
+            make_step(n->steps++, &s);
+        while (s.action != PACKET);
+        n->packets++;
+        if (s.length != (size_t)length || memcmp(s.bytes, packet, s.length) != 0) {
+            printf("packet %u that left is not the guest's\n", n->packets);
+            exit(1);
+        }
+    }
+}

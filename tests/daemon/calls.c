@@ -1,0 +1,359 @@
+/*
+ * Both headers in one program, which is C99 and C++ at once: the constants against what
+ * tests/drive/FORM.md says, and every call once, at settings that are all different, with the words
+ * of the states read by their names.
+ *
+ * A failing check is printed; the last line is 'N passed, M failed'.
+ */
+
+#include <stdio.h>
+#include <string.h>
+
+#include "link.h"
+#include "standby_pair.h"
+
+#define JOINED(a, b) a##b
+#define NAMED(line) JOINED(check_, line)
+#define STATIC_CHECK(condition) typedef char NAMED(__LINE__)[(condition) ? 1 : -1]
+
+/* FORM.md: "A primary is 143 numbers". */
+STATIC_CHECK(PRIMARY_U == 0 && PRIMARY_M == 1 && PRIMARY_D == 2 && PRIMARY_B == 3);
+STATIC_CHECK(PRIMARY_Q == 4 && PRIMARY_L == 5 && PRIMARY_T == 6 && PRIMARY_TICKS == 7);
+STATIC_CHECK(PRIMARY_EPOCH == 8 && PRIMARY_ACKNOWLEDGED == 9 && PRIMARY_ALONE == 10);
+STATIC_CHECK(PRIMARY_BLOCKS == 11 && PRIMARY_WAITING == 12);
+STATIC_CHECK(PRIMARY_HELD_PACKETS == 13 && PRIMARY_HELD_BYTES == 14 && PRIMARY_PACKETS == 15);
+STATIC_CHECK(PACKET_EPOCH == 0 && PACKET_LENGTH == 1 && PACKET_WORDS == 2);
+STATIC_CHECK(PRIMARY_WORDS == 143 && PRIMARY_WORDS == 15 + 64 * 2);
+
+/* FORM.md: "A standby is 79 numbers and two processor states". */
+STATIC_CHECK(STANDBY_U == 0 && STANDBY_M == 1 && STANDBY_D == 2 && STANDBY_B == 3);
+STATIC_CHECK(STANDBY_S == 4 && STANDBY_T == 5 && STANDBY_TICKS == 6 && STANDBY_MODE == 7);
+STATIC_CHECK(STANDBY_RECEIVED == 8 && STANDBY_STAGED == 9 && STANDBY_DUE == 10);
+STATIC_CHECK(STANDBY_SLOTS == 11 && STANDBY_BLOCKS == 11 + 64 && STANDBY_PAGES == 76);
+STATIC_CHECK(STANDBY_NEXT_PAGE == 77 && STANDBY_STATE_SEEN == 78 && STANDBY_WORDS == 79);
+STATIC_CHECK(MODE_RECEIVING == 0 && MODE_TAKING_OVER == 1 && MODE_ACTIVE == 2);
+
+/* FORM.md: start's "U M D B S Q L T". */
+STATIC_CHECK(SETTING_U == 0 && SETTING_M == 1 && SETTING_D == 2 && SETTING_B == 3);
+STATIC_CHECK(SETTING_S == 4 && SETTING_Q == 5 && SETTING_L == 6 && SETTING_T == 7);
+STATIC_CHECK(SETTINGS_WORDS == 8);
+
+/* Document 01's lengths. */
+STATIC_CHECK(MARK_WORDS(1) == 1 && MARK_WORDS(64) == 1 && MARK_WORDS(65) == 2);
+STATIC_CHECK(LEAST_STREAM(64, 4, 2) == 528);
+STATIC_CHECK(PROCESSOR_BYTES == 64 && AREA_BYTES == 8 && MOST_PACKET_BYTES == 1514);
+STATIC_CHECK(MOST_PACKETS == 64 && MOST_SLOTS == 64);
+STATIC_CHECK(UNIT_RECORD == 10 && STATE_RECORD == 72 && COMMIT_RECORD == 12 && ACK_RECORD == 8);
+STATIC_CHECK(STATE_RECORD <= 64 + UNIT_RECORD);
+
+/* Settings with M not a multiple of 64, and no two alike. */
+enum { U = 128, M = 70, D = 5, B = 3, S = 7, Q = 300, L = LEAST_STREAM(128, 70, 3), T = 9 };
+
+#define LENT(array) (array), sizeof(array) / sizeof((array)[0])
+
+static const uint64_t settings[SETTINGS_WORDS] = {U, M, D, B, S, Q, L, T};
+static uint8_t first[PROCESSOR_BYTES], state_bytes[PROCESSOR_BYTES];
+
+static struct {
+    uint64_t state[PRIMARY_WORDS], dirty[MARK_WORDS(M)];
+    uint8_t memory[M * U], disk[D * U], held[Q], stream[L];
+} p;
+
+static struct {
+    uint64_t state[STANDBY_WORDS], staged_marks[MARK_WORDS(M)];
+    uint8_t pending[PROCESSOR_BYTES], processor[PROCESSOR_BYTES], memory[M * U], disk[D * U];
+    uint8_t staged_pages[M * U], staged_blocks[S * U], area[AREA_BYTES];
+} s;
+
+static uint8_t bytes[MOST_PACKET_BYTES], link_bytes[L], reply[ACK_RECORD];
+static unsigned passed, failed;
+
+static void check(const char *what, uint64_t is, uint64_t wanted)
+{
+    if (is == wanted) {
+        passed++;
+        return;
+    }
+    failed++;
+    printf("FAILED %s: %llu and not %llu\n", what, (unsigned long long)is,
+           (unsigned long long)wanted);
+}
+
+#define CHECK(is, wanted) check(#is, (is), (wanted))
+
+/* A call's number and value. */
+static void check_answer(const char *what, uint64_t answer, unsigned number, uint32_t value)
+{
+    check(what, answer_number(answer), number);
+    check(what, answer_value(answer), value);
+    check(what, (uint64_t)answer_cut_short(answer), number == NUMBER_CUT_SHORT);
+}
+
+static void accessors(void)
+{
+    uint64_t answer = 0xfedcba9876543210;
+
+    CHECK(answer_number(answer), 0x3210);
+    CHECK(answer_used(answer), 0x7654);
+    CHECK(answer_value(answer), 0xfedcba98);
+    check_answer("cut short", 256, NUMBER_CUT_SHORT, 0);
+    CHECK(record_number(UINT64_C(74) << 16 | 1 << 8), 0);
+    CHECK(record_kind(UINT64_C(74) << 16 | 1 << 8), RECORD_PAGE);
+    CHECK(record_used(UINT64_C(74) << 16 | 1 << 8), 74);
+}
+
+static uint64_t start(const uint64_t *words, size_t count)
+{
+    return pair_start(words, count, first, LENT(p.memory), LENT(p.disk), LENT(p.dirty),
+                      LENT(p.held), LENT(p.stream), LENT(s.memory), LENT(s.disk),
+                      LENT(s.staged_pages), LENT(s.staged_marks), LENT(s.staged_blocks),
+                      LENT(s.area), LENT(p.state), LENT(s.state), s.pending, s.processor);
+}
+
+/* Whether all bytes of an object are this one. */
+static int all_are(const void *object, size_t size, uint8_t byte)
+{
+    const uint8_t *at = (const uint8_t *)object;
+
+    for (size_t i = 0; i < size; i++)
+        if (at[i] != byte)
+            return 0;
+    return 1;
+}
+
+static void refused_starts(void)
+{
+    uint64_t words[SETTINGS_WORDS];
+
+    memset(&p, 0xee, sizeof p);
+    memset(&s, 0xee, sizeof s);
+    check_answer("a start of 7 settings", start(settings, 7), NUMBER_OUT_OF_RANGE, 0);
+    CHECK(all_are(&p, sizeof p, 0xee) && all_are(&s, sizeof s, 0xee), 1);
+
+    memcpy(words, settings, sizeof words);
+    words[SETTING_L] = L - 1;
+    check_answer("a start with L too small", start(LENT(words)), NUMBER_OUT_OF_RANGE, 0);
+    CHECK(all_are(p.state, sizeof p.state, 0) && all_are(s.state, sizeof s.state, 0), 1);
+    CHECK(all_are(s.pending, 64, 0) && all_are(s.processor, 64, 0), 1);
+    CHECK(all_are(p.dirty, sizeof p.dirty, 0xee) && all_are(s.memory, sizeof s.memory, 0xee), 1);
+    check_answer("a tick of no pair", primary_tick(LENT(p.state)), NUMBER_OUT_OF_RANGE, 0);
+
+    memset(p.state, 0xee, sizeof p.state);
+    memcpy(words, settings, sizeof words);
+    words[SETTING_T] = (UINT64_C(1) << 32) + T;
+    check_answer("a start with T of 33 bits", start(LENT(words)), NUMBER_OUT_OF_RANGE, 0);
+    CHECK(all_are(p.state, sizeof p.state, 0) && all_are(s.state, sizeof s.state, 0), 1);
+}
+
+static void accepted_start(void)
+{
+    memset(p.memory, 1, sizeof p.memory);
+    memset(p.disk, 2, sizeof p.disk);
+    memset(first, 3, sizeof first);
+    check_answer("start", start(LENT(settings)), 0, 0);
+    CHECK(memcmp(p.memory, s.memory, sizeof p.memory) == 0, 1);
+    CHECK(memcmp(p.disk, s.disk, sizeof p.disk) == 0, 1);
+    CHECK(all_are(s.processor, 64, 3) && all_are(s.pending, 64, 0), 1);
+    CHECK(all_are(s.area, 8, 0), 1);
+
+    CHECK(p.state[PRIMARY_U], U);
+    CHECK(p.state[PRIMARY_M], M);
+    CHECK(p.state[PRIMARY_D], D);
+    CHECK(p.state[PRIMARY_B], B);
+    CHECK(p.state[PRIMARY_Q], Q);
+    CHECK(p.state[PRIMARY_L], L);
+    CHECK(p.state[PRIMARY_T], T);
+    CHECK(p.state[PRIMARY_EPOCH], 1);
+    CHECK(p.state[PRIMARY_ACKNOWLEDGED], 0);
+    CHECK(s.state[STANDBY_U], U);
+    CHECK(s.state[STANDBY_M], M);
+    CHECK(s.state[STANDBY_D], D);
+    CHECK(s.state[STANDBY_B], B);
+    CHECK(s.state[STANDBY_S], S);
+    CHECK(s.state[STANDBY_T], T);
+    CHECK(s.state[STANDBY_MODE], MODE_RECEIVING);
+    CHECK(s.state[STANDBY_RECEIVED], 0);
+}
+
+/* Page 65, block 4, a packet of 11 bytes, and checkpoint 1. */
+static void first_epoch(void)
+{
+    memset(bytes, 7, sizeof bytes);
+    memset(state_bytes, 8, sizeof state_bytes);
+    check_answer("memory write", primary_memory_write(LENT(p.state), LENT(p.memory),
+                 LENT(p.dirty), 65, U - 5, bytes, 5), 0, 1);
+    CHECK(p.dirty[1] & 63, 2);
+    CHECK(p.dirty[1] >> 6, UINT64_C(0xeeeeeeeeeeeeeeee) >> 6); /* bits past M are kept */
+    check_answer("disk write", primary_disk_write(LENT(p.state), LENT(p.disk), LENT(p.stream), 4,
+                 bytes, U), 0, 1);
+    CHECK(p.state[PRIMARY_BLOCKS], 1);
+    CHECK(p.state[PRIMARY_WAITING], U + 10);
+    check_answer("packet", primary_packet(LENT(p.state), LENT(p.held), bytes, 11), 0, 1);
+    CHECK(p.state[PRIMARY_HELD_PACKETS], 1);
+    CHECK(p.state[PRIMARY_HELD_BYTES], 11);
+    CHECK(p.state[PRIMARY_PACKETS + PACKET_EPOCH], 1);
+    CHECK(p.state[PRIMARY_PACKETS + PACKET_LENGTH], 11);
+    check_answer("checkpoint", primary_checkpoint(LENT(p.state), LENT(p.memory), LENT(p.dirty),
+                 LENT(p.stream), state_bytes), 0, 1);
+    CHECK(p.state[PRIMARY_EPOCH], 2);
+    check_answer("tick", primary_tick(LENT(p.state)), 0, 0);
+    CHECK(p.state[PRIMARY_TICKS], 1);
+    check_answer("take", primary_take(LENT(p.state), LENT(p.held), LENT(bytes)),
+                 NUMBER_NOTHING_FREE, 0);
+    check_answer("drain", primary_drain(LENT(p.state), LENT(p.stream), L, LENT(link_bytes)), 0,
+                 2 * (U + 10) + 84);
+    CHECK(p.state[PRIMARY_WAITING], 0);
+}
+
+static uint64_t read_at(size_t at, size_t length)
+{
+    return standby_read(LENT(s.state), s.pending, s.processor, LENT(s.memory),
+                        LENT(s.staged_pages), LENT(s.staged_marks), LENT(s.staged_blocks),
+                        link_bytes + at, length, LENT(reply));
+}
+
+/* One record of the link: framed by the record test, read, and so many bytes. */
+static size_t read_one(size_t at, unsigned kind, size_t length)
+{
+    uint64_t word = record_test(U, link_bytes + at, sizeof link_bytes - at);
+    uint64_t answer = read_at(at, record_used(word));
+
+    CHECK(record_kind(word), kind);
+    CHECK(record_used(word), length);
+    check_answer("read", answer, 0, kind);
+    CHECK(answer_used(answer), length);
+    return at + length;
+}
+
+static void records(void)
+{
+    static const uint8_t ack1[] = {4, 0, 5, 0, 1, 0, 0, 0}; /* E3 */
+    size_t at = 0;
+
+    check_answer("a record less a byte", read_at(0, U + 9), NUMBER_CUT_SHORT, 0);
+    CHECK(record_cut_short(record_test(U, link_bytes, U + 9)), 1);
+    at = read_one(at, RECORD_BLOCK, U + 10);
+    CHECK(s.state[STANDBY_STAGED], 1);
+    CHECK(s.state[STANDBY_SLOTS], 4);
+    CHECK(s.state[STANDBY_BLOCKS], 1);
+    at = read_one(at, RECORD_PAGE, U + 10);
+    CHECK(s.state[STANDBY_PAGES], 1);
+    CHECK(s.state[STANDBY_NEXT_PAGE], 66);
+    at = read_one(at, RECORD_STATE, STATE_RECORD);
+    CHECK(s.state[STANDBY_STATE_SEEN], 1);
+    CHECK(all_are(s.pending, 64, 8) && all_are(s.processor, 64, 3), 1);
+    read_one(at, RECORD_COMMIT, COMMIT_RECORD);
+    CHECK(s.state[STANDBY_RECEIVED], 1);
+    CHECK(s.state[STANDBY_DUE], 1);
+    CHECK(all_are(s.processor, 64, 8), 1);
+    CHECK(memcmp(p.memory, s.memory, sizeof p.memory) == 0, 1);
+    CHECK(memcmp(reply, ack1, sizeof ack1) == 0, 1);
+}
+
+static void acknowledged(void)
+{
+    uint64_t answer = primary_acknowledge(LENT(p.state), LENT(reply));
+
+    check_answer("ACK", answer, 0, 1);
+    CHECK(answer_used(answer), ACK_RECORD);
+    CHECK(p.state[PRIMARY_ACKNOWLEDGED], 1);
+    CHECK(p.state[PRIMARY_TICKS], 0);
+    check_answer("ACK again", primary_acknowledge(LENT(p.state), LENT(reply)), NUMBER_BAD_ACK, 0);
+    check_answer("take", primary_take(LENT(p.state), LENT(p.held), LENT(bytes)), 0, 11);
+}
+
+static uint64_t activate(void)
+{
+    return standby_activate(LENT(s.state), s.pending, s.processor, LENT(s.area));
+}
+
+static void takeover(void)
+{
+    static const uint8_t activation1[] = {4, 0, 6, 0, 1, 0, 0, 0};
+
+    for (unsigned i = 1; i <= T; i++) {
+        check_answer("activation", activate(), NUMBER_WRONG_MODE, 0);
+        check_answer("tick", standby_tick(LENT(s.state), s.pending, s.processor,
+                     LENT(s.staged_marks)), 0, 0);
+        CHECK(s.state[STANDBY_TICKS], i);
+    }
+    CHECK(s.state[STANDBY_MODE], MODE_TAKING_OVER);
+    check_answer("activation", activate(), NUMBER_BLOCKS_DUE, 0);
+    check_answer("flush", standby_flush(LENT(s.state), s.pending, s.processor,
+                 LENT(s.staged_blocks), LENT(s.disk), S), 0, 1);
+    CHECK(memcmp(p.disk, s.disk, sizeof p.disk) == 0, 1);
+    check_answer("choice", pair_disk_choice(LENT(p.disk), LENT(s.disk), LENT(s.area)), 0,
+                 CHOICE_PRIMARY);
+    CHECK(disk_choice(LENT(p.disk), LENT(s.disk), LENT(s.area)), DISK_PRIMARY);
+    check_answer("activation", activate(), 0, 1);
+    CHECK(s.state[STANDBY_MODE], MODE_ACTIVE);
+    CHECK(memcmp(s.area, activation1, sizeof activation1) == 0, 1);
+    check_answer("choice", pair_disk_choice(LENT(p.disk), LENT(s.disk), LENT(s.area)), 0,
+                 CHOICE_STANDBY);
+    CHECK(disk_choice(LENT(p.disk), LENT(s.disk), LENT(s.area)), DISK_STANDBY);
+}
+
+static void active(void)
+{
+    check_answer("memory write", standby_memory_write(LENT(s.state), s.pending, s.processor,
+                 LENT(s.memory), M - 1, 0, bytes, U), 0, 1);
+    CHECK(memcmp(s.memory + (M - 1) * U, bytes, U) == 0, 1);
+    check_answer("disk write", standby_disk_write(LENT(s.state), s.pending, s.processor,
+                 LENT(s.disk), D - 1, bytes, U - 1), NUMBER_BAD_SIZE, 0);
+    check_answer("disk write", standby_disk_write(LENT(s.state), s.pending, s.processor,
+                 LENT(s.disk), D, bytes, U), NUMBER_NO_SUCH_UNIT, 0);
+    check_answer("a record", read_at(0, U + 10), NUMBER_WRONG_MODE, 0);
+}
+
+/* Ticks of a state with one word too large: 1, and the words stay. */
+static void no_state(uint64_t *words, size_t count, size_t at, uint64_t word)
+{
+    uint64_t before = words[at], answer;
+
+    words[at] = word;
+    if (count == PRIMARY_WORDS)
+        answer = primary_tick(words, count);
+    else
+        answer = standby_tick(words, count, s.pending, s.processor, LENT(s.staged_marks));
+    check_answer("a tick of words that are no state", answer, NUMBER_OUT_OF_RANGE, 0);
+    CHECK(words[at], word);
+    words[at] = before;
+}
+
+static void words_that_are_no_state(void)
+{
+    static const size_t primary_fields[] = {PRIMARY_T, PRIMARY_TICKS, PRIMARY_EPOCH,
+                                            PRIMARY_ACKNOWLEDGED, PRIMARY_PACKETS,
+                                            PRIMARY_PACKETS + 1, PRIMARY_WORDS - 1};
+    static const size_t standby_fields[] = {STANDBY_T, STANDBY_TICKS, STANDBY_RECEIVED};
+    const uint64_t large = UINT64_C(1) << 32;
+
+    for (size_t i = 0; i < sizeof primary_fields / sizeof primary_fields[0]; i++)
+        no_state(p.state, PRIMARY_WORDS, primary_fields[i], large + p.state[primary_fields[i]]);
+    for (size_t i = 0; i < sizeof standby_fields / sizeof standby_fields[0]; i++)
+        no_state(s.state, STANDBY_WORDS, standby_fields[i], large + s.state[standby_fields[i]]);
+    no_state(p.state, PRIMARY_WORDS, PRIMARY_ALONE, 2);
+    no_state(s.state, STANDBY_WORDS, STANDBY_MODE, 3);
+    no_state(s.state, STANDBY_WORDS, STANDBY_STATE_SEEN, 2);
+    check_answer("142 words", primary_tick(p.state, 142), NUMBER_OUT_OF_RANGE, 0);
+    check_answer("143 words", primary_tick(p.state, 143), 0, 0);
+    check_answer("78 words", standby_tick(s.state, 78, s.pending, s.processor,
+                 LENT(s.staged_marks)), NUMBER_OUT_OF_RANGE, 0);
+    check_answer("79 words", standby_tick(s.state, 79, s.pending, s.processor,
+                 LENT(s.staged_marks)), 0, 0);
+}
+
+int main(void)
+{
+    accessors();
+    refused_starts();
+    accepted_start();
+    first_epoch();
+    records();
+    acknowledged();
+    takeover();
+    active();
+    words_that_are_no_state();
+    printf("%u passed, %u failed\n", passed, failed);
+    return failed != 0;
+}
