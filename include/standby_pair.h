@@ -148,12 +148,11 @@ enum {
 #define MARK_WORDS(m) (((m) + 63) / 64)
 
 /* The least L: a checkpoint of every page, with all the blocks of its epoch. */
-#define LEAST_STREAM(u, m, b) \
-    (((m) + (b)) * ((u) + UNIT_RECORD) + STATE_RECORD + COMMIT_RECORD)
+#define LEAST_STREAM(u, m, b) (((m) + (b)) * ((u) + 10) + 84)
 
 /* ---- The states, word by word. ---- */
 
-/* A primary. */
+/* A primary. Its packet i begins at word PRIMARY_PACKETS + i * PACKET_WORDS. */
 enum {
     PRIMARY_U = 0,
     PRIMARY_M = 1,
@@ -171,12 +170,9 @@ enum {
     PRIMARY_HELD_PACKETS = 13,
     PRIMARY_HELD_BYTES = 14,
     PRIMARY_PACKETS = 15,     /* MOST_PACKETS packets of PACKET_WORDS words, oldest first */
-    PRIMARY_WORDS = 143
-};
+    PRIMARY_WORDS = 143,
 
-/* Packet i of a primary begins at word PRIMARY_PACKETS + i * PACKET_WORDS. */
-enum {
-    PACKET_EPOCH = 0,
+    PACKET_EPOCH = 0,         /* the words of a packet */
     PACKET_LENGTH = 1,
     PACKET_WORDS = 2
 };
