@@ -17,7 +17,6 @@
 
 #define _GNU_SOURCE
 
-#include <errno.h>
 #include <poll.h>
 #include <signal.h>
 #include <stdio.h>
@@ -27,9 +26,9 @@
 #include <sys/prctl.h>
 #include <sys/socket.h>
 #include <sys/wait.h>
-#include <time.h>
 #include <unistd.h>
 
+#include "connection.h"
 #include "guest.h"
 #include "link.h"
 #include "standby_pair.h"
@@ -38,22 +37,18 @@ enum {
     GUEST_MS = 1,           /* from one run of the guest to the next */
     GUEST_STEPS = 16,       /* its steps in each */
     CHECKPOINT_MS = 5,      /* from one checkpoint to the next */
-    PRIMARY_TICK_MS = 1000, /* longer than the standby's: alone is what the primary tries last */
+    PRIMARY_TICK_MS = 1000, /* longer than the standby's, since the primary ends when alone */
     STANDBY_TICK_MS = 250,  /* while records may still come */
     LINK_DOWN_TICK_MS = 20, /* the standby's once the link is down */
+    FLUSH_MS = 20,          /* a slow disk: one block, and more only where slots are wanted */
     STEPS_AFTER = 200,      /* the guest's steps at the standby after the takeover */
     MOST_RANDOM = 2000,     /* records before a kill at random */
+    MOST_PLACE = 1000000,   /* records before a kill at all */
     EPOCHS_KEPT = 65536     /* above the checkpoints that the stream and the socket can hold */
 };
 
 /* A lent array: its pointer and its length. */
 #define LENT(array) (array), sizeof(array) / sizeof((array)[0])
-
-static void die(const char *what)
-{
-    fprintf(stderr, "daemon: %s: %s\n", what, strerror(errno));
-    exit(2);
-}
 
 /* The value of a call that is never refused here. */
 static uint32_t accepted(uint64_t answer, const char *call)
@@ -65,105 +60,12 @@ static uint32_t accepted(uint64_t answer, const char *call)
     return answer_value(answer);
 }
 
-/* ---- Time and the link, the same for both ends. ---- */
-
-static int64_t milliseconds(void)
-{
-    struct timespec t;
-
-    if (clock_gettime(CLOCK_MONOTONIC, &t) != 0)
-        die("clock_gettime");
-    return (int64_t)t.tv_sec * 1000 + t.tv_nsec / 1000000;
-}
-
-/* Whether the time has come; it is then set again. One that was missed is not made up for. */
-static int is_due(int64_t *due, int64_t interval)
-{
-    int64_t now = milliseconds();
-
-    if (now < *due)
-        return 0;
-    *due = now + interval;
-    return 1;
-}
-
-/* Sleeps until one of two descriptors is ready (one below 0 never is) or the time has come. */
-static void wait_until(int64_t due, int fd, short events, int other, short other_events)
-{
-    struct pollfd fds[] = {{fd, events, 0}, {other, other_events, 0}};
-    int64_t now = milliseconds();
-
-    if (poll(fds, 2, due > now ? (int)(due - now) : 0) < 0 && errno != EINTR)
-        die("poll");
-}
-
-/* A non-blocking socket, what has come and is not used yet, and what is not sent yet. */
-struct link {
-    int fd; /* below 0 once the link is down */
-    size_t in_length, out_length;
-    uint8_t in[8 * (U + UNIT_RECORD)], out[4096];
-};
-
-static int try_later(void)
-{
-    return errno == EAGAIN || errno == EWOULDBLOCK || errno == EINTR;
-}
-
-static void drop(struct link *k)
-{
-    if (k->fd >= 0)
-        close(k->fd);
-    k->fd = -1;
-    k->in_length = k->out_length = 0;
-}
-
-static short link_events(const struct link *k)
-{
-    return (short)((k->in_length < sizeof k->in ? POLLIN : 0) | (k->out_length > 0 ? POLLOUT : 0));
-}
-
-static void receive(struct link *k)
-{
-    size_t space = sizeof k->in - k->in_length;
-    ssize_t n;
-
-    if (k->fd < 0 || space == 0)
-        return;
-    n = recv(k->fd, k->in + k->in_length, space, 0);
-    if (n > 0)
-        k->in_length += (size_t)n;
-    else if (n == 0 || !try_later())
-        drop(k);
-}
-
-/* Sends what the socket takes; the rest stays for the next time. */
-static void transmit(struct link *k)
-{
-    ssize_t n;
-
-    if (k->fd < 0 || k->out_length == 0)
-        return;
-    n = send(k->fd, k->out, k->out_length, MSG_NOSIGNAL);
-    if (n > 0) {
-        k->out_length -= (size_t)n;
-        memmove(k->out, k->out + n, k->out_length);
-    } else if (!try_later()) {
-        drop(k);
-    }
-}
-
-static void consume(struct link *k, size_t used)
-{
-    k->in_length -= used;
-    memmove(k->in, k->in + used, k->in_length);
-}
-
 /* ---- The primary's box. ---- */
 
 struct primary {
     uint64_t state[PRIMARY_WORDS], dirty[MARK_WORDS(M)];
     uint8_t memory[M * U], disk[D * U], held[Q], stream[L];
-    struct link link;
+    struct connection link;
     int network;
     uint8_t packet[MOST_PACKET_BYTES]; /* one that was taken and that the network has not yet */
     size_t packet_length;
@@ -220,7 +122,7 @@ static void make_checkpoint(struct primary *p)
 
 static void send_stream(struct primary *p)
 {
-    struct link *k = &p->link;
+    struct connection *k = &p->link;
     size_t space = sizeof k->out - k->out_length;
 
     if (k->fd < 0)
@@ -232,7 +134,7 @@ static void send_stream(struct primary *p)
 
 static void read_acks(struct primary *p)
 {
-    struct link *k = &p->link;
+    struct connection *k = &p->link;
 
     while (k->fd >= 0) {
         uint64_t answer = primary_acknowledge(LENT(p->state), k->in, k->in_length);
@@ -274,7 +176,7 @@ static void run_primary(struct primary *p)
     int64_t checkpoint = guest + CHECKPOINT_MS, tick = guest + PRIMARY_TICK_MS;
 
     while (!p->state[PRIMARY_ALONE]) {
-        wait_until(guest, p->link.fd, link_events(&p->link), /* the guest's time comes first */
+        wait_until(guest, p->link.fd, events_of(&p->link), /* the guest's time comes first */
                    p->packet_length > 0 ? p->network : -1, POLLOUT);
         receive(&p->link);
         read_acks(p);
@@ -287,6 +189,7 @@ static void run_primary(struct primary *p)
             accepted(primary_tick(LENT(p->state)), "tick");
         send_stream(p);
     }
+    fprintf(stderr, "daemon: the primary is alone and ends\n");
 }
 
 /* ---- The standby's box. ---- */
@@ -296,7 +199,7 @@ struct standby {
     uint8_t pending[PROCESSOR_BYTES], processor[PROCESSOR_BYTES];
     uint8_t memory[M * U], disk[D * U], staged_pages[M * U], staged_blocks[S * U];
     uint8_t area[AREA_BYTES];
-    struct link link;
+    struct connection link;
     struct network network;
     unsigned records[RECORD_COMMIT + 1]; /* read so far: of each kind, and at 0 all of them */
     pid_t primary;
@@ -323,7 +226,7 @@ static uint32_t flush(struct standby *s, size_t blocks)
 /* Reads the record of this many bytes, after a flush if its block finds no slot. */
 static uint64_t read_record(struct standby *s, size_t length)
 {
-    struct link *k = &s->link;
+    struct connection *k = &s->link;
     uint64_t answer;
 
     do
@@ -336,7 +239,7 @@ static uint64_t read_record(struct standby *s, size_t length)
 }
 
 /* An ACK must find space behind those not sent yet: without it no record is read. */
-static int has_ack_space(struct link *k)
+static int has_ack_space(struct connection *k)
 {
     if (sizeof k->out - k->out_length < ACK_RECORD)
         transmit(k);
@@ -345,7 +248,7 @@ static int has_ack_space(struct link *k)
 
 static void read_records(struct standby *s)
 {
-    struct link *k = &s->link;
+    struct connection *k = &s->link;
 
     while (has_ack_space(k) && k->fd >= 0) {
         uint64_t word = record_test(U, k->in, k->in_length), answer;
@@ -373,7 +276,7 @@ static void read_records(struct standby *s)
 /* Ends when the standby takes over: T ticks in a row without a COMMIT. */
 static void run_standby(struct standby *s)
 {
-    int64_t tick = milliseconds() + STANDBY_TICK_MS;
+    int64_t disk = milliseconds(), tick = disk + STANDBY_TICK_MS;
     int link_was_up = 1;
 
     if (s->place == 0)
@@ -382,12 +285,13 @@ static void run_standby(struct standby *s)
         if (s->link.fd < 0 && link_was_up)
             tick = milliseconds() + LINK_DOWN_TICK_MS;
         link_was_up = s->link.fd >= 0;
-        wait_until(tick, s->link.fd, link_events(&s->link), s->network.fd, POLLIN);
+        wait_until(tick, s->link.fd, events_of(&s->link), s->network.fd, POLLIN);
         receive(&s->link);
         read_records(s);
         transmit(&s->link);
         network_receive(&s->network);
-        flush(s, 1); /* as with a slow disk: activation waits for the rest */
+        if (is_due(&disk, FLUSH_MS))
+            flush(s, 1);
         if (is_due(&tick, link_was_up ? STANDBY_TICK_MS : LINK_DOWN_TICK_MS))
             accepted(standby_tick(LENT(s->state), s->pending, s->processor,
                                   LENT(s->staged_marks)), "tick");
@@ -432,10 +336,11 @@ static uint64_t run_guest_at_standby(struct standby *s)
     return end;
 }
 
-/* Whether this checkpoint, with so many steps of the guest, is what was taken over. */
-static int took_over(const struct standby *s, uint32_t epoch, uint64_t steps)
+/* Whether what the standby has now is this checkpoint, the last that it received. */
+static int has_checkpoint(const struct primary *p, const struct standby *s, uint32_t epoch)
 {
-    uint64_t choice = pair_disk_choice(LENT(s->disk), LENT(s->disk), LENT(s->area));
+    uint64_t steps = epoch == 0 ? 0 : p->steps_at[epoch % EPOCHS_KEPT];
+    uint64_t choice = pair_disk_choice(LENT(p->disk), LENT(s->disk), LENT(s->area));
     int good = images_equal(steps, s->memory, s->disk);
 
     good = processor_equal(steps, s->processor) && good;
@@ -496,11 +401,12 @@ static void start_primary(struct primary *p, struct standby *s)
     close(network[0]);
 }
 
-/* Where the primary is killed, from the command line; 0 where that is none of the four. */
+/* Where the primary is killed, from the command line. Whether that says a place. */
 static int read_place(int argc, char **argv, struct standby *s)
 {
     static const char *const kinds[] = {"stop", "page", "block", "state", "commit"};
-    char *end = "";
+    unsigned long place;
+    char *end;
 
     s->signal = SIGKILL;
     if (argc == 2 && strcmp(argv[1], "random") == 0) {
@@ -508,16 +414,18 @@ static int read_place(int argc, char **argv, struct standby *s)
         s->place = (unsigned)rand() % (MOST_RANDOM + 1);
         return 1;
     }
-    if (argc == 3) {
-        while (s->kind < 5 && strcmp(argv[2], kinds[s->kind]) != 0)
-            s->kind++;
-        if (s->kind == 0)
-            s->signal = SIGSTOP;
-    }
-    if (argc < 2 || argc > 3 || s->kind == 5 || argv[1][0] < '0' || argv[1][0] > '9')
+    if (argc != 2 && argc != 3)
         return 0;
-    s->place = (unsigned)strtoul(argv[1], &end, 10);
-    return *end == 0;
+    place = strtoul(argv[1], &end, 10);
+    if (end == argv[1] || *end != 0 || place > MOST_PLACE)
+        return 0;
+    s->place = (unsigned)place;
+    if (argc == 2)
+        return 1;
+    while (s->kind < RECORD_COMMIT && strcmp(argv[2], kinds[s->kind]) != 0)
+        s->kind++;
+    s->signal = s->kind == 0 ? SIGSTOP : SIGKILL;
+    return strcmp(argv[2], kinds[s->kind]) == 0;
 }
 
 int main(int argc, char **argv)
@@ -537,7 +445,7 @@ int main(int argc, char **argv)
     printf("%u records read: %u blocks, %u pages, %u states, %u commits\n", standby.records[0],
            standby.records[RECORD_BLOCK], standby.records[RECORD_PAGE],
            standby.records[RECORD_STATE], standby.records[RECORD_COMMIT]);
-    if (!took_over(&standby, epoch, epoch == 0 ? 0 : primary.steps_at[epoch % EPOCHS_KEPT]) ||
+    if (!has_checkpoint(&primary, &standby, epoch) ||
         !images_equal(run_guest_at_standby(&standby), standby.memory, standby.disk))
         return 1;
     printf("took over checkpoint %u: memory, disk and processor state equal; "

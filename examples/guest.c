@@ -1,11 +1,12 @@
 #include "guest.h"
 
-#include <errno.h>
 #include <stdio.h>
 #include <stdlib.h>
 #include <string.h>
 #include <sys/socket.h>
 #include <unistd.h>
+
+#include "connection.h"
 
 /* Numbers that look random and are the same for the same start (splitmix64). */
 static uint64_t next_random(uint64_t *state)
@@ -25,7 +26,7 @@ static void random_bytes(uint64_t *state, uint8_t *bytes, size_t length)
 
 void make_step(uint64_t n, struct step *s)
 {
-    uint64_t random = n << 32;
+    uint64_t random = (n + 40) << 32; /* 40: so that a block is among the first steps */
     unsigned choice = next_random(&random) % 16;
 
     s->action = choice == 0 ? DISK_WRITE : choice <= 3 ? PACKET : MEMORY_WRITE;
@@ -103,10 +104,8 @@ void network_receive(struct network *n)
 
     while (n->fd >= 0) {
         length = recv(n->fd, packet, sizeof packet, 0);
-        if (length < 0 && (errno == EAGAIN || errno == EWOULDBLOCK))
+        if (length < 0 && try_later())
             return;
-        if (length < 0 && errno == EINTR)
-            continue;
         if (length <= 0) {
             close(n->fd);
             n->fd = -1;

@@ -1,0 +1,99 @@
+#define _POSIX_C_SOURCE 200809L
+
+#include "connection.h"
+
+#include <errno.h>
+#include <poll.h>
+#include <stdio.h>
+#include <stdlib.h>
+#include <string.h>
+#include <sys/socket.h>
+#include <time.h>
+#include <unistd.h>
+
+void die(const char *what)
+{
+    fprintf(stderr, "daemon: %s: %s\n", what, strerror(errno));
+    exit(2);
+}
+
+int try_later(void)
+{
+    return errno == EAGAIN || errno == EWOULDBLOCK || errno == EINTR;
+}
+
+int64_t milliseconds(void)
+{
+    struct timespec t;
+
+    if (clock_gettime(CLOCK_MONOTONIC, &t) != 0)
+        die("clock_gettime");
+    return (int64_t)t.tv_sec * 1000 + t.tv_nsec / 1000000;
+}
+
+int is_due(int64_t *due, int64_t interval)
+{
+    int64_t now = milliseconds();
+
+    if (now < *due)
+        return 0;
+    *due = now + interval;
+    return 1;
+}
+
+void wait_until(int64_t due, int fd, short events, int other, short other_events)
+{
+    struct pollfd fds[] = {{fd, events, 0}, {other, other_events, 0}};
+    int64_t now = milliseconds();
+
+    if (poll(fds, 2, due > now ? (int)(due - now) : 0) < 0 && errno != EINTR)
+        die("poll");
+}
+
+short events_of(const struct connection *c)
+{
+    return (short)((c->in_length < sizeof c->in ? POLLIN : 0) | (c->out_length > 0 ? POLLOUT : 0));
+}
+
+void receive(struct connection *c)
+{
+    size_t space = sizeof c->in - c->in_length;
+    ssize_t n;
+
+    if (c->fd < 0 || space == 0)
+        return;
+    n = recv(c->fd, c->in + c->in_length, space, 0);
+    if (n > 0)
+        c->in_length += (size_t)n;
+    else if (n == 0 || !try_later())
+        drop(c);
+}
+
+void transmit(struct connection *c)
+{
+    ssize_t n;
+
+    if (c->fd < 0 || c->out_length == 0)
+        return;
+    n = send(c->fd, c->out, c->out_length, MSG_NOSIGNAL);
+    if (n >= 0) {
+        c->out_length -= (size_t)n;
+        memmove(c->out, c->out + n, c->out_length);
+    } else if (!try_later()) {
+        drop(c);
+    }
+}
+
+void consume(struct connection *c, size_t used)
+{
+    c->in_length -= used;
+    memmove(c->in, c->in + used, c->in_length);
+}
+
+void drop(struct connection *c)
+{
+    if (c->fd >= 0)
+        close(c->fd);
+    c->fd = -1;
+    c->in_length = c->out_length = 0;
+}
