@@ -9,7 +9,7 @@
  * - Buffers are lent for the call only, and none is kept.
  * - The buffers of one call, its states among them, must not overlap each other: the calls are
  *   proved for separate slices.
- * - No pointer needs an alignment beyond its type's: 8 for words, none for bytes.
+ * - No pointer needs an alignment beyond its type's; one to bytes needs none.
  * - Any thread may call, since nothing is shared or kept between calls. Calls on the same state or
  *   the same buffers must not overlap in time.
  *
@@ -22,9 +22,9 @@
  * bytes.
  *
  * The host keeps the states and the buffers, and hands the same ones to every call of their end.
- * Between calls it may read them, and leaves them as they are. One thing more it may do: where the
- * guest writes its memory without primary_memory_write, it sets the page's bit in `dirty` itself,
- * which is all that the call would have done.
+ * Between calls it may read them, and leaves them as they are, but for one thing: instead of a
+ * primary_memory_write it may write the page in memory and set the page's bit in dirty itself, as
+ * that call does and no more.
  *
  * Lengths are exact. All are counted in elements, of the settings that pair_start was given:
  *
