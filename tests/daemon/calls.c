@@ -1,6 +1,6 @@
 /*
  * Both headers in one program, which is C99 and C++ at once: the constants against what
- * tests/drive/FORM.md says, and every call once, at settings that are all different, with the words
+ * tests/calls/FORM.md says, and every call once, at settings that are all different, with the words
  * of the states read by their names.
  *
  * A failing check is printed; the last line is 'N passed, M failed'.
