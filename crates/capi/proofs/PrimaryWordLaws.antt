@@ -2,7 +2,7 @@
 -- words. Assumes nothing.
 use mathlib.Core.Path.{_≡_, refl, sym, ap, _∙_}
 use mathlib.Core.List.{List, [], _∷_, _++_, append-nil}
-use mathlib.Core.Bool.{Bool, true, false, _&&_}
+use mathlib.Core.Bool.{Bool, true, false}
 use Prim.Native.Nat.{ℕ, suc, zero, _+_, _*_, _≤_, _<_}
 use native.Mathlib.Numerals.{add-one}
 use native.Mathlib.Omega.{arith}
@@ -11,13 +11,13 @@ use lib.Dec.{leb}
 use lib.ListN.{length, take, drop, getD, set, length-append, length-drop, drop-of-length-le}
 use lib.Seq.{take-suc-set, take-suc, take-all, length-take-le, drop-cons, append-snoc}
 use Rattle.lists.specs.Part.{put}
-use Rattle.lists.proofs.PartLaws.{put-put, put-next, put-whole, length-put, put-none}
+use Rattle.lists.proofs.PartLaws.{put-put, put-next, put-whole}
 use Rattle.lists.proofs.TestLaws.{both, join}
 use Rattle.queue.specs.declared.Packet.{Packet}
 use Rattle.rules.specs.declared.Primary.{Primary}
 use Rattle.capi.specs.Word.{isFlag, flagOf, flagWord, allLow, between}
 use Rattle.capi.specs.PrimaryWords.{packetsOf, packetWords, headWords, primaryWords, primaryWordsOk, primaryOf, primaryLength, packetsAt}
-use Rattle.capi.proofs.WordLaws.{low-at, low-append}
+use Rattle.capi.proofs.WordLaws.{low-at, low-append, words-from}
 
 -- what words that are a state have
 pub record PrimaryWordFacts (w : List ℕ) : Type 0 where
@@ -152,6 +152,4 @@ unfolding primaryOf primaryWords headWords
 primary-words-again w e =
     let f = primary-word-facts w e in
     let n : length (drop packetsAt w) ≡ 2 * 64 = rw (length-drop packetsAt w) (omega (arith, f .many)) in
-    let at : (i : ℕ) → i < primaryLength → getD w i 0 ∷ drop (suc i) w ≡ drop i w =
-    λ i h. sym (drop-cons w i 0 (omega (arith, f .many))) in
-    rw (flag-words (getD w 10 0) (f .flag), packets-words 64 (drop packetsAt w) n, at 14 (omega arith), at 13 (omega arith), at 12 (omega arith), at 11 (omega arith), at 10 (omega arith), at 9 (omega arith), at 8 (omega arith), at 7 (omega arith), at 6 (omega arith), at 5 (omega arith), at 4 (omega arith), at 3 (omega arith), at 2 (omega arith), at 1 (omega arith), at 0 (omega arith))
+    rw (flag-words (getD w 10 0) (f .flag), packets-words 64 (drop packetsAt w) n) (words-from 15 0 w (omega (arith, f .many)))

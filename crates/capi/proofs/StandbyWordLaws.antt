@@ -1,14 +1,14 @@
 -- The standby's words: what a state of them has, and that a state is the state of its words and the words of a state its
 -- words. Assumes nothing.
 use mathlib.Core.Path.{_≡_, refl, sym, ap, _∙_}
-use mathlib.Core.List.{List, [], _∷_, _++_, append-assoc}
-use mathlib.Core.Bool.{Bool, true, false, _&&_}
+use mathlib.Core.List.{List, [], _++_, append-assoc}
+use mathlib.Core.Bool.{true, _&&_}
 use Prim.Native.Nat.{ℕ, suc, zero, _+_, _≤_, _<_}
 use native.Mathlib.Omega.{arith}
 use borrow.Author.Tests.{leb-true, eqb-true, eq-eqb}
 use lib.Dec.{leb}
-use lib.ListN.{length, take, drop, getD, length-append, length-drop, drop-of-length-le}
-use lib.Seq.{take-at, drop-at, drop-cons, getD-append-add}
+use lib.ListN.{length, take, drop, getD, length-append, drop-of-length-le, take-append-drop}
+use lib.Seq.{take-at, drop-at, drop-drop, getD-append-add}
 use Rattle.lists.specs.Part.{part, put}
 use Rattle.lists.proofs.PartLaws.{put-next, put-whole}
 use Rattle.lists.proofs.TestLaws.{both, join}
@@ -17,7 +17,7 @@ use Rattle.rules.specs.declared.Mode.the-variants.{Receiving, TakingOver, Activ
 use Rattle.rules.specs.declared.Standby.{Standby}
 use Rattle.capi.specs.Word.{isLow, allLow, between, isFlag}
 use Rattle.capi.specs.StandbyWords.{modeOf, modeWord, isMode, firstWords, lastWords, standbyWords, standbyWordsOk, standbyOf, standbyLength, numbersAt, numbersMany}
-use Rattle.capi.proofs.WordLaws.{low-at}
+use Rattle.capi.proofs.WordLaws.{low-at, wordsFrom, words-from}
 use Rattle.capi.proofs.PrimaryWordLaws.{flag-again, flag-words, flag-fits}
 
 -- what words that are a state have
@@ -57,7 +57,7 @@ store-three w s h n =
     ∙ put-next w (f ++ ns) (lastWords s) 75 m (omega arith)
     ∙ put-whole w (f ++ ns ++ lastWords s) (rw (length-append (f ++ ns) (lastWords s)) (omega arith))
 
--- ---- the words of a state whose fields of 32 bits fit are a state's
+-- ---- modes, and the three parts apart
 mode-fits : (m : Mode) → isMode (modeWord m) ≡ true
 mode-fits Receiving = refl
 mode-fits TakingOver = refl
@@ -101,3 +101,20 @@ standby-again s h =
     let at : (i : ℕ) → getD (a ++ n ++ b) (75 + i) 0 ≡ getD b i 0 = behind a n b refl h in
     let k : part 11 64 (a ++ n ++ b) ≡ n = middle a n b refl h in
     rw (k, at 0, at 1, at 2, at 3, mode-again (s .mode), flag-again (s .seen))
+
+-- ---- and words that are a state are the words of it
+mode-words : (n : ℕ) → n ≤ 2 → modeWord (modeOf n) ≡ n
+mode-words zero h = refl
+mode-words (suc zero) h = refl
+mode-words (suc (suc zero)) h = refl
+mode-words (suc (suc (suc n))) h = absurd (omega arith)
+
+pub standby-words-again : (w pending processor : List ℕ) → standbyWordsOk w ≡ true → standbyWords (standbyOf w pending processor) ≡ w
+unfolding standbyOf standbyWords firstWords lastWords part
+standby-words-again w pending processor e =
+    let f = standby-word-facts w e in
+    let le : length w ≤ standbyLength = omega (arith, f .many) in
+    let last : wordsFrom 4 75 w [] ≡ drop 75 w = ap (wordsFrom 4 75 w) (sym (drop-of-length-le w le)) ∙ words-from 4 75 w (omega (arith, f .many)) in
+    let rest : take 64 (drop 11 w) ++ drop 75 w ≡ drop 11 w = ap (λ (l : List ℕ). take 64 (drop 11 w) ++ l) (sym (drop-drop 64 11 w)) ∙ take-append-drop 64 (drop 11 w) in
+    rw (flag-words (getD w 78 0) (f .flag), mode-words (getD w 7 0) (f .mode))
+    (ap (λ (l : List ℕ). wordsFrom 11 0 w (take 64 (drop 11 w) ++ l)) last ∙ ap (wordsFrom 11 0 w) rest ∙ words-from 11 0 w (omega (arith, f .many)))

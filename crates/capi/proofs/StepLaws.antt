@@ -1,14 +1,11 @@
 -- What each call's contract says is the step rules' clause of it, on the world that has this end with these words and
 -- buffers: one equation of all that a step leaves. Assumes nothing.
 use mathlib.Core.Path.{_≡_, refl, sym, ap, subst, _∙_}
-use mathlib.Core.List.{List, [], _∷_, _++_}
+use mathlib.Core.List.{List, [], _++_}
 use mathlib.Core.Bool.{Bool, true, false, cond}
-use Prim.Native.Nat.{ℕ, zero, suc, _+_, _≤_}
-use native.Mathlib.Nat.{add-zero}
+use Prim.Native.Nat.{ℕ}
 use native.Mathlib.Omega.{arith}
-use lib.ListN.{length, take, drop, getD, drop-of-length-le, take-append-drop}
-use lib.Seq.{drop-cons, drop-drop}
-use Rattle.lists.specs.Part.{part}
+use lib.ListN.{take, drop, getD}
 use Rattle.lists.proofs.TestLaws.{cond-true, cond-false}
 use Rattle.records.specs.Number.{outOfRange}
 use Rattle.records.specs.Kind.{bodyLength, recordLength}
@@ -25,13 +22,13 @@ use Rattle.rules.specs.World as call
 use Rattle.rules.specs.Step.{step, outcome, atPrimary, atStandby}
 use Rattle.capi.specs.Word.{answerWord, answerNumber, answerUsed, answerValue, Left}
 use Rattle.capi.specs.PrimaryWords.{primaryWords, primaryWordsOk, primaryOf}
-use Rattle.capi.specs.StandbyWords.{modeOf, modeWord, firstWords, lastWords, standbyWords, standbyWordsOk, standbyOf, standbyLength}
+use Rattle.capi.specs.StandbyWords.{standbyWords, standbyOf}
 use Rattle.capi.specs.PrimaryCalls.{PrimaryDone, MemoryWriteDone, DiskWriteDone, PacketDone, CheckpointDone, DrainDone, AckDone, TakeDone, PrimaryTickDone}
 use Rattle.capi.specs.StandbyCalls.{LentStandby, asLent, isStandby, standbyIn, StandbyDone, ReadDone, FlushDone, StandbyTickDone, ActivationDone, ActiveMemoryWriteDone, ActiveDiskWriteDone}
 use Rattle.capi.specs.PairCalls.{settingsOf, startWordsOk, StartDone, diskValue, choiceWord}
 use Rattle.capi.specs.Joined.{primaryEnd, standbyEnd, withLink, withAcks, toldStep, ackSent}
-use Rattle.capi.proofs.PrimaryWordLaws.{primary-again, flag-words, primary-words-again}
-use Rattle.capi.proofs.StandbyWordLaws.{standby-word-facts}
+use Rattle.capi.proofs.PrimaryWordLaws.{primary-again, primary-words-again}
+use Rattle.capi.proofs.StandbyWordLaws.{standby-words-again}
 use Rattle.capi.proofs.AnswerLaws.{AnswerFits, Parts, answer-parts, memory-write-fits, disk-write-fits, packet-fits, checkpoint-fits, drain-fits, ack-fits, take-fits, primary-tick-fits, read-fits, flush-fits, standby-tick-fits, activation-fits, active-memory-write-fits, active-disk-write-fits, start-fits, choice-fits}
 
 -- ---- what every call leaves, where it is lent a state
@@ -236,34 +233,6 @@ module _ {ok : Bool} (none : ok ≡ false) where
   standby-none done = (done .told ∙ cond-false _ _ _ none, lent-same (left-none _ _ _ (done .words)) (left-none _ _ _ (done .staged)) (left-none _ _ _ (done .kept)))
 
 -- ---- a refused call leaves the state, and what leaves the state leaves the words
-
--- n words from i on before others; before those that follow them they are all from i on
-abbrev wordsFrom : ℕ → ℕ → List ℕ → List ℕ → List ℕ
-wordsFrom zero i w rest = rest
-wordsFrom (suc n) i w rest = getD w i 0 ∷ wordsFrom n (suc i) w rest
-
-words-from : (n i : ℕ) (w : List ℕ) → i + n ≤ length w → wordsFrom n i w (drop (i + n) w) ≡ drop i w
-words-from zero i w h = rw add-zero
-words-from (suc n) i w h =
-    let e : i + suc n ≡ suc i + n = omega arith in
-    rw e (ap (λ (l : List ℕ). getD w i 0 ∷ l) (words-from n (suc i) w (omega arith)) ∙ sym (drop-cons w i 0 (omega arith)))
-
--- the standby's words that are a state are the words of it
-mode-words : (n : ℕ) → n ≤ 2 → modeWord (modeOf n) ≡ n
-mode-words zero h = refl
-mode-words (suc zero) h = refl
-mode-words (suc (suc zero)) h = refl
-mode-words (suc (suc (suc n))) h = absurd (omega arith)
-
-pub standby-words-again : (w pending processor : List ℕ) → standbyWordsOk w ≡ true → standbyWords (standbyOf w pending processor) ≡ w
-unfolding standbyOf standbyWords firstWords lastWords part
-standby-words-again w pending processor e =
-    let f = standby-word-facts w e in
-    let le : length w ≤ standbyLength = omega (arith, f .many) in
-    let last : wordsFrom 4 75 w [] ≡ drop 75 w = ap (wordsFrom 4 75 w) (sym (drop-of-length-le w le)) ∙ words-from 4 75 w (omega (arith, f .many)) in
-    let rest : take 64 (drop 11 w) ++ drop 75 w ≡ drop 11 w = ap (λ (l : List ℕ). take 64 (drop 11 w) ++ l) (sym (drop-drop 64 11 w)) ∙ take-append-drop 64 (drop 11 w) in
-    rw (flag-words (getD w 78 0) (f .flag), mode-words (getD w 7 0) (f .mode))
-    (ap (λ (l : List ℕ). wordsFrom 11 0 w (take 64 (drop 11 w) ++ l)) last ∙ ap (wordsFrom 11 0 w) rest ∙ words-from 11 0 w (omega (arith, f .many)))
 
 pub primary-refused-words : {w w′ : List ℕ} {next : Primary} {word answer : ℕ} → primaryWordsOk w ≡ true → next ≡ primaryOf w
     → PrimaryDone (primaryWordsOk w) w next word answer w′ → w′ ≡ w

@@ -1,14 +1,15 @@
 -- Laws of words: their fields of 32 bits, the answer's parts, and the loops that read and store them. Assumes nothing.
 use mathlib.Core.Path.{_≡_, refl, sym, ap, _∙_}
 use mathlib.Core.List.{List, [], _∷_, _++_}
-use mathlib.Core.Bool.{Bool, true, false, _&&_, cond}
-use Prim.Native.Nat.{ℕ, suc, zero, _+_, _*_, _-_, _≤_, _<_}
+use mathlib.Core.Bool.{Bool, true, false, _&&_}
+use Prim.Native.Nat.{ℕ, suc, zero, _+_, _-_, _≤_, _<_}
 use native.Mathlib.Numerals.{add-one}
+use native.Mathlib.Nat.{add-zero}
 use native.Mathlib.Omega.{arith}
 use borrow.Author.Tests.{leb-true, le-leb}
 use lib.Dec.{leb}
 use lib.ListN.{length, take, drop, getD, set, length-set}
-use lib.Seq.{take-suc-set, take-suc, take-all, length-take-le, getD-take, getD-drop}
+use lib.Seq.{drop-cons, take-suc-set, take-suc, take-all, length-take-le, getD-take, getD-drop}
 use Rattle.lists.specs.Part.{part, put}
 use Rattle.lists.proofs.PartLaws.{put-put, length-put, put-none, length-part}
 use Rattle.lists.proofs.ArrayLaws.{set-put, rest-cons, rest-none}
@@ -63,6 +64,17 @@ test-more false b c = refl
 pub test-end : (a b : Bool) → b ≡ true → a && b ≡ a
 test-end true b e = e
 test-end false b e = refl
+
+-- ---- words one by one: n of them from i on, before others; before those that follow they are all from i on
+abbrev pub wordsFrom : ℕ → ℕ → List ℕ → List ℕ → List ℕ
+wordsFrom zero i w rest = rest
+wordsFrom (suc n) i w rest = getD w i 0 ∷ wordsFrom n (suc i) w rest
+
+pub words-from : (n i : ℕ) (w : List ℕ) → i + n ≤ length w → wordsFrom n i w (drop (i + n) w) ≡ drop i w
+words-from zero i w h = rw add-zero
+words-from (suc n) i w h =
+    let e : i + suc n ≡ suc i + n = omega arith in
+    rw e (ap (λ (l : List ℕ). getD w i 0 ∷ l) (words-from n (suc i) w (omega arith)) ∙ sym (drop-cons w i 0 (omega arith)))
 
 -- ---- reading and storing
 module _ {A : Type 0} where

@@ -16,8 +16,8 @@ use Rattle.capi.specs.StandbyWords.{standbyLength}
 use Rattle.capi.specs.PrimaryCalls.{PrimaryDone}
 use Rattle.capi.specs.StandbyCalls.{LentStandby, StandbyDone}
 
--- ---- the settings as words: U M D B S Q L T. A T above every 32-bit number is out of its range, and so is the largest of
--- these, as which it is taken
+-- ---- the settings as words: U M D B S Q L T. A T that does not fit its field is taken as the largest that does, which is
+-- out of T's range as well
 abbrev pub settingsLength : ℕ
 settingsLength = 8
 

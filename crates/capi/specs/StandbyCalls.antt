@@ -1,5 +1,5 @@
--- The standby's calls on a state that is lent as words and two processor states: what each leaves, as PrimaryCalls has it
--- of the primary's. Assumes nothing.
+-- The standby's calls on a state that is lent as words and two processor states: what each leaves, as PrimaryCalls says
+-- it of the primary's. Assumes nothing.
 use Prim.Native.Nat.{ℕ}
 use mathlib.Core.Path.{_≡_}
 use mathlib.Core.Bool.{Bool, true, cond}

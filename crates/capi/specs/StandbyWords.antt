@@ -15,7 +15,7 @@ use Rattle.capi.specs.Word.{isLow, allLow, between, isFlag, flagOf, flag
 abbrev pub standbyLength : ℕ
 standbyLength = 79
 
--- where the block numbers begin, how many they are, and where they end
+-- where the block numbers begin, and how many they are
 abbrev pub numbersAt : ℕ
 numbersAt = 11
 

@@ -9,7 +9,7 @@ ghost use Rattle.capi.specs.Word.{mostField};
 ghost use Rattle.capi.specs.PrimaryWords.{primaryLength};
 ghost use Rattle.capi.specs.StandbyWords.{standbyLength};
 ghost use Rattle.capi.specs.StandbyCalls.{asLent};
-ghost use Rattle.capi.specs.PairCalls.{settingsLength, settingsOf, startWordsOk, lentBuffers, StartDone, choiceWord};
+ghost use Rattle.capi.specs.PairCalls.{settingsLength, settingsOf, lentBuffers, StartDone, choiceWord};
 use crate::primary_words;
 use crate::standby_words;
 use crate::word;

@@ -1,7 +1,7 @@
 // The standby's state as words; its two processor states are lent as bytes.
 ghost use mathlib.Core.Path.{_≡_};
 ghost use mathlib.Core.Bool.{true, _&&_};
-ghost use Prim.Native.Nat.{_<_, _≤_, _+_};
+ghost use Prim.Native.Nat.{_<_, _+_};
 ghost use lib.ListN.{length, getD};
 ghost use Rattle.lists.specs.Part.{part, put};
 ghost use Rattle.capi.specs.Word.{isLow, allLow, between};

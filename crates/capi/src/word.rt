@@ -10,7 +10,8 @@ use rules::Answer;
 // The largest number of a field of 32 bits.
 pub const MOST_FIELD: u64 = 4294967295;
 
-// Whether the words from one place on, up to another, all fit a field of 32 bits. It looks at each of them, so that the compiler can look at several at once.
+// Whether the words from one place on, up to another, all fit a field of 32 bits. All are looked at, whatever the first
+// ones say: so the compiler can look at several at once.
 pub fn all_low(w: &[u64], from: usize, to: usize) -> bool
     requires { ⌜ (from ≤ to) × (to ≤ length (now w)) ⌝ }
     ensures { λ r. ⌜ r ≡ allLow (between from to (now (w .entry))) ⌝ }

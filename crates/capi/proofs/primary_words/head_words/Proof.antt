@@ -1,9 +1,7 @@
 -- `primary_words::head_words` meets its contract. That the fields of 32 bits fit, their type gives. Assumes nothing.
-use Prim.Native.Nat.{ℕ, _<_}
-use mathlib.Core.Path.{_≡_, refl}
-use mathlib.Core.List.{List, []}
+use Prim.Native.Nat.{_<_}
+use mathlib.Core.Path.{_≡_}
 use mathlib.Core.Bool.{true}
-use native.Mathlib.Omega.{arith}
 use Rattle.capi.specs.Word.{allLow, between}
 use Rattle.capi.specs.PrimaryWords.{headWords}
 use Rattle.capi.proofs.WordLaws.{low-none, low-cons}

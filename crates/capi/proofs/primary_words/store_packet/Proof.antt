@@ -1,7 +1,7 @@
 -- `primary_words::store_packet` meets its contract. That the fields of 32 bits fit, their type gives. Assumes nothing.
-use Prim.Native.Nat.{ℕ, _<_}
-use mathlib.Core.Path.{_≡_, refl}
-use mathlib.Core.List.{List, [], _∷_}
+use Prim.Native.Nat.{_<_}
+use mathlib.Core.Path.{_≡_}
+use mathlib.Core.List.{[], _∷_}
 use mathlib.Core.Bool.{true}
 use Rattle.capi.specs.Word.{allLow}
 use Rattle.capi.specs.PrimaryWords.{packetWords}

@@ -1,15 +1,14 @@
 -- `primary_words::store_packets` meets its contract. The loop's invariant: the packets passed are stored. Assumes nothing.
-use Prim.Native.Nat.{ℕ, _+_, _*_, _-_, _≤_, _<_}
+use Prim.Native.Nat.{ℕ, _+_, _*_, _-_, _≤_}
 use mathlib.Core.Path.{_≡_, refl, sym, ap, _∙_}
-use mathlib.Core.List.{List, [], _∷_, map}
+use mathlib.Core.List.{List, [], _∷_}
 use mathlib.Core.Bool.{true}
 use native.Mathlib.Omega.{arith}
-use lib.ListN.{length, take, getD, length-map}
+use lib.ListN.{length, take, getD}
 use lib.Seq.{take-all}
 use Rattle.lists.specs.Part.{put}
 use Rattle.lists.proofs.PartLaws.{put-none, length-put}
 use Rattle.queue.specs.declared.Packet.{Packet}
-use Rattle.queue.proofs.Packet.{the-type}
 use Rattle.capi.specs.Word.{allLow}
 use Rattle.capi.specs.PrimaryWords.{packetWords, packetsAt, primaryLength}
 use Rattle.capi.proofs.PrimaryWordLaws.{length-packetWords, store-more, low-packets-more}

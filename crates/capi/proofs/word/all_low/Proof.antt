@@ -1,7 +1,7 @@
 -- `word::all_low` meets its contract. The loop's invariant: the words passed and the test of the rest. Assumes nothing.
-use Prim.Native.Nat.{ℕ, _+_, _-_, _≤_}
+use Prim.Native.Nat.{_+_, _-_, _≤_}
 use mathlib.Core.Path.{_≡_, refl, sym, ap, _∙_}
-use mathlib.Core.Bool.{Bool, true, _&&_}
+use mathlib.Core.Bool.{Bool, _&&_}
 use native.Mathlib.Omega.{arith}
 use lib.ListN.{getD}
 use Rattle.capi.specs.Word.{isLow, allLow, between}
