@@ -46,7 +46,7 @@ pub packet-field : (w : List ℕ) (i : ℕ) → primaryWordsOk w ≡ true → pa
 packet-field w i e h k = let f = primary-word-facts w e in low-at w packetsAt primaryLength i (f .packets) h k (omega (arith, f .many))
 
 -- ---- a packet of words, and the words of packets
-packet-cons : (w : List ℕ) (at : ℕ) → at + 2 ≤ length w → packetsOf (drop at w) ≡ record { epoch = getD w at 0; length = getD w (at + 1) 0 } ∷ packetsOf (drop (at + 2) w)
+pub packet-cons : (w : List ℕ) (at : ℕ) → at + 2 ≤ length w → packetsOf (drop at w) ≡ record { epoch = getD w at 0; length = getD w (at + 1) 0 } ∷ packetsOf (drop (at + 2) w)
 unfolding packetsOf
 packet-cons w at h =
     let e : at + 2 ≡ suc (suc at) = omega arith in
@@ -63,12 +63,12 @@ length-packetWords [] = refl
 length-packetWords (k ∷ ks) = rw (length-packetWords ks) (omega arith)
 
 -- ---- the loops: one packet more is read, and all are; one packet more is stored, and all are
-pub read-more : (w : List ℕ) (l : List Packet) (i at : ℕ) → at + 2 ≤ length w → i < length l
+pub read-more : (w : List ℕ) (l : List Packet) (x : Packet) (i at : ℕ) → i < length l
+    → packetsOf (drop at w) ≡ x ∷ packetsOf (drop (at + 2) w)
     → packetsOf (drop packetsAt w) ≡ take i l ++ packetsOf (drop at w)
-    → packetsOf (drop packetsAt w) ≡ take (i + 1) (set l i (record { epoch = getD w at 0; length = getD w (at + 1) 0 })) ++ packetsOf (drop (at + 2) w)
-read-more w l i at h k e =
-    let x : Packet = record { epoch = getD w at 0; length = getD w (at + 1) 0 } in
-    e ∙ ap (λ (r : List Packet). take i l ++ r) (packet-cons w at h)
+    → packetsOf (drop packetsAt w) ≡ take (i + 1) (set l i x) ++ packetsOf (drop (at + 2) w)
+read-more w l x i at k h e =
+    e ∙ ap (λ (r : List Packet). take i l ++ r) h
     ∙ rw (add-one i, take-suc-set l i x k) (sym (append-snoc (take i l) x (packetsOf (drop (at + 2) w))))
 
 pub read-all : (w : List ℕ) (l : List Packet) (n at : ℕ) → length l ≡ n → length w ≤ at
