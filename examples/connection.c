@@ -17,7 +17,8 @@ void die(const char *what)
     exit(2);
 }
 
-int try_later(void)
+/* After a failed send or recv: whether it is only to be tried again later. */
+static int try_later(void)
 {
     return errno == EAGAIN || errno == EWOULDBLOCK || errno == EINTR;
 }
@@ -31,28 +32,24 @@ int64_t milliseconds(void)
     return (int64_t)t.tv_sec * 1000 + t.tv_nsec / 1000000;
 }
 
-int is_due(int64_t *due, int64_t interval)
+int is_due(int64_t *last, int64_t interval)
 {
     int64_t now = milliseconds();
 
-    if (now < *due)
+    if (now < *last + interval)
         return 0;
-    *due = now + interval;
+    *last = now;
     return 1;
 }
 
-void wait_until(int64_t due, int fd, short events, int other, short other_events)
+void wait_until(int64_t due, const struct connection *c, int other)
 {
-    struct pollfd fds[] = {{fd, events, 0}, {other, other_events, 0}};
+    int events = (c->in_length < sizeof c->in ? POLLIN : 0) | (c->out_length > 0 ? POLLOUT : 0);
+    struct pollfd fds[] = {{c->fd, (short)events, 0}, {other, POLLOUT, 0}};
     int64_t now = milliseconds();
 
     if (poll(fds, 2, due > now ? (int)(due - now) : 0) < 0 && errno != EINTR)
         die("poll");
-}
-
-short events_of(const struct connection *c)
-{
-    return (short)((c->in_length < sizeof c->in ? POLLIN : 0) | (c->out_length > 0 ? POLLOUT : 0));
 }
 
 void receive(struct connection *c)
@@ -62,7 +59,7 @@ void receive(struct connection *c)
 
     if (c->fd < 0 || space == 0)
         return;
-    n = recv(c->fd, c->in + c->in_length, space, 0);
+    n = recv(c->fd, c->in + c->in_length, space, MSG_DONTWAIT);
     if (n > 0)
         c->in_length += (size_t)n;
     else if (n == 0 || !try_later())
@@ -75,7 +72,7 @@ void transmit(struct connection *c)
 
     if (c->fd < 0 || c->out_length == 0)
         return;
-    n = send(c->fd, c->out, c->out_length, MSG_NOSIGNAL);
+    n = send(c->fd, c->out, c->out_length, MSG_NOSIGNAL | MSG_DONTWAIT);
     if (n >= 0) {
         c->out_length -= (size_t)n;
         memmove(c->out, c->out + n, c->out_length);
@@ -96,4 +93,13 @@ void drop(struct connection *c)
         close(c->fd);
     c->fd = -1;
     c->in_length = c->out_length = 0;
+}
+
+int send_packet(int fd, const uint8_t *packet, size_t length)
+{
+    if (send(fd, packet, length, MSG_NOSIGNAL | MSG_DONTWAIT) >= 0)
+        return 1;
+    if (!try_later())
+        die("the network");
+    return 0;
 }

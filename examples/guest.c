@@ -1,12 +1,7 @@
 #include "guest.h"
 
 #include <stdio.h>
-#include <stdlib.h>
 #include <string.h>
-#include <sys/socket.h>
-#include <unistd.h>
-
-#include "connection.h"
 
 /* Numbers that look random and are the same for the same start (splitmix64). */
 static uint64_t next_random(uint64_t *state)
@@ -96,28 +91,12 @@ int processor_equal(uint64_t n, const uint8_t processor[PROCESSOR_BYTES])
     return equal("processor state", processor, wanted, PROCESSOR_BYTES);
 }
 
-void network_receive(struct network *n)
+int is_next_packet(uint64_t *steps, const uint8_t *packet, size_t length)
 {
-    uint8_t packet[MOST_PACKET_BYTES];
     struct step s;
-    ssize_t length;
 
-    while (n->fd >= 0) {
-        length = recv(n->fd, packet, sizeof packet, 0);
-        if (length < 0 && try_later())
-            return;
-        if (length <= 0) {
-            close(n->fd);
-            n->fd = -1;
-            return;
-        }
-        do
-            make_step(n->steps++, &s);
-        while (s.action != PACKET);
-        n->packets++;
-        if (s.length != (size_t)length || memcmp(s.bytes, packet, s.length) != 0) {
-            printf("packet %u that left is not the guest's\n", n->packets);
-            exit(1);
-        }
-    }
+    do
+        make_step((*steps)++, &s);
+    while (s.action != PACKET);
+    return s.length == length && memcmp(s.bytes, packet, length) == 0;
 }

@@ -1,6 +1,5 @@
 /*
- * What examples/daemon.c runs and compares with: the settings, a guest, and the network that its
- * packets leave to. None of this is part of a daemon.
+ * The guest that daemon.c runs and that trial.c compares with. It is no part of a daemon.
  *
  * Step n of the guest is the same whenever it is made: so what the guest has after n steps can be
  * made again, and every packet that leaves can be told.
@@ -12,10 +11,7 @@
 #include <stddef.h>
 #include <stdint.h>
 
-#include "standby_pair.h"
-
-/* The settings. */
-enum { U = 256, M = 64, D = 16, B = 4, S = 8, Q = 4096, L = 65536, T = 5 };
+#include "daemon.h"
 
 enum action { MEMORY_WRITE, DISK_WRITE, PACKET };
 
@@ -39,14 +35,7 @@ void images_after(uint64_t n, uint8_t memory[M * U], uint8_t disk[D * U]);
 int images_equal(uint64_t n, const uint8_t memory[M * U], const uint8_t disk[D * U]);
 int processor_equal(uint64_t n, const uint8_t processor[PROCESSOR_BYTES]);
 
-/* The far side of the network: how many packets came, and the guest's steps up to the last. */
-struct network {
-    int fd; /* below 0 once nothing more can come */
-    unsigned packets;
-    uint64_t steps;
-};
-
-/* Takes in the packets that are there. They are the guest's, in its order: else exit status 1. */
-void network_receive(struct network *n);
+/* Whether this is the first packet that the guest sends after these steps. Counts up to that. */
+int is_next_packet(uint64_t *steps, const uint8_t *packet, size_t length);
 
 #endif

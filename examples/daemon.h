@@ -1,0 +1,48 @@
+/* The two boxes of daemon.c: what each keeps, and how it is run. */
+
+#ifndef DAEMON_H
+#define DAEMON_H
+
+#include <stddef.h>
+#include <stdint.h>
+
+#include "connection.h"
+#include "standby_pair.h"
+
+/* The settings. */
+enum { U = 256, M = 64, D = 16, B = 4, S = 8, Q = 4096, L = 65536, T = 5 };
+
+struct primary {
+    uint64_t state[PRIMARY_WORDS], dirty[MARK_WORDS(M)];
+    uint8_t memory[M * U], disk[D * U], held[Q], stream[L];
+    struct connection link;
+    int network;                       /* a socket of packets */
+    uint8_t packet[MOST_PACKET_BYTES]; /* one that was taken and that the network has not yet */
+    size_t packet_length;
+    uint64_t steps; /* that the guest has made */
+};
+
+struct standby {
+    uint64_t state[STANDBY_WORDS], staged_marks[MARK_WORDS(M)];
+    uint8_t pending[PROCESSOR_BYTES], processor[PROCESSOR_BYTES];
+    uint8_t memory[M * U], disk[D * U], staged_pages[M * U], staged_blocks[S * U];
+    uint8_t area[AREA_BYTES];
+    struct connection link;
+};
+
+/* A lent array: its pointer and its length. */
+#define LENT(array) (array), sizeof(array) / sizeof((array)[0])
+
+/* The value of a call that is never refused here: a refusal ends the process with status 2. */
+uint32_t accepted(uint64_t answer, const char *call);
+
+/* Starts both ends, before the standby is carried over to its own box. */
+void start_pair(struct primary *p, struct standby *s);
+
+/* Runs the guest and its checkpoints. Returns when the primary is alone. */
+void run_primary(struct primary *p);
+
+/* Receives checkpoints until the primary is silent, and takes over. Returns the epoch. */
+uint32_t run_standby(struct standby *s);
+
+#endif

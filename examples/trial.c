@@ -1,0 +1,248 @@
+/*
+ * The trial of daemon.c: it runs the two boxes, loses the primary and compares what is taken over.
+ *
+ * The parent process is the standby's box; the primary's box and the far side of the network are
+ * its children. At the place that the command line says the primary is killed; the standby takes
+ * over, and its memory, disk and processor state are compared with what the guest had at that
+ * checkpoint. Every packet that had left must have been sent before that checkpoint.
+ *
+ *     daemon N         kills the primary after the standby has read N records
+ *     daemon N KIND    the same after N records of a KIND: page, block, state or commit
+ *     daemon N stop    stops it after N records: the link stays open, and nothing more comes
+ *     daemon random    kills it after a random number of records
+ *
+ * Exit status: 0 all is equal, 1 something differs, 2 the program could not do its work.
+ */
+
+#define _GNU_SOURCE
+
+#include "trial.h"
+
+#include <signal.h>
+#include <stdio.h>
+#include <stdlib.h>
+#include <string.h>
+#include <sys/mman.h>
+#include <sys/prctl.h>
+#include <sys/socket.h>
+#include <sys/wait.h>
+#include <unistd.h>
+
+#include "guest.h"
+
+enum {
+    STEPS_AFTER = 200,    /* the guest's steps at the standby after the takeover */
+    MOST_RANDOM = 2000,   /* records before a kill at random */
+    MOST_PLACE = 1000000, /* records before a kill at all */
+    EPOCHS_KEPT = 65536   /* above the checkpoints that the stream and the socket can hold */
+};
+
+/* The place of the loss: after how many records of which kind, 0 is any; and by which signal. */
+static unsigned place, place_kind;
+static int place_signal = SIGKILL;
+
+static unsigned records[RECORD_COMMIT + 1]; /* read so far: of each kind, and at 0 all of them */
+static int lost;                            /* whether the place was reached */
+static pid_t primary_process, network_process;
+
+/* What the children tell the parent. */
+static struct {
+    uint64_t steps_at[EPOCHS_KEPT]; /* the guest's at each checkpoint */
+    uint64_t packet_steps;          /* its steps up to the last packet that left */
+    unsigned packets;
+} *shared;
+
+/* Whether the command line says a place. */
+static int read_place(int argc, char **argv)
+{
+    static const char *const kinds[] = {"stop", "page", "block", "state", "commit"};
+    unsigned long number;
+    char *end;
+
+    if (argc == 2 && strcmp(argv[1], "random") == 0) {
+        srand((unsigned)getpid() ^ (unsigned)milliseconds());
+        place = (unsigned)rand() % (MOST_RANDOM + 1);
+        return 1;
+    }
+    if (argc != 2 && argc != 3)
+        return 0;
+    number = strtoul(argv[1], &end, 10);
+    if (end == argv[1] || *end != 0 || number > MOST_PLACE)
+        return 0;
+    place = (unsigned)number;
+    if (argc == 2)
+        return 1;
+    while (place_kind < RECORD_COMMIT && strcmp(argv[2], kinds[place_kind]) != 0)
+        place_kind++;
+    place_signal = place_kind == 0 ? SIGSTOP : SIGKILL;
+    return strcmp(argv[2], kinds[place_kind]) == 0;
+}
+
+/* ---- The processes. ---- */
+
+static pid_t start_process(int type, int ends[2])
+{
+    pid_t process;
+
+    if (socketpair(AF_UNIX, type, 0, ends) != 0)
+        die("socketpair");
+    process = fork();
+    if (process < 0)
+        die("fork");
+    return process;
+}
+
+static int end_of(pid_t process)
+{
+    int status;
+
+    if (waitpid(process, &status, 0) != process)
+        die("waitpid");
+    return status;
+}
+
+/* The far side: every packet must be the guest's, in its order. Ends when the primary is gone. */
+static void run_network(int fd)
+{
+    uint8_t packet[MOST_PACKET_BYTES];
+    ssize_t length;
+
+    while ((length = recv(fd, packet, sizeof packet, 0)) > 0) {
+        shared->packets++;
+        if (!is_next_packet(&shared->packet_steps, packet, (size_t)length)) {
+            printf("packet %u that left is not the guest's\n", shared->packets);
+            exit(1);
+        }
+    }
+    if (length < 0)
+        die("recv");
+    exit(0);
+}
+
+/* Each process closes the ends that it does not use: else none would see that another is gone. */
+static void start_processes(struct primary *p, struct standby *s)
+{
+    int network[2], link[2];
+
+    shared = mmap(NULL, sizeof *shared, PROT_READ | PROT_WRITE, MAP_SHARED | MAP_ANONYMOUS, -1, 0);
+    if (shared == MAP_FAILED)
+        die("mmap");
+    network_process = start_process(SOCK_SEQPACKET, network);
+    if (network_process == 0) {
+        close(network[0]);
+        run_network(network[1]);
+    }
+    close(network[1]);
+    primary_process = start_process(SOCK_STREAM, link);
+    if (primary_process == 0) {
+        prctl(PR_SET_PDEATHSIG, SIGKILL); /* a stopped primary does not outlive the program */
+        close(link[1]);
+        p->network = network[0];
+        p->link.fd = link[0];
+        run_primary(p);
+        exit(0);
+    }
+    close(network[0]);
+    close(link[0]);
+    s->link.fd = link[1];
+}
+
+/* ---- The loss of the primary. ---- */
+
+void trial_checkpoint(uint64_t epoch, uint64_t steps)
+{
+    shared->steps_at[epoch % EPOCHS_KEPT] = steps;
+}
+
+/* A box that loses its power takes what is on the link with it; one that stops does not. */
+static void lose_primary(struct standby *s)
+{
+    if (kill(primary_process, place_signal) != 0)
+        die("kill");
+    lost = 1;
+    if (place_signal == SIGKILL)
+        drop(&s->link);
+}
+
+void trial_record(struct standby *s, unsigned kind)
+{
+    records[0]++;
+    records[kind]++;
+    if (!lost && records[place_kind] == place)
+        lose_primary(s);
+}
+
+void shut_off_primary(void)
+{
+    kill(primary_process, SIGKILL);
+    if (!WIFSIGNALED(end_of(primary_process)) || !lost) {
+        printf("the primary was lost after %u records, before its place\n", records[0]);
+        exit(1);
+    }
+}
+
+/* ---- The comparison. ---- */
+
+/* Whether what the standby has now is this checkpoint, the last that it received. */
+static int has_checkpoint(const struct primary *p, const struct standby *s, uint32_t epoch)
+{
+    uint64_t steps = shared->steps_at[epoch % EPOCHS_KEPT]; /* 0 at checkpoint 0 */
+    uint64_t choice = pair_disk_choice(LENT(p->disk), LENT(s->disk), LENT(s->area));
+    int good = images_equal(steps, s->memory, s->disk);
+
+    good = processor_equal(steps, s->processor) && good;
+    if (epoch != records[RECORD_COMMIT] || accepted(choice, "choice") != CHOICE_STANDBY) {
+        printf("checkpoint %u is not the last received, or its disk not the valid one\n", epoch);
+        good = 0;
+    }
+    if (shared->packet_steps > steps) {
+        printf("a packet left that was sent after checkpoint %u\n", epoch);
+        good = 0;
+    }
+    return good;
+}
+
+/* The guest goes on from the processor state taken over; nothing holds its packets any more. */
+static uint64_t run_guest_at_standby(struct standby *s)
+{
+    uint64_t n = steps_of(s->processor), end = n + STEPS_AFTER;
+    struct step step;
+
+    for (; n < end; n++) {
+        make_step(n, &step);
+        if (step.action == MEMORY_WRITE)
+            accepted(standby_memory_write(LENT(s->state), s->pending, s->processor,
+                                          LENT(s->memory), step.unit, step.offset, step.bytes,
+                                          step.length), "memory write");
+        if (step.action == DISK_WRITE)
+            accepted(standby_disk_write(LENT(s->state), s->pending, s->processor, LENT(s->disk),
+                                        step.unit, step.bytes, step.length), "disk write");
+    }
+    return end;
+}
+
+int main(int argc, char **argv)
+{
+    static struct primary primary;
+    static struct standby standby;
+    uint32_t epoch;
+
+    if (!read_place(argc, argv)) {
+        fprintf(stderr, "usage: daemon N [page | block | state | commit | stop], daemon random\n");
+        return 2;
+    }
+    start_pair(&primary, &standby);
+    start_processes(&primary, &standby);
+    if (place == 0)
+        lose_primary(&standby);
+    epoch = run_standby(&standby);
+    printf("%u records read: %u blocks, %u pages, %u states, %u commits\n", records[0],
+           records[RECORD_BLOCK], records[RECORD_PAGE], records[RECORD_STATE],
+           records[RECORD_COMMIT]);
+    if (end_of(network_process) != 0 || !has_checkpoint(&primary, &standby, epoch) ||
+        !images_equal(run_guest_at_standby(&standby), standby.memory, standby.disk))
+        return 1;
+    printf("took over checkpoint %u: memory, disk and processor state equal; "
+           "%u packets left before it\n", epoch, shared->packets);
+    return 0;
+}

@@ -1,0 +1,22 @@
+/*
+ * What daemon.c calls of its trial. A daemon has no use for the first two, and in place of the
+ * third a power switch or the like.
+ */
+
+#ifndef TRIAL_H
+#define TRIAL_H
+
+#include <stdint.h>
+
+#include "daemon.h"
+
+/* The primary makes this checkpoint after this many steps of the guest. */
+void trial_checkpoint(uint64_t epoch, uint64_t steps);
+
+/* The standby has read a record of this kind. Where this is the place, the primary is lost now. */
+void trial_record(struct standby *s, unsigned kind);
+
+/* Returns once the primary does not run any more. */
+void shut_off_primary(void);
+
+#endif
