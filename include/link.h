@@ -21,6 +21,10 @@
 #include <stddef.h>
 #include <stdint.h>
 
+#if SIZE_MAX < UINT64_MAX
+#error "liblink.a is for targets with a 64-bit size_t"
+#endif
+
 #ifdef __cplusplus
 extern "C" {
 #endif

@@ -15,16 +15,21 @@
  *
  * And of the link between the ends:
  *
- * - After 6 or 7 the place of the next record cannot be found again: drop the link.
+ * - standby_read is given a first part of the bytes that drain moved out, in their order, none of
+ *   them lost, changed or twice; those that it used are not given again. So is primary_acknowledge
+ *   of the replies of accepted COMMITs. What is proved of whole runs is proved of such a link.
+ * - After 6 or 7 the place of the next record cannot be found again; 2, 8, 9, 10 and 14 of
+ *   standby_read and 11 of primary_acknowledge say that bytes were lost or changed. Drop the link:
+ *   it cannot be taken up again, and the pair is started anew.
  * - A record has at most U + 10 bytes, so that a buffer of U + 10 bytes always holds one.
  *
  * pair_disk_choice (and disk_choice of link.h) reads only the lengths of the two disks, never their
  * bytes.
  *
  * The host keeps the states and the buffers, and hands the same ones to every call of their end.
- * Between calls it may read them, and leaves them as they are, but for one thing: instead of a
+ * Between calls it may read them, and leaves them as they are, but for this: instead of a
  * primary_memory_write it may write the page in memory and set the page's bit in dirty itself, as
- * that call does and no more.
+ * that call does and no more; and at an active standby it may write memory and disk itself.
  *
  * Lengths are exact. All are counted in elements, of the settings that pair_start was given:
  *
@@ -32,10 +37,11 @@
  *   settings                  uint64_t  SETTINGS_WORDS     U M D B S Q L T
  *   primary's state           uint64_t  PRIMARY_WORDS
  *   standby's state           uint64_t  STANDBY_WORDS
- *   pending, processor        uint8_t   PROCESSOR_BYTES    rest of the standby's state; no length
+ *   first, pending, processor uint8_t   PROCESSOR_BYTES    a processor state; passed without length
  *   memory (of each end)      uint8_t   M * U              page p from byte p * U on
  *   disk (of each end)        uint8_t   D * U              block b from byte b * U on
- *   dirty                     uint64_t  MARK_WORDS(M)      page p: bit p mod 64 of word p div 64
+ *   dirty                     uint64_t  MARK_WORDS(M)      page p: bit p mod 64 of word p div 64;
+ *                                                          bits past M are ignored and kept
  *   held                      uint8_t   Q                  the held packets, oldest first
  *   stream                    uint8_t   L                  the records that wait for drain
  *   staged_pages              uint8_t   M * U              pages of the checkpoint under way
@@ -57,7 +63,11 @@
 #include <stddef.h>
 #include <stdint.h>
 
-#include "link.h" /* the kinds of records, RECORD_PAGE to RECORD_ACK */
+#include "link.h" /* the kinds of records; its two functions are in liblink.a */
+
+#if SIZE_MAX < UINT64_MAX
+#error "libcapi.a is for targets with a 64-bit size_t"
+#endif
 
 #ifdef __cplusplus
 extern "C" {
@@ -97,7 +107,7 @@ static inline unsigned answer_number(uint64_t answer)
     return (unsigned)(answer & 65535);
 }
 
-/* How many of the lent bytes the record used: standby_read and primary_acknowledge only. */
+/* How many bytes the record of standby_read or primary_acknowledge used; 0 in all other answers. */
 static inline size_t answer_used(uint64_t answer)
 {
     return (size_t)(answer >> 16 & 65535);
@@ -211,9 +221,10 @@ enum {
  * Gives 1. Value 0.
  *
  * Changes: dirty, standby_memory, standby_disk, staged_marks, area, primary, standby, pending (64
- * zeros) and processor. Where it is refused: both states and both processor states become wholly
- * zero, a state that every later call refuses with 1, and nothing else is changed. Only where the
- * words of the settings or of a state are not of their count is nothing changed at all.
+ * zeros) and processor; what the last four held before does not matter. Where it is refused: both
+ * states and both processor states become wholly zero, a state that every later call refuses with
+ * 1, and nothing else is changed. Only where the words of the settings or of a state are not of
+ * their count is nothing changed at all.
  *
  * Where the two ends are in two boxes, start is made in one of them with the buffers of both, and
  * the standby's part of it (standby, pending, processor and the six buffers of the standby) is

@@ -47,7 +47,7 @@ use Rattle.rules.specs.Read.{readReply}
 use Rattle.rules.specs.Flush.{flushTests, flushRefusal, flushReply}
 use Rattle.rules.specs.Takeover.{standbyTickTests, standbyTickRefusal, standbyTickReply, activationTests, activationRefusal, activationReply, activeWriteTests, activeMemoryWriteRefusal, activeMemoryWriteReply, activeDiskWriteRefusal, activeDiskWriteReply}
 use Rattle.rules.specs.Start.{startTests, startRefusal, started}
-use Rattle.rules.specs.Choose.{areaChoice, choiceOf, choiceNumber}
+use Rattle.rules.specs.Choose.{areaChoice, choiceOf, choiceNumber, diskOf}
 use Rattle.rules.proofs.ReplyLaws.{pick-cases, unless-cases, answers}
 use Rattle.rules.proofs.PrimaryFacts.{primary-facts}
 use Rattle.rules.proofs.StandbyFacts.{standby-facts}
@@ -58,7 +58,6 @@ use Rattle.pages.specs.Write.{insidePage}
 use Rattle.capi.specs.Word.{answerWord, answerNumber, answerUsed, answerValue}
 use Rattle.capi.specs.PrimaryWords.{packetsOf, primaryWordsOk, primaryOf}
 use Rattle.capi.specs.StandbyWords.{standbyWordsOk, standbyOf}
-use Rattle.capi.specs.PairCalls.{diskValue}
 use Rattle.capi.proofs.PrimaryWordLaws.{primary-many, primary-field, packet-field}
 use Rattle.capi.proofs.StandbyWordLaws.{standby-word-facts}
 
@@ -259,11 +258,11 @@ unfolding started startRefusal
 start-fits g l processor = none-used (refusal-below (startTests g l) refl) (omega arith)
 
 -- the choice's numbers are 1 and 12, its values 1 and 2
-pub choice-fits : (primary standby : ℕ) (area : List ℕ) → AnswerFits (choiceNumber (choiceOf primary standby area)) 0 (diskValue (choiceOf primary standby area))
+pub choice-fits : (primary standby : ℕ) (area : List ℕ) → AnswerFits (choiceNumber (choiceOf primary standby area)) 0 (diskOf (choiceOf primary standby area))
 unfolding choiceOf
 choice-fits primary standby area = go (eqb primary standby && eqb (length area) areaLength) (areaOf area)
   where
-    go : (b : Bool) (a : Area) → let c = cond b (areaChoice a) (choice-of.Refused outOfRange) in AnswerFits (choiceNumber c) 0 (diskValue c)
+    go : (b : Bool) (a : Area) → let c = cond b (areaChoice a) (choice-of.Refused outOfRange) in AnswerFits (choiceNumber c) 0 (diskOf c)
     go true Zero = none-used (omega arith) (omega arith)
     go true (Activation epoch) = none-used (omega arith) (omega arith)
     go true Neither = none-used (omega arith) (omega arith)

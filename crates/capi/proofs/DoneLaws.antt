@@ -1,5 +1,5 @@
 -- What a call leaves, from what its code made: words that are no state, and words that are one. Assumes nothing.
-use mathlib.Core.Path.{_≡_, refl, sym, _∙_}
+use mathlib.Core.Path.{_≡_, sym, _∙_}
 use mathlib.Core.List.{List}
 use mathlib.Core.Bool.{Bool, true, false}
 use Prim.Native.Nat.{ℕ}
@@ -9,50 +9,50 @@ use Rattle.lists.proofs.TestLaws.{cond-true, cond-false, not-both, both}
 use Rattle.records.specs.Number.{outOfRange}
 use Rattle.rules.specs.declared.Primary.{Primary}
 use Rattle.rules.specs.declared.Standby.{Standby}
-use Rattle.capi.specs.Word.{Left}
+use Rattle.capi.specs.Word.{Leaves}
 use Rattle.capi.specs.PrimaryWords.{primaryWords, primaryWordsOk, primaryLength}
-use Rattle.capi.specs.StandbyWords.{standbyWords, standbyWordsOk, standbyOf, standbyLength}
+use Rattle.capi.specs.StandbyWords.{standbyWords, standbyLength}
 use Rattle.capi.specs.PrimaryCalls.{PrimaryDone}
-use Rattle.capi.specs.StandbyCalls.{LentStandby, asLent, StandbyDone}
+use Rattle.capi.specs.StandbyCalls.{LentStandby, isStandby, standbyIn, StandbyDone}
 use Rattle.capi.specs.PairCalls.{settingsLength, startWordsOk}
 
 module _ {ok : Bool} (none : ok ≡ false) where
-  pub left-old : (new old : List ℕ) → Left ok new old old
-  left-old new old = sym (cond-false _ _ _ none)
+  pub leaves-old : (new old : List ℕ) → Leaves ok new old old
+  leaves-old new old = sym (cond-false _ _ _ none)
 
   pub primary-old : {w : List ℕ} {next : Primary} {word : ℕ} → PrimaryDone ok w next word outOfRange w
-  primary-old = record { told = sym (cond-false _ _ _ none); words = left-old _ _; again = λ e. absurd (not-both ok e none) }
+  primary-old = record { told = sym (cond-false _ _ _ none); words = leaves-old _ _; again = λ e. absurd (not-both ok e none) }
 
   pub standby-old : {w : LentStandby} {next : Standby} {word : ℕ} → StandbyDone ok w next word outOfRange w
   standby-old =
       record {
         told = sym (cond-false _ _ _ none);
-        words = left-old _ _;
-        staged = left-old _ _;
-        kept = left-old _ _;
+        words = leaves-old _ _;
+        staged = leaves-old _ _;
+        kept = leaves-old _ _;
         again = λ e. absurd (not-both ok e none);
         same = λ e. absurd (not-both ok e none);
       }
 
 module _ {ok : Bool} (some : ok ≡ true) where
-  pub left-new : {new after : List ℕ} (old : List ℕ) → after ≡ new → Left ok new old after
-  left-new old e = e ∙ sym (cond-true _ _ _ some)
+  pub leaves-new : {new after : List ℕ} (old : List ℕ) → after ≡ new → Leaves ok new old after
+  leaves-new old e = e ∙ sym (cond-true _ _ _ some)
 
   pub primary-new : {w w′ : List ℕ} {next : Primary} {word answer : ℕ} → answer ≡ word → (w′ ≡ primaryWords next) × (primaryWordsOk w′ ≡ true)
       → PrimaryDone ok w next word answer w′
-  primary-new e stored = record { told = e ∙ sym (cond-true _ _ _ some); words = left-new _ (stored .0); again = λ t. stored .1 }
+  primary-new e stored = record { told = e ∙ sym (cond-true _ _ _ some); words = leaves-new _ (stored .0); again = λ t. stored .1 }
 
-  pub standby-new : {w : LentStandby} {words : List ℕ} {next : Standby} {word answer : ℕ} → answer ≡ word
-      → (words ≡ standbyWords next) × ((standbyWordsOk words ≡ true) × (standbyOf words (next .pending) (next .processor) ≡ next))
-      → StandbyDone ok w next word answer (asLent words (next .pending) (next .processor))
+  pub standby-new : {w w′ : LentStandby} {next : Standby} {word answer : ℕ} → answer ≡ word
+      → (w′ .words ≡ standbyWords next) × ((w′ .pending ≡ next .pending) × ((w′ .processor ≡ next .processor) × ((isStandby w′ ≡ true) × (standbyIn w′ ≡ next))))
+      → StandbyDone ok w next word answer w′
   standby-new e stored =
       record {
         told = e ∙ sym (cond-true _ _ _ some);
-        words = left-new _ (stored .0);
-        staged = left-new _ refl;
-        kept = left-new _ refl;
-        again = λ t. stored .1 .0;
-        same = λ t. stored .1 .1;
+        words = leaves-new _ (stored .0);
+        staged = leaves-new _ (stored .1 .0);
+        kept = leaves-new _ (stored .1 .1 .0);
+        again = λ t. stored .1 .1 .1 .0;
+        same = λ t. stored .1 .1 .1 .1;
       }
 
 -- ---- as many settings as there are, and room for both states

@@ -4,3 +4,4 @@ pub mod StandbyWordLaws
 pub mod DoneLaws
 pub mod AnswerLaws
 pub mod StepLaws
+pub mod HostLaws

@@ -1,5 +1,5 @@
--- The primary's words: what a state of them has, and that a state is the state of its words and the words of a state its
--- words. Assumes nothing.
+-- The primary's words: what words that are a state have; that a state is the state of its words, and words that are a
+-- state are the words of it. Assumes nothing.
 use mathlib.Core.Path.{_≡_, refl, sym, ap, _∙_}
 use mathlib.Core.List.{List, [], _∷_, _++_, append-nil}
 use mathlib.Core.Bool.{Bool, true, false}
@@ -15,16 +15,16 @@ use Rattle.lists.proofs.PartLaws.{put-put, put-next, put-whole}
 use Rattle.lists.proofs.TestLaws.{both, join}
 use Rattle.queue.specs.declared.Packet.{Packet}
 use Rattle.rules.specs.declared.Primary.{Primary}
-use Rattle.capi.specs.Word.{isFlag, flagOf, flagWord, allLow, between}
+use Rattle.capi.specs.Word.{isFlag, flagOf, flagWord, allFit32, between}
 use Rattle.capi.specs.PrimaryWords.{packetsOf, packetWords, headWords, primaryWords, primaryWordsOk, primaryOf, primaryLength, packetsAt}
-use Rattle.capi.proofs.WordLaws.{low-at, low-append, words-from}
+use Rattle.capi.proofs.WordLaws.{fits-at, fits-append, words-from}
 
 -- what words that are a state have
 pub record PrimaryWordFacts (w : List ℕ) : Type 0 where
   pub many : length w ≡ primaryLength
-  pub low : allLow (between 6 10 w) ≡ true
+  pub low : allFit32 (between 6 10 w) ≡ true
   pub flag : getD w 10 0 ≤ 1
-  pub packets : allLow (between packetsAt primaryLength w) ≡ true
+  pub packets : allFit32 (between packetsAt primaryLength w) ≡ true
 
 pub primary-word-facts : (w : List ℕ) → primaryWordsOk w ≡ true → PrimaryWordFacts w
 unfolding primaryWordsOk
@@ -39,11 +39,11 @@ primary-many w e = primary-word-facts w e .many
 
 -- a number of a field of 32 bits
 pub primary-field : (w : List ℕ) (i : ℕ) → primaryWordsOk w ≡ true → 6 ≤ i → i < 10 → getD w i 0 < 4294967296
-primary-field w i e h k = let f = primary-word-facts w e in low-at w 6 10 i (f .low) h k (omega (arith, f .many))
+primary-field w i e h k = let f = primary-word-facts w e in fits-at w 6 10 i (f .low) h k (omega (arith, f .many))
 
 -- and of a packet
 pub packet-field : (w : List ℕ) (i : ℕ) → primaryWordsOk w ≡ true → packetsAt ≤ i → i < primaryLength → getD w i 0 < 4294967296
-packet-field w i e h k = let f = primary-word-facts w e in low-at w packetsAt primaryLength i (f .packets) h k (omega (arith, f .many))
+packet-field w i e h k = let f = primary-word-facts w e in fits-at w packetsAt primaryLength i (f .packets) h k (omega (arith, f .many))
 
 -- ---- a packet of words, and the words of packets
 pub packet-cons : (w : List ℕ) (at : ℕ) → at + 2 ≤ length w → packetsOf (drop at w) ≡ record { epoch = getD w at 0; length = getD w (at + 1) 0 } ∷ packetsOf (drop (at + 2) w)
@@ -84,11 +84,11 @@ store-more w ks z at i h k =
     let e : at + 2 * i ≡ at + length (packetWords (take i ks)) = omega arith in
     rw (e, put-put w at (packetWords (take i ks)) (packetWords (getD ks i z ∷ [])) (omega arith), add-one i, take-suc ks i z h, packet-words-append (take i ks) (getD ks i z ∷ []))
 
-pub low-packets-more : (ks : List Packet) (z : Packet) (i : ℕ) → i < length ks → allLow (packetWords (take i ks)) ≡ true
-    → allLow (packetWords (getD ks i z ∷ [])) ≡ true → allLow (packetWords (take (i + 1) ks)) ≡ true
-low-packets-more ks z i h p q =
+pub fits-packets-more : (ks : List Packet) (z : Packet) (i : ℕ) → i < length ks → allFit32 (packetWords (take i ks)) ≡ true
+    → allFit32 (packetWords (getD ks i z ∷ [])) ≡ true → allFit32 (packetWords (take (i + 1) ks)) ≡ true
+fits-packets-more ks z i h p q =
     let k = getD ks i z ∷ [] in
-    rw (add-one i, take-suc ks i z h, packet-words-append (take i ks) k) (low-append (packetWords (take i ks)) (packetWords k) p q)
+    rw (add-one i, take-suc ks i z h, packet-words-append (take i ks) k) (fits-append (packetWords (take i ks)) (packetWords k) p q)
 
 -- the head of the words and then the packets, over all of them
 pub store-both : (w : List ℕ) (p : Primary) → length w ≡ primaryLength → length (p .queue .packets) ≡ 64
@@ -111,12 +111,12 @@ pub flag-fits : (b : Bool) → isFlag (flagWord b) ≡ true
 flag-fits true = refl
 flag-fits false = refl
 
-pub primary-words-ok : (p : Primary) → length (p .queue .packets) ≡ 64 → allLow (between 6 10 (headWords p)) ≡ true
-    → allLow (packetWords (p .queue .packets)) ≡ true → primaryWordsOk (primaryWords p) ≡ true
+pub primary-words-ok : (p : Primary) → length (p .queue .packets) ≡ 64 → allFit32 (between 6 10 (headWords p)) ≡ true
+    → allFit32 (packetWords (p .queue .packets)) ≡ true → primaryWordsOk (primaryWords p) ≡ true
 unfolding primaryWordsOk primaryWords headWords
 primary-words-ok p k low packets =
     let n = length-primaryWords p k in
-    let rest : allLow (between packetsAt primaryLength (primaryWords p)) ≡ true = rw (take-all primaryLength (primaryWords p) (omega (arith, n))) packets in
+    let rest : allFit32 (between packetsAt primaryLength (primaryWords p)) ≡ true = rw (take-all primaryLength (primaryWords p) (omega (arith, n))) packets in
     join _ _ (join _ _ (join _ _ (eq-eqb _ _ n) low) (flag-fits (p .alone))) rest
 
 -- ---- a state is the state of its words

@@ -1,5 +1,5 @@
--- The standby's words: what a state of them has, and that a state is the state of its words and the words of a state its
--- words. Assumes nothing.
+-- The standby's words: what words that are a state have; that a state is the state of its words, and words that are a
+-- state are the words of it. Assumes nothing.
 use mathlib.Core.Path.{_≡_, refl, sym, ap, _∙_}
 use mathlib.Core.List.{List, [], _++_, append-assoc}
 use mathlib.Core.Bool.{true, _&&_}
@@ -15,15 +15,15 @@ use Rattle.lists.proofs.TestLaws.{both, join}
 use Rattle.rules.specs.declared.Mode.{Mode}
 use Rattle.rules.specs.declared.Mode.the-variants.{Receiving, TakingOver, Active}
 use Rattle.rules.specs.declared.Standby.{Standby}
-use Rattle.capi.specs.Word.{isLow, allLow, between, isFlag}
+use Rattle.capi.specs.Word.{fits32, allFit32, between, isFlag}
 use Rattle.capi.specs.StandbyWords.{modeOf, modeWord, isMode, firstWords, lastWords, standbyWords, standbyWordsOk, standbyOf, standbyLength, numbersAt, numbersMany}
-use Rattle.capi.proofs.WordLaws.{low-at, wordsFrom, words-from}
+use Rattle.capi.proofs.WordLaws.{fits-at, wordsFrom, words-from}
 use Rattle.capi.proofs.PrimaryWordLaws.{flag-again, flag-words, flag-fits}
 
 -- what words that are a state have
 pub record StandbyWordFacts (w : List ℕ) : Type 0 where
   pub many : length w ≡ standbyLength
-  pub ticks : allLow (between 5 7 w) ≡ true
+  pub ticks : allFit32 (between 5 7 w) ≡ true
   pub mode : getD w 7 0 ≤ 2
   pub received : getD w 8 0 < 4294967296
   pub flag : getD w 78 0 ≤ 1
@@ -43,7 +43,7 @@ standby-many w e = standby-word-facts w e .many
 
 -- T and the count of ticks
 pub ticks-field : (w : List ℕ) (i : ℕ) → standbyWordsOk w ≡ true → 5 ≤ i → i < 7 → getD w i 0 < 4294967296
-ticks-field w i e h k = let f = standby-word-facts w e in low-at w 5 7 i (f .ticks) h k (omega (arith, f .many))
+ticks-field w i e h k = let f = standby-word-facts w e in fits-at w 5 7 i (f .ticks) h k (omega (arith, f .many))
 
 -- ---- the three parts of the words, stored one after the other
 pub store-three : (w : List ℕ) (s : Standby) → length w ≡ standbyLength → length (s .slots .numbers) ≡ numbersMany
@@ -79,7 +79,7 @@ module _ (a n b : List ℕ) (ea : length a ≡ 11) (en : length n ≡ 64) where
       ap (λ (k : ℕ). getD (a ++ n ++ b) (k + i) 0) (sym e) ∙ getD-append-add (a ++ n) b i 0
 
 -- ---- the words of a state whose fields of 32 bits fit are a state's; its array has the 64 entries of its type
-pub standby-words-ok : (s : Standby) → length (s .slots .numbers) ≡ numbersMany → (allLow (between 5 7 (firstWords s)) && isLow (getD (firstWords s) 8 0)) ≡ true
+pub standby-words-ok : (s : Standby) → length (s .slots .numbers) ≡ numbersMany → (allFit32 (between 5 7 (firstWords s)) && fits32 (getD (firstWords s) 8 0)) ≡ true
     → standbyWordsOk (standbyWords s) ≡ true
 unfolding standbyWordsOk standbyWords firstWords lastWords
 standby-words-ok s h low =

@@ -5,7 +5,7 @@ use mathlib.Core.List.{List, [], _++_}
 use mathlib.Core.Bool.{Bool, true, false, cond}
 use Prim.Native.Nat.{ℕ}
 use native.Mathlib.Omega.{arith}
-use lib.ListN.{take, drop, getD}
+use lib.ListN.{length, take, drop, getD}
 use Rattle.lists.proofs.TestLaws.{cond-true, cond-false}
 use Rattle.records.specs.Number.{outOfRange}
 use Rattle.records.specs.Kind.{bodyLength, recordLength}
@@ -14,18 +14,20 @@ use Rattle.settings.proofs.RangeLaws.{settings-facts}
 use Rattle.rules.specs.declared.Primary.{Primary}
 use Rattle.rules.specs.declared.Standby.{Standby}
 use Rattle.rules.specs.Start.{started}
-use Rattle.rules.specs.Choose.{choiceOf, choiceNumber}
+use Rattle.rules.specs.PrimaryWrites.{memoryWriteRefusal, memoryWriteReply}
+use Rattle.rules.proofs.ReplyLaws.{pick-cases}
+use Rattle.rules.specs.Choose.{choiceOf, choiceNumber, diskOf}
 use Rattle.rules.specs.declared.Choice.{Choice}
 use Rattle.rules.specs.declared.Choice.the-variants as choice-of
 use Rattle.rules.specs.World.{World, Processor, Buffers, startLent, startNumber, startWorld}
 use Rattle.rules.specs.World as call
 use Rattle.rules.specs.Step.{step, outcome, atPrimary, atStandby}
-use Rattle.capi.specs.Word.{answerWord, answerNumber, answerUsed, answerValue, Left}
+use Rattle.capi.specs.Word.{answerWord, answerNumber, answerUsed, answerValue, Leaves}
 use Rattle.capi.specs.PrimaryWords.{primaryWords, primaryWordsOk, primaryOf}
 use Rattle.capi.specs.StandbyWords.{standbyWords, standbyOf}
 use Rattle.capi.specs.PrimaryCalls.{PrimaryDone, MemoryWriteDone, DiskWriteDone, PacketDone, CheckpointDone, DrainDone, AckDone, TakeDone, PrimaryTickDone}
 use Rattle.capi.specs.StandbyCalls.{LentStandby, asLent, isStandby, standbyIn, StandbyDone, ReadDone, FlushDone, StandbyTickDone, ActivationDone, ActiveMemoryWriteDone, ActiveDiskWriteDone}
-use Rattle.capi.specs.PairCalls.{settingsOf, startWordsOk, StartDone, diskValue, choiceWord}
+use Rattle.capi.specs.PairCalls.{settingsOf, startWordsOk, StartDone, choiceWord}
 use Rattle.capi.specs.Joined.{primaryEnd, standbyEnd, withLink, withAcks, toldStep, ackSent}
 use Rattle.capi.proofs.PrimaryWordLaws.{primary-again, primary-words-again}
 use Rattle.capi.proofs.StandbyWordLaws.{standby-words-again}
@@ -169,7 +171,7 @@ module _ (κ : World) (w : LentStandby) (memory disk pages marks blocks area : L
       let t = standby-told (active-disk-write-fits _ _ _ ok _ block _) ok (done .0) in
       rw (t .state, t .parts .number-is, t .parts .value-is, done .1, ok)
 
--- ---- start: the world that it leaves, and its number
+-- ---- start: the world that it leaves, and its answer
 pub start-joined : (settings : List ℕ) (processor : Processor) (b : Buffers) (primary : List ℕ) (standby : LentStandby) (answer : ℕ) (dirty′ memory′ disk′ marks′ area′ primary′ : List ℕ) (standby′ : LentStandby)
     → startWordsOk settings primary (standby .words) ≡ true
     → StartDone settings (processor .bytes) b primary standby answer dirty′ memory′ disk′ marks′ area′ primary′ standby′
@@ -180,13 +182,13 @@ pub start-joined : (settings : List ℕ) (processor : Processor) (b : Buffers) (
       link = [];
       acks = [];
     })
-    × (answerNumber answer ≡ startNumber (settingsOf settings) b)
+    × Parts answer (startNumber (settingsOf settings) b) 0 0
 unfolding startWorld started
 start-joined settings processor b primary standby answer dirty′ memory′ disk′ marks′ area′ primary′ standby′ ok done =
     let fits = start-fits (settingsOf settings) (startLent b) (processor .bytes) in
     let p = primary-told fits ok (done .0) in
     let s = standby-told fits ok (done .1) in
-    (rw (p .state, s .state, done .2, done .3, done .4, done .5, done .6, ok), p .parts .number-is)
+    (rw (p .state, s .state, done .2, done .3, done .4, done .5, done .6, ok), p .parts)
 
 -- an accepted T is the word that was given, not what it was cut to
 pub patience-kept : (settings : List ℕ) → settingsOk (settingsOf settings) ≡ true → settingsOf settings .t ≡ getD settings 7 0
@@ -197,7 +199,7 @@ patience-kept settings e = let f = settings-facts (settingsOf settings) e .t-hig
 -- standby's alone
 pub record ChoiceJoined (c : Choice) (word : ℕ) : Type 0 where
   pub number-is : answerNumber word ≡ choiceNumber c
-  pub value-is : answerValue word ≡ diskValue c
+  pub value-is : answerValue word ≡ diskOf c
   pub primary : answerValue word ≡ 1 → c ≡ choice-of.PrimaryDisk
   pub standby : answerValue word ≡ 2 → c ≡ choice-of.StandbyDisk
 
@@ -207,12 +209,12 @@ choice-joined primary standby area =
     let t = answer-parts _ _ _ (choice-fits primary standby area) in
     record { number-is = t .number-is; value-is = t .value-is; primary = λ e. first c (sym (t .value-is) ∙ e); standby = λ e. second c (sym (t .value-is) ∙ e) }
   where
-    first : (c : Choice) → diskValue c ≡ 1 → c ≡ choice-of.PrimaryDisk
+    first : (c : Choice) → diskOf c ≡ 1 → c ≡ choice-of.PrimaryDisk
     first choice-of.PrimaryDisk e = refl
     first choice-of.StandbyDisk e = absurd (omega arith)
     first (choice-of.Refused n) e = absurd (omega arith)
 
-    second : (c : Choice) → diskValue c ≡ 2 → c ≡ choice-of.StandbyDisk
+    second : (c : Choice) → diskOf c ≡ 2 → c ≡ choice-of.StandbyDisk
     second choice-of.PrimaryDisk e = absurd (omega arith)
     second choice-of.StandbyDisk e = refl
     second (choice-of.Refused n) e = absurd (omega arith)
@@ -223,25 +225,32 @@ lent-same a b c = λ i. asLent (a i) (b i) (c i)
 
 -- ---- words that are no state: the answer is 1, and nothing that is lent changes
 module _ {ok : Bool} (none : ok ≡ false) where
-  pub left-none : (new old after : List ℕ) → Left ok new old after → after ≡ old
-  left-none new old after left = left ∙ cond-false _ _ _ none
+  pub leaves-none : (new old after : List ℕ) → Leaves ok new old after → after ≡ old
+  leaves-none new old after left = left ∙ cond-false _ _ _ none
 
   pub primary-none : {w w′ : List ℕ} {next : Primary} {word answer : ℕ} → PrimaryDone ok w next word answer w′ → (answer ≡ outOfRange) × (w′ ≡ w)
-  primary-none done = (done .told ∙ cond-false _ _ _ none, left-none _ _ _ (done .words))
+  primary-none done = (done .told ∙ cond-false _ _ _ none, leaves-none _ _ _ (done .words))
 
   pub standby-none : {w w′ : LentStandby} {next : Standby} {word answer : ℕ} → StandbyDone ok w next word answer w′ → (answer ≡ outOfRange) × (w′ ≡ w)
-  standby-none done = (done .told ∙ cond-false _ _ _ none, lent-same (left-none _ _ _ (done .words)) (left-none _ _ _ (done .staged)) (left-none _ _ _ (done .kept)))
+  standby-none done = (done .told ∙ cond-false _ _ _ none, lent-same (leaves-none _ _ _ (done .words)) (leaves-none _ _ _ (done .staged)) (leaves-none _ _ _ (done .kept)))
 
--- ---- a refused call leaves the state, and what leaves the state leaves the words
+-- ---- words that are read as the same state are the same words
+pub primary-same : {w w′ : List ℕ} → primaryWordsOk w ≡ true → primaryWordsOk w′ ≡ true → primaryOf w′ ≡ primaryOf w → w′ ≡ w
+primary-same {w} {w′} ok ok′ e = sym (primary-words-again w′ ok′) ∙ ap primaryWords e ∙ primary-words-again w ok
 
-pub primary-refused-words : {w w′ : List ℕ} {next : Primary} {word answer : ℕ} → primaryWordsOk w ≡ true → next ≡ primaryOf w
-    → PrimaryDone (primaryWordsOk w) w next word answer w′ → w′ ≡ w
-primary-refused-words {w} ok same done = done .words ∙ cond-true _ _ _ ok ∙ ap primaryWords same ∙ primary-words-again w ok
-
-pub standby-refused-words : {w w′ : LentStandby} {next : Standby} {word answer : ℕ} → isStandby w ≡ true → next ≡ standbyIn w
-    → StandbyDone (isStandby w) w next word answer w′ → w′ ≡ w
+pub standby-same : {w w′ : LentStandby} → isStandby w ≡ true → isStandby w′ ≡ true → standbyIn w′ ≡ standbyIn w → w′ ≡ w
 unfolding standbyOf
-standby-refused-words {w} ok same done =
-    lent-same (done .words ∙ cond-true _ _ _ ok ∙ ap standbyWords same ∙ standby-words-again (w .words) (w .pending) (w .processor) ok)
-    (done .staged ∙ cond-true _ _ _ ok ∙ ap (λ (s : Standby). s .pending) same)
-    (done .kept ∙ cond-true _ _ _ ok ∙ ap (λ (s : Standby). s .processor) same)
+standby-same {w} {w′} ok ok′ e =
+    lent-same
+    (sym (standby-words-again (w′ .words) (w′ .pending) (w′ .processor) ok′) ∙ ap standbyWords e ∙ standby-words-again (w .words) (w .pending) (w .processor) ok)
+    (ap (λ (s : Standby). s .pending) e) (ap (λ (s : Standby). s .processor) e)
+
+-- a memory write leaves the words, accepted or refused: a host may write the memory and its mark itself
+pub memory-write-words : (w memory dirty : List ℕ) (page offset : ℕ) (bytes : List ℕ) (answer : ℕ) (w′ memory′ dirty′ : List ℕ) → primaryWordsOk w ≡ true
+    → MemoryWriteDone w memory dirty page offset bytes answer w′ memory′ dirty′ → w′ ≡ w
+unfolding memoryWriteReply
+memory-write-words w memory dirty page offset bytes answer w′ memory′ dirty′ ok done =
+    let p = primaryOf w in
+    let n = memoryWriteRefusal p (length memory) (length dirty) page offset (length bytes) in
+    let t = primary-told (memory-write-fits w ok _ _ page offset _) ok (done .0) in
+    primary-same ok (done .0 .again ok) (t .state ∙ pick-cases (λ (x : Primary). x ≡ p) n p p (λ e. refl) (λ e. refl))

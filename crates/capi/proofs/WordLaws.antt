@@ -15,46 +15,46 @@ use Rattle.lists.proofs.PartLaws.{put-put, length-put, put-none, length-part}
 use Rattle.lists.proofs.ArrayLaws.{set-put, rest-cons, rest-none}
 use Rattle.lists.proofs.ChunkLaws.{part-most}
 use Rattle.lists.proofs.TestLaws.{both, join}
-use Rattle.capi.specs.Word.{isLow, allLow, between, mostField}
+use Rattle.capi.specs.Word.{fits32, allFit32, between, most32}
 
 -- ---- fields of 32 bits
 
 -- the test of the words from i on, one word more; and no word
-pub low-more : (w : List ℕ) (i n : ℕ) → i < n → n ≤ length w → allLow (between i n w) ≡ (isLow (getD w i 0) && allLow (between (i + 1) n w))
-unfolding allLow
-low-more w i n h k = rw (rest-cons w 0 i n h k)
+pub fits-more : (w : List ℕ) (i n : ℕ) → i < n → n ≤ length w → allFit32 (between i n w) ≡ (fits32 (getD w i 0) && allFit32 (between (i + 1) n w))
+unfolding allFit32
+fits-more w i n h k = rw (rest-cons w 0 i n h k)
 
-pub low-end : (w : List ℕ) (i n : ℕ) → n ≤ i → n ≤ length w → allLow (between i n w) ≡ true
-unfolding allLow
-low-end w i n h k = rw (rest-none w i n h k)
+pub fits-end : (w : List ℕ) (i n : ℕ) → n ≤ i → n ≤ length w → allFit32 (between i n w) ≡ true
+unfolding allFit32
+fits-end w i n h k = rw (rest-none w i n h k)
 
 -- a word among those that all fit
-low-first : (w : List ℕ) (at to : ℕ) → allLow (between at to w) ≡ true → at < to → to ≤ length w → (getD w at 0 < 4294967296) × (allLow (between (at + 1) to w) ≡ true)
-low-first w at to e h l =
-    let b = both (isLow (getD w at 0)) (allLow (between (at + 1) to w)) (sym (low-more w at to h l) ∙ e) in
-    let n : getD w at 0 ≤ mostField = leb-true (getD w at 0) mostField (b .0) in
+fits-first : (w : List ℕ) (at to : ℕ) → allFit32 (between at to w) ≡ true → at < to → to ≤ length w → (getD w at 0 < 4294967296) × (allFit32 (between (at + 1) to w) ≡ true)
+fits-first w at to e h l =
+    let b = both (fits32 (getD w at 0)) (allFit32 (between (at + 1) to w)) (sym (fits-more w at to h l) ∙ e) in
+    let n : getD w at 0 ≤ most32 = leb-true (getD w at 0) most32 (b .0) in
     (omega arith, b .1)
 
-low-from : (w : List ℕ) (d at to i : ℕ) → allLow (between at to w) ≡ true → i ≡ at + d → i < to → to ≤ length w → getD w i 0 < 4294967296
-low-from w zero at to i e p q l = let m : i ≡ at = omega arith in rw m (low-first w at to e (omega arith) l .0)
-low-from w (suc d) at to i e p q l = low-from w d (at + 1) to i (low-first w at to e (omega arith) l .1) (omega arith) q l
+fits-from : (w : List ℕ) (d at to i : ℕ) → allFit32 (between at to w) ≡ true → i ≡ at + d → i < to → to ≤ length w → getD w i 0 < 4294967296
+fits-from w zero at to i e p q l = let m : i ≡ at = omega arith in rw m (fits-first w at to e (omega arith) l .0)
+fits-from w (suc d) at to i e p q l = fits-from w d (at + 1) to i (fits-first w at to e (omega arith) l .1) (omega arith) q l
 
-pub low-at : (w : List ℕ) (from to i : ℕ) → allLow (between from to w) ≡ true → from ≤ i → i < to → to ≤ length w → getD w i 0 < 4294967296
-low-at w from to i e h k l = low-from w (i - from) from to i e (omega arith) k l
+pub fits-at : (w : List ℕ) (from to i : ℕ) → allFit32 (between from to w) ≡ true → from ≤ i → i < to → to ≤ length w → getD w i 0 < 4294967296
+fits-at w from to i e h k l = fits-from w (i - from) from to i e (omega arith) k l
 
 -- words that all fit: none, one and the rest, two parts
-pub low-none : allLow [] ≡ true
-unfolding allLow
-low-none = refl
+pub fits-none : allFit32 [] ≡ true
+unfolding allFit32
+fits-none = refl
 
-pub low-cons : (n : ℕ) (w : List ℕ) → n < 4294967296 → allLow w ≡ true → allLow (n ∷ w) ≡ true
-unfolding allLow
-low-cons n w h e = join (isLow n) (allLow w) (le-leb n mostField (omega arith)) e
+pub fits-cons : (n : ℕ) (w : List ℕ) → n < 4294967296 → allFit32 w ≡ true → allFit32 (n ∷ w) ≡ true
+unfolding allFit32
+fits-cons n w h e = join (fits32 n) (allFit32 w) (le-leb n most32 (omega arith)) e
 
-pub low-append : (a b : List ℕ) → allLow a ≡ true → allLow b ≡ true → allLow (a ++ b) ≡ true
-unfolding allLow
-low-append [] b p q = q
-low-append (n ∷ a) b p q = let e = both (isLow n) (allLow a) p in join (isLow n) (allLow (a ++ b)) (e .0) (low-append a b (e .1) q)
+pub fits-append : (a b : List ℕ) → allFit32 a ≡ true → allFit32 b ≡ true → allFit32 (a ++ b) ≡ true
+unfolding allFit32
+fits-append [] b p q = q
+fits-append (n ∷ a) b p q = let e = both (fits32 n) (allFit32 a) p in join (fits32 n) (allFit32 (a ++ b)) (e .0) (fits-append a b (e .1) q)
 
 -- one word more is tested
 pub test-more : (a b c : Bool) → (a && b) && c ≡ a && (b && c)

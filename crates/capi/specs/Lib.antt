@@ -5,3 +5,4 @@ pub mod PrimaryCalls
 pub mod StandbyCalls
 pub mod PairCalls
 pub mod Joined
+pub mod Host

@@ -6,24 +6,23 @@ use lib.Dec.{eqb}
 use lib.ListN.{length, getD}
 use Rattle.settings.specs.declared.Settings.{Settings}
 use Rattle.rules.specs.declared.Choice.{Choice}
-use Rattle.rules.specs.declared.Choice.the-variants as choice-of
-use Rattle.rules.specs.Choose.{choiceNumber}
+use Rattle.rules.specs.Choose.{choiceNumber, diskOf}
 use Rattle.rules.specs.Start.{started, startMarks, startCopy, startArea}
 use Rattle.rules.specs.World.{Buffers, startLent}
-use Rattle.capi.specs.Word.{replyWord, mostField, Left}
+use Rattle.capi.specs.Word.{replyWord, most32, Leaves}
 use Rattle.capi.specs.PrimaryWords.{primaryLength}
 use Rattle.capi.specs.StandbyWords.{standbyLength}
 use Rattle.capi.specs.PrimaryCalls.{PrimaryDone}
 use Rattle.capi.specs.StandbyCalls.{LentStandby, StandbyDone}
 
--- ---- the settings as words: U M D B S Q L T. A T that does not fit its field is taken as the largest that does, which is
--- out of T's range as well
+-- ---- the settings as words: U M D B S Q L T. A T that does not fit its field is taken as the largest that does, which
+-- is out of T's range as well
 abbrev pub settingsLength : ℕ
 settingsLength = 8
 
 unfoldable pub settingsOf : List ℕ → Settings
 settingsOf w =
-    record { u = getD w 0 0; m = getD w 1 0; d = getD w 2 0; b = getD w 3 0; s = getD w 4 0; q = getD w 5 0; l = getD w 6 0; t = min (getD w 7 0) mostField }
+    record { u = getD w 0 0; m = getD w 1 0; d = getD w 2 0; b = getD w 3 0; s = getD w 4 0; q = getD w 5 0; l = getD w 6 0; t = min (getD w 7 0) most32 }
 
 -- as many words as there are settings, and room for the words of both states; else 1, and nothing changes
 unfoldable pub startWordsOk : List ℕ → List ℕ → List ℕ → Bool
@@ -39,11 +38,11 @@ StartDone settings first b primary standby answer dirty′ memory′ disk′ mar
     let ok = startWordsOk settings primary (standby .words) in
     PrimaryDone ok primary (made .primary) (replyWord (made .number) 0) answer primary′
     × StandbyDone ok standby (made .standby) (replyWord (made .number) 0) answer standby′
-    × Left ok (startMarks g l (b .dirty)) (b .dirty) dirty′
-    × Left ok (startCopy g l (b .memory) (b .standbyMemory)) (b .standbyMemory) memory′
-    × Left ok (startCopy g l (b .disk) (b .standbyDisk)) (b .standbyDisk) disk′
-    × Left ok (startMarks g l (b .stagedMarks)) (b .stagedMarks) marks′
-    × Left ok (startArea g l (b .area)) (b .area) area′
+    × Leaves ok (startMarks g l (b .dirty)) (b .dirty) dirty′
+    × Leaves ok (startCopy g l (b .memory) (b .standbyMemory)) (b .standbyMemory) memory′
+    × Leaves ok (startCopy g l (b .disk) (b .standbyDisk)) (b .standbyDisk) disk′
+    × Leaves ok (startMarks g l (b .stagedMarks)) (b .stagedMarks) marks′
+    × Leaves ok (startArea g l (b .area)) (b .area) area′
 
 -- the eleven buffers that start is lent
 abbrev pub lentBuffers : (memory disk dirty held stream standbyMemory standbyDisk stagedPages stagedMarks stagedBlocks area : List ℕ) → Buffers
@@ -62,11 +61,6 @@ lentBuffers memory disk dirty held stream standbyMemory standbyDisk stagedPages 
       area = area;
     }
 
--- ---- the disk choice: its value is 1 for the primary's disk, 2 for the standby's, 0 where there is none
-abbrev pub diskValue : Choice → ℕ
-diskValue choice-of.PrimaryDisk = 1
-diskValue choice-of.StandbyDisk = 2
-diskValue (choice-of.Refused n) = 0
-
+-- ---- the disk choice: its value is the disk
 abbrev pub choiceWord : Choice → ℕ
-choiceWord c = replyWord (choiceNumber c) (diskValue c)
+choiceWord c = replyWord (choiceNumber c) (diskOf c)

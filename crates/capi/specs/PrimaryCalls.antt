@@ -14,58 +14,59 @@ use Rattle.rules.specs.Packets.{packetReply, packetHeld, takeReply, takeHeld, t
 use Rattle.rules.specs.Checkpoint.{dirtyCount, checkpointReply, checkpointDirty, checkpointStream}
 use Rattle.rules.specs.Stream.{drainReply, drainStream, drainDestination, ackReply}
 use Rattle.rules.specs.PrimaryTick.{primaryTickReply}
-use Rattle.capi.specs.Word.{replyWord, toldWord, Left}
+use Rattle.capi.specs.Word.{replyWord, recordWord, Leaves}
 use Rattle.capi.specs.PrimaryWords.{primaryWords, primaryWordsOk, primaryOf}
 
--- the answer, and the words: those of the next state, which are a state again. ok is whether there is a state
+-- ok is whether a state is lent. Then the answer is this word, and the words are those of the next state; they are a
+-- state again
 pub record PrimaryDone (ok : Bool) (w : List ℕ) (next : Primary) (word answer : ℕ) (w′ : List ℕ) : Type 0 where
   pub told : answer ≡ cond ok word outOfRange
-  pub words : Left ok (primaryWords next) w w′
+  pub words : Leaves ok (primaryWords next) w w′
   pub again : ok ≡ true → primaryWordsOk w′ ≡ true
 
 abbrev pub PrimaryReplied : List ℕ → PrimaryReply → ℕ → List ℕ → Type 0
 PrimaryReplied w r = PrimaryDone (primaryWordsOk w) w (r .state) (replyWord (r .number) (r .value))
 
 abbrev pub PrimaryAnswered : List ℕ → PrimaryAnswer → ℕ → List ℕ → Type 0
-PrimaryAnswered w r = PrimaryDone (primaryWordsOk w) w (r .state) (toldWord (r .answer))
+PrimaryAnswered w r = PrimaryDone (primaryWordsOk w) w (r .state) (recordWord (r .answer))
 
 -- a lent buffer
-abbrev pub PrimaryLeft : List ℕ → List ℕ → List ℕ → List ℕ → Type 0
-PrimaryLeft w = Left (primaryWordsOk w)
+abbrev pub PrimaryLeaves : List ℕ → List ℕ → List ℕ → List ℕ → Type 0
+PrimaryLeaves w = Leaves (primaryWordsOk w)
 
 abbrev pub MemoryWriteDone : (w memory dirty : List ℕ) (page offset : ℕ) (bytes : List ℕ) (answer : ℕ) (w′ memory′ dirty′ : List ℕ) → Type 0
 MemoryWriteDone w memory dirty page offset bytes answer w′ memory′ dirty′ =
     let p = primaryOf w in
     PrimaryReplied w (memoryWriteReply p (length memory) (length dirty) page offset (length bytes)) answer w′
-    × PrimaryLeft w (memoryWriteMemory p memory dirty page offset bytes) memory memory′
-    × PrimaryLeft w (memoryWriteDirty p memory dirty page offset bytes) dirty dirty′
+    × PrimaryLeaves w (memoryWriteMemory p memory dirty page offset bytes) memory memory′
+    × PrimaryLeaves w (memoryWriteDirty p memory dirty page offset bytes) dirty dirty′
 
 abbrev pub DiskWriteDone : (w disk stream : List ℕ) (block : ℕ) (bytes : List ℕ) (answer : ℕ) (w′ disk′ stream′ : List ℕ) → Type 0
 DiskWriteDone w disk stream block bytes answer w′ disk′ stream′ =
     let p = primaryOf w in
     PrimaryReplied w (diskWriteReply p (length disk) (length stream) block (length bytes)) answer w′
-    × PrimaryLeft w (diskWriteDisk p disk stream block bytes) disk disk′
-    × PrimaryLeft w (diskWriteStream p disk stream block bytes) stream stream′
+    × PrimaryLeaves w (diskWriteDisk p disk stream block bytes) disk disk′
+    × PrimaryLeaves w (diskWriteStream p disk stream block bytes) stream stream′
 
 abbrev pub PacketDone : (w held bytes : List ℕ) (answer : ℕ) (w′ held′ : List ℕ) → Type 0
 PacketDone w held bytes answer w′ held′ =
     let p = primaryOf w in
     PrimaryReplied w (packetReply p (length held) (length bytes)) answer w′
-    × PrimaryLeft w (packetHeld p held bytes) held held′
+    × PrimaryLeaves w (packetHeld p held bytes) held held′
 
 abbrev pub CheckpointDone : (w memory dirty stream processor : List ℕ) (answer : ℕ) (w′ dirty′ stream′ : List ℕ) → Type 0
 CheckpointDone w memory dirty stream processor answer w′ dirty′ stream′ =
     let p = primaryOf w in
     PrimaryReplied w (checkpointReply p (length memory) (length dirty) (length stream) (dirtyCount p dirty)) answer w′
-    × PrimaryLeft w (checkpointDirty p memory dirty stream) dirty dirty′
-    × PrimaryLeft w (checkpointStream p memory dirty stream processor) stream stream′
+    × PrimaryLeaves w (checkpointDirty p memory dirty stream) dirty dirty′
+    × PrimaryLeaves w (checkpointStream p memory dirty stream processor) stream stream′
 
 abbrev pub DrainDone : (w stream : List ℕ) (n : ℕ) (destination : List ℕ) (answer : ℕ) (w′ stream′ destination′ : List ℕ) → Type 0
 DrainDone w stream n destination answer w′ stream′ destination′ =
     let p = primaryOf w in
     PrimaryReplied w (drainReply p (length stream) n (length destination)) answer w′
-    × PrimaryLeft w (drainStream p stream n (length destination)) stream stream′
-    × PrimaryLeft w (drainDestination p stream n destination) destination destination′
+    × PrimaryLeaves w (drainStream p stream n (length destination)) stream stream′
+    × PrimaryLeaves w (drainDestination p stream n destination) destination destination′
 
 abbrev pub AckDone : (w bytes : List ℕ) (answer : ℕ) (w′ : List ℕ) → Type 0
 AckDone w bytes answer w′ = PrimaryAnswered w (ackReply (primaryOf w) bytes) answer w′
@@ -74,8 +75,8 @@ abbrev pub TakeDone : (w held destination : List ℕ) (answer : ℕ) (w′ held�
 TakeDone w held destination answer w′ held′ destination′ =
     let p = primaryOf w in
     PrimaryReplied w (takeReply p (length held) (length destination)) answer w′
-    × PrimaryLeft w (takeHeld p held destination) held held′
-    × PrimaryLeft w (takeDestination p held destination) destination destination′
+    × PrimaryLeaves w (takeHeld p held destination) held held′
+    × PrimaryLeaves w (takeDestination p held destination) destination destination′
 
 abbrev pub PrimaryTickDone : (w : List ℕ) (answer : ℕ) (w′ : List ℕ) → Type 0
 PrimaryTickDone w answer w′ = PrimaryReplied w (primaryTickReply (primaryOf w)) answer w′

@@ -1,5 +1,5 @@
--- The primary's state as 143 words: U M D B Q L, T, the count of ticks, the open epoch, the acknowledged one, alone, the
--- blocks of the open epoch, the waiting bytes, the packets held, the bytes held, then 64 times a packet's epoch and
+-- The primary's state as 143 words: U M D B Q L, T, the count of ticks, the open epoch, the acknowledged one, alone,
+-- the blocks of the open epoch, the waiting bytes, the packets held, the bytes held, then 64 times a packet's epoch and
 -- length. Assumes nothing.
 use Prim.Native.Nat.{ℕ}
 use mathlib.Core.Bool.{Bool, _&&_}
@@ -8,7 +8,7 @@ use lib.Dec.{eqb}
 use lib.ListN.{length, getD, drop}
 use Rattle.queue.specs.declared.Packet.{Packet}
 use Rattle.rules.specs.declared.Primary.{Primary}
-use Rattle.capi.specs.Word.{allLow, between, isFlag, flagOf, flagWord}
+use Rattle.capi.specs.Word.{allFit32, between, isFlag, flagOf, flagWord}
 
 abbrev pub primaryLength : ℕ
 primaryLength = 143
@@ -35,9 +35,9 @@ primaryWords p = headWords p ++ packetWords (p .queue .packets)
 unfoldable pub primaryWordsOk : List ℕ → Bool
 primaryWordsOk w =
     eqb (length w) primaryLength
-    && allLow (between 6 10 w)
+    && allFit32 (between 6 10 w)
     && isFlag (getD w 10 0)
-    && allLow (between packetsAt primaryLength w)
+    && allFit32 (between packetsAt primaryLength w)
 
 -- ---- and the state of such words
 unfoldable pub packetsOf : List ℕ → List Packet

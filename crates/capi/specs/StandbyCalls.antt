@@ -12,7 +12,7 @@ use Rattle.rules.specs.declared.StandbyAnswer.{StandbyAnswer}
 use Rattle.rules.specs.Read.{readLent, readReply, readMemory, readStagedPages, readStagedMarks, readStagedBlocks, readReplyBytes}
 use Rattle.rules.specs.Flush.{flushReply, flushStagedBlocks, flushDisk}
 use Rattle.rules.specs.Takeover.{standbyTickReply, standbyTickMarks, activationReply, activationArea, activeMemoryWriteReply, activeMemoryWriteMemory, activeDiskWriteReply, activeDiskWriteDisk}
-use Rattle.capi.specs.Word.{replyWord, toldWord, Left}
+use Rattle.capi.specs.Word.{replyWord, recordWord, Leaves}
 use Rattle.capi.specs.StandbyWords.{standbyWords, standbyWordsOk, standbyOf}
 
 -- a state as it is lent: its words, the staged and the kept processor state
@@ -30,13 +30,13 @@ isStandby w = standbyWordsOk (w .words)
 abbrev pub standbyIn : LentStandby → Standby
 standbyIn w = standbyOf (w .words) (w .pending) (w .processor)
 
--- the answer, the words and the two processor states: those of the next state, which are a state again, the same. ok is
--- whether there is a state
+-- the same of the standby, with its two processor states. That the words are read as the next state (`same`) is said
+-- too: a list's type does not say that the block numbers are 64, so that no law could give it
 pub record StandbyDone (ok : Bool) (w : LentStandby) (next : Standby) (word answer : ℕ) (w′ : LentStandby) : Type 0 where
   pub told : answer ≡ cond ok word outOfRange
-  pub words : Left ok (standbyWords next) (w .words) (w′ .words)
-  pub staged : Left ok (next .pending) (w .pending) (w′ .pending)
-  pub kept : Left ok (next .processor) (w .processor) (w′ .processor)
+  pub words : Leaves ok (standbyWords next) (w .words) (w′ .words)
+  pub staged : Leaves ok (next .pending) (w .pending) (w′ .pending)
+  pub kept : Leaves ok (next .processor) (w .processor) (w′ .processor)
   pub again : ok ≡ true → isStandby w′ ≡ true
   pub same : ok ≡ true → standbyIn w′ ≡ next
 
@@ -44,46 +44,46 @@ abbrev pub StandbyReplied : LentStandby → StandbyReply → ℕ → LentStandby
 StandbyReplied w r = StandbyDone (isStandby w) w (r .state) (replyWord (r .number) (r .value))
 
 abbrev pub StandbyAnswered : LentStandby → StandbyAnswer → ℕ → LentStandby → Type 0
-StandbyAnswered w r = StandbyDone (isStandby w) w (r .state) (toldWord (r .answer))
+StandbyAnswered w r = StandbyDone (isStandby w) w (r .state) (recordWord (r .answer))
 
 -- a lent buffer
-abbrev pub StandbyLeft : LentStandby → List ℕ → List ℕ → List ℕ → Type 0
-StandbyLeft w = Left (isStandby w)
+abbrev pub StandbyLeaves : LentStandby → List ℕ → List ℕ → List ℕ → Type 0
+StandbyLeaves w = Leaves (isStandby w)
 
 abbrev pub ReadDone : (w : LentStandby) (memory pages marks blocks bytes reply : List ℕ) (answer : ℕ) (w′ : LentStandby) (memory′ pages′ marks′ blocks′ reply′ : List ℕ) → Type 0
 ReadDone w memory pages marks blocks bytes reply answer w′ memory′ pages′ marks′ blocks′ reply′ =
     let s = standbyIn w in
     let l = readLent memory pages marks blocks reply in
     StandbyAnswered w (readReply s l bytes) answer w′
-    × StandbyLeft w (readMemory s l bytes memory pages marks) memory memory′
-    × StandbyLeft w (readStagedPages s l bytes pages) pages pages′
-    × StandbyLeft w (readStagedMarks s l bytes marks) marks marks′
-    × StandbyLeft w (readStagedBlocks s l bytes blocks) blocks blocks′
-    × StandbyLeft w (readReplyBytes s l bytes reply) reply reply′
+    × StandbyLeaves w (readMemory s l bytes memory pages marks) memory memory′
+    × StandbyLeaves w (readStagedPages s l bytes pages) pages pages′
+    × StandbyLeaves w (readStagedMarks s l bytes marks) marks marks′
+    × StandbyLeaves w (readStagedBlocks s l bytes blocks) blocks blocks′
+    × StandbyLeaves w (readReplyBytes s l bytes reply) reply reply′
 
 abbrev pub FlushDone : (w : LentStandby) (blocks disk : List ℕ) (n answer : ℕ) (w′ : LentStandby) (blocks′ disk′ : List ℕ) → Type 0
 FlushDone w blocks disk n answer w′ blocks′ disk′ =
     let s = standbyIn w in
     StandbyReplied w (flushReply s (length blocks) (length disk) n) answer w′
-    × StandbyLeft w (flushStagedBlocks s blocks disk n) blocks blocks′
-    × StandbyLeft w (flushDisk s blocks disk n) disk disk′
+    × StandbyLeaves w (flushStagedBlocks s blocks disk n) blocks blocks′
+    × StandbyLeaves w (flushDisk s blocks disk n) disk disk′
 
 abbrev pub StandbyTickDone : (w : LentStandby) (marks : List ℕ) (answer : ℕ) (w′ : LentStandby) (marks′ : List ℕ) → Type 0
 StandbyTickDone w marks answer w′ marks′ =
     StandbyReplied w (standbyTickReply (standbyIn w) (length marks)) answer w′
-    × StandbyLeft w (standbyTickMarks (standbyIn w) marks) marks marks′
+    × StandbyLeaves w (standbyTickMarks (standbyIn w) marks) marks marks′
 
 abbrev pub ActivationDone : (w : LentStandby) (area : List ℕ) (answer : ℕ) (w′ : LentStandby) (area′ : List ℕ) → Type 0
 ActivationDone w area answer w′ area′ =
     StandbyReplied w (activationReply (standbyIn w) (length area)) answer w′
-    × StandbyLeft w (activationArea (standbyIn w) area) area area′
+    × StandbyLeaves w (activationArea (standbyIn w) area) area area′
 
 abbrev pub ActiveMemoryWriteDone : (w : LentStandby) (memory : List ℕ) (page offset : ℕ) (bytes : List ℕ) (answer : ℕ) (w′ : LentStandby) (memory′ : List ℕ) → Type 0
 ActiveMemoryWriteDone w memory page offset bytes answer w′ memory′ =
     StandbyReplied w (activeMemoryWriteReply (standbyIn w) (length memory) page offset (length bytes)) answer w′
-    × StandbyLeft w (activeMemoryWriteMemory (standbyIn w) memory page offset bytes) memory memory′
+    × StandbyLeaves w (activeMemoryWriteMemory (standbyIn w) memory page offset bytes) memory memory′
 
 abbrev pub ActiveDiskWriteDone : (w : LentStandby) (disk : List ℕ) (block : ℕ) (bytes : List ℕ) (answer : ℕ) (w′ : LentStandby) (disk′ : List ℕ) → Type 0
 ActiveDiskWriteDone w disk block bytes answer w′ disk′ =
     StandbyReplied w (activeDiskWriteReply (standbyIn w) (length disk) block (length bytes)) answer w′
-    × StandbyLeft w (activeDiskWriteDisk (standbyIn w) disk block bytes) disk disk′
+    × StandbyLeaves w (activeDiskWriteDisk (standbyIn w) disk block bytes) disk disk′

@@ -10,7 +10,7 @@ use Rattle.lists.specs.Part.{part}
 use Rattle.rules.specs.declared.Mode.{Mode}
 use Rattle.rules.specs.declared.Mode.the-variants.{Receiving, TakingOver, Active}
 use Rattle.rules.specs.declared.Standby.{Standby}
-use Rattle.capi.specs.Word.{isLow, allLow, between, isFlag, flagOf, flagWord}
+use Rattle.capi.specs.Word.{fits32, allFit32, between, isFlag, flagOf, flagWord}
 
 abbrev pub standbyLength : ℕ
 standbyLength = 79
@@ -50,9 +50,9 @@ standbyWords s = firstWords s ++ s .slots .numbers ++ lastWords s
 unfoldable pub standbyWordsOk : List ℕ → Bool
 standbyWordsOk w =
     eqb (length w) standbyLength
-    && allLow (between 5 7 w)
+    && allFit32 (between 5 7 w)
     && isMode (getD w 7 0)
-    && isLow (getD w 8 0)
+    && fits32 (getD w 8 0)
     && isFlag (getD w 78 0)
 
 -- ---- and the state of such words and of the two processor states

@@ -8,7 +8,8 @@ use lib.ListN.{take, drop}
 use Rattle.rules.specs.declared.Answer.{Answer}
 use Rattle.rules.specs.Reply.{numberOf, valueOf, usedOf}
 
--- ---- the answer of a call as one word: the number in the low 16 bits, the bytes used in the next 16, the value above
+-- ---- the answer of a call as one word: the number in the low 16 bits, the bytes used in the next 16, the value above.
+-- Each part is taken modulo its width, so that the sum cannot wrap; that nothing is cut off is a law of each call
 abbrev pub answerWord : ℕ → ℕ → ℕ → ℕ
 answerWord number used value = number % 65536 + 65536 * (used % 65536) + 4294967296 * (value % 4294967296)
 
@@ -27,19 +28,19 @@ abbrev pub replyWord : ℕ → ℕ → ℕ
 replyWord number value = answerWord number 0 value
 
 -- of one that reads a record; cut short has its number, 256
-abbrev pub toldWord : Answer → ℕ
-toldWord a = answerWord (numberOf a) (usedOf a) (valueOf a)
+abbrev pub recordWord : Answer → ℕ
+recordWord a = answerWord (numberOf a) (usedOf a) (valueOf a)
 
 -- ---- a word that fits a field of 32 bits
-abbrev pub mostField : ℕ
-mostField = 4294967295
+abbrev pub most32 : ℕ
+most32 = 4294967295
 
-abbrev pub isLow : ℕ → Bool
-isLow n = leb n mostField
+abbrev pub fits32 : ℕ → Bool
+fits32 n = leb n most32
 
-unfoldable pub allLow : List ℕ → Bool
-allLow [] = true
-allLow (n ∷ ns) = isLow n && allLow ns
+unfoldable pub allFit32 : List ℕ → Bool
+allFit32 [] = true
+allFit32 (n ∷ ns) = fits32 n && allFit32 ns
 
 -- the words from one place on, up to another
 abbrev pub between : ℕ → ℕ → List ℕ → List ℕ
@@ -56,5 +57,5 @@ abbrev pub flagWord : Bool → ℕ
 flagWord b = cond b 1 0
 
 -- ---- what a call leaves of what it is lent: the new where it is lent a state, else the old
-abbrev pub Left : Bool → List ℕ → List ℕ → List ℕ → Type 0
-Left ok new old after = after ≡ cond ok new old
+abbrev pub Leaves : Bool → List ℕ → List ℕ → List ℕ → Type 0
+Leaves ok new old after = after ≡ cond ok new old

@@ -5,7 +5,7 @@ ghost use Prim.Native.Nat.{min};
 ghost use lib.Dec.{eqb};
 ghost use lib.ListN.{length};
 ghost use Rattle.rules.specs.Choose.{choiceOf};
-ghost use Rattle.capi.specs.Word.{mostField};
+ghost use Rattle.capi.specs.Word.{most32};
 ghost use Rattle.capi.specs.PrimaryWords.{primaryLength};
 ghost use Rattle.capi.specs.StandbyWords.{standbyLength};
 ghost use Rattle.capi.specs.StandbyCalls.{asLent};
@@ -31,9 +31,9 @@ fn start_ok(settings: usize, primary: usize, standby: usize) -> bool
 
 // T, where it fits its field, else the largest number there.
 fn patience(t: u64) -> u32
-    ensures { λ r. ⌜ r ≡ min t mostField ⌝ }
+    ensures { λ r. ⌜ r ≡ min t most32 ⌝ }
 {
-    if word::MOST_FIELD < t {
+    if word::MOST_32 < t {
         return 4294967295;
     }
     word::field(t)
@@ -102,12 +102,8 @@ pub extern "C" fn pair_start(
     let p = r.primary;
     let s = r.standby;
     primary_words::store(primary, p);
-    standby_words::store(standby, s);
-    let staged = s.pending;
-    let kept = s.processor;
-    *pending = staged;
-    *processor = kept;
-    word::reply(r.number, 0)
+    standby_words::store(standby, pending, processor, s);
+    word::reply_word(r.number, 0)
 }
 
 // The disk choice.
@@ -117,8 +113,8 @@ pub extern "C" fn pair_disk_choice(primary: &[u8], standby: &[u8], area: &[u8]) 
 {
     let choice = decide(primary.len(), standby.len(), area);
     match choice {
-        Choice::PrimaryDisk => word::reply(0, 1),
-        Choice::StandbyDisk => word::reply(0, 2),
-        Choice::Refused { number } => word::reply(number, 0),
+        Choice::PrimaryDisk => word::reply_word(0, 1),
+        Choice::StandbyDisk => word::reply_word(0, 2),
+        Choice::Refused { number } => word::reply_word(number, 0),
     }
 }

@@ -23,7 +23,7 @@ pub extern "C" fn primary_memory_write(
     let r = primary::writes::memory_write(p, memory, dirty, page, offset, bytes);
     let next = r.state;
     primary_words::store(state, next);
-    word::reply(r.number, r.value)
+    word::reply_word(r.number, r.value)
 }
 
 // One block.
@@ -44,7 +44,7 @@ pub extern "C" fn primary_disk_write(
     let r = primary::writes::disk_write(p, disk, stream, block, bytes);
     let next = r.state;
     primary_words::store(state, next);
-    word::reply(r.number, r.value)
+    word::reply_word(r.number, r.value)
 }
 
 // A packet is held with the open epoch.
@@ -59,7 +59,7 @@ pub extern "C" fn primary_packet(state: &mut [u64], held: &mut [u8], bytes: &[u8
     let r = primary::packets::packet(p, held, bytes);
     let next = r.state;
     primary_words::store(state, next);
-    word::reply(r.number, r.value)
+    word::reply_word(r.number, r.value)
 }
 
 // Every dirty page, STATE and COMMIT go to the stream; the next epoch is open.
@@ -81,7 +81,7 @@ pub extern "C" fn primary_checkpoint(
     let r = primary::checkpoint::checkpoint(p, memory, dirty, stream, at_checkpoint);
     let next = r.state;
     primary_words::store(state, next);
-    word::reply(r.number, r.value)
+    word::reply_word(r.number, r.value)
 }
 
 // The head of the stream moves to the destination.
@@ -101,7 +101,7 @@ pub extern "C" fn primary_drain(
     let r = primary::stream::drain(p, stream, n, destination);
     let next = r.state;
     primary_words::store(state, next);
-    word::reply(r.number, r.value)
+    word::reply_word(r.number, r.value)
 }
 
 // Reads an ACK.
@@ -117,7 +117,7 @@ pub extern "C" fn primary_acknowledge(state: &mut [u64], bytes: &[u8]) -> u64
     let next = r.state;
     let answer = r.answer;
     primary_words::store(state, next);
-    word::told(answer)
+    word::record_word(answer)
 }
 
 // The oldest packet, if it is free to go.
@@ -132,7 +132,7 @@ pub extern "C" fn primary_take(state: &mut [u64], held: &mut [u8], destination: 
     let r = primary::packets::take(p, held, destination);
     let next = r.state;
     primary_words::store(state, next);
-    word::reply(r.number, r.value)
+    word::reply_word(r.number, r.value)
 }
 
 // A tick.
@@ -147,5 +147,5 @@ pub extern "C" fn primary_tick(state: &mut [u64]) -> u64
     let r = primary::tick::tick(p);
     let next = r.state;
     primary_words::store(state, next);
-    word::reply(r.number, r.value)
+    word::reply_word(r.number, r.value)
 }

@@ -5,7 +5,7 @@ ghost use mathlib.Core.List.{[], _∷_};
 ghost use Prim.Native.Nat.{_<_, _≤_, _+_};
 ghost use lib.ListN.{length, drop, getD};
 ghost use Rattle.lists.specs.Part.{put};
-ghost use Rattle.capi.specs.Word.{allLow, between};
+ghost use Rattle.capi.specs.Word.{allFit32, between};
 ghost use Rattle.capi.specs.PrimaryWords.{primaryLength, packetsAt, packetsOf, primaryOf, packetWords, headWords, primaryWords, primaryWordsOk};
 use crate::word;
 use detector::Detector;
@@ -27,8 +27,8 @@ pub fn words_ok(w: &[u64]) -> bool
     if w.len() != LENGTH {
         return false;
     }
-    let numbers = word::all_low(w, 6, 10);
-    let packets = word::all_low(w, PACKETS, LENGTH);
+    let numbers = word::all_fit32(w, 6, 10);
+    let packets = word::all_fit32(w, PACKETS, LENGTH);
     numbers & (w[10] <= 1) & packets
 }
 
@@ -97,7 +97,7 @@ pub fn primary_of(w: &[u64]) -> Primary
 
 fn head_words(p: Primary) -> [u64; 15]
     ensures { λ r. ⌜ r ≡ headWords p ⌝ }
-    ensures { λ r. ⌜ allLow (between 6 10 r) ≡ true ⌝ }
+    ensures { λ r. ⌜ allFit32 (between 6 10 r) ≡ true ⌝ }
 {
     let g = p.settings;
     let d = p.detector;
@@ -125,7 +125,7 @@ fn head_words(p: Primary) -> [u64; 15]
 fn store_packet(w: &mut [u64], at: usize, k: Packet)
     requires { ⌜ at + 2 ≤ length (now w) ⌝ }
     ensures { λ _. ⌜ now (w .exit) ≡ put (now (w .entry)) at (packetWords (k ∷ [])) ⌝ }
-    ensures { λ _. ⌜ allLow (packetWords (k ∷ [])) ≡ true ⌝ }
+    ensures { λ _. ⌜ allFit32 (packetWords (k ∷ [])) ≡ true ⌝ }
 {
     w[at] = k.epoch as u64;
     w[at + 1] = k.length as u64;
@@ -134,7 +134,7 @@ fn store_packet(w: &mut [u64], at: usize, k: Packet)
 fn store_packets(w: &mut [u64], packets: [Packet; 64])
     requires { ⌜ length (now w) ≡ primaryLength ⌝ }
     ensures { λ _. ⌜ now (w .exit) ≡ put (now (w .entry)) packetsAt (packetWords packets) ⌝ }
-    ensures { λ _. ⌜ allLow (packetWords packets) ≡ true ⌝ }
+    ensures { λ _. ⌜ allFit32 (packetWords packets) ≡ true ⌝ }
 {
     let mut i = 0;
     while i < MOST_PACKETS {

@@ -22,18 +22,12 @@ pub extern "C" fn standby_read(
     if !standby_words::words_ok(state) {
         return number::OUT_OF_RANGE;
     }
-    let staged = *pending;
-    let kept = *processor;
-    let s = standby_words::standby_of(state, staged, kept);
+    let s = standby_words::standby_of(state, pending, processor);
     let r = standby::read::read(s, bytes, memory, pages, marks, blocks, reply);
     let next = r.state;
     let answer = r.answer;
-    standby_words::store(state, next);
-    let next_staged = next.pending;
-    let next_kept = next.processor;
-    *pending = next_staged;
-    *processor = next_kept;
-    word::told(answer)
+    standby_words::store(state, pending, processor, next);
+    word::record_word(answer)
 }
 
 // Stores blocks that are due.
@@ -51,17 +45,11 @@ pub extern "C" fn standby_flush(
     if !standby_words::words_ok(state) {
         return number::OUT_OF_RANGE;
     }
-    let staged = *pending;
-    let kept = *processor;
-    let s = standby_words::standby_of(state, staged, kept);
+    let s = standby_words::standby_of(state, pending, processor);
     let r = standby::flush::flush(s, blocks, disk, n);
     let next = r.state;
-    standby_words::store(state, next);
-    let next_staged = next.pending;
-    let next_kept = next.processor;
-    *pending = next_staged;
-    *processor = next_kept;
-    word::reply(r.number, r.value)
+    standby_words::store(state, pending, processor, next);
+    word::reply_word(r.number, r.value)
 }
 
 // A tick.
@@ -77,17 +65,11 @@ pub extern "C" fn standby_tick(
     if !standby_words::words_ok(state) {
         return number::OUT_OF_RANGE;
     }
-    let staged = *pending;
-    let kept = *processor;
-    let s = standby_words::standby_of(state, staged, kept);
+    let s = standby_words::standby_of(state, pending, processor);
     let r = standby::takeover::tick(s, marks);
     let next = r.state;
-    standby_words::store(state, next);
-    let next_staged = next.pending;
-    let next_kept = next.processor;
-    *pending = next_staged;
-    *processor = next_kept;
-    word::reply(r.number, r.value)
+    standby_words::store(state, pending, processor, next);
+    word::reply_word(r.number, r.value)
 }
 
 // Activation.
@@ -103,17 +85,11 @@ pub extern "C" fn standby_activate(
     if !standby_words::words_ok(state) {
         return number::OUT_OF_RANGE;
     }
-    let staged = *pending;
-    let kept = *processor;
-    let s = standby_words::standby_of(state, staged, kept);
+    let s = standby_words::standby_of(state, pending, processor);
     let r = standby::takeover::activate(s, area);
     let next = r.state;
-    standby_words::store(state, next);
-    let next_staged = next.pending;
-    let next_kept = next.processor;
-    *pending = next_staged;
-    *processor = next_kept;
-    word::reply(r.number, r.value)
+    standby_words::store(state, pending, processor, next);
+    word::reply_word(r.number, r.value)
 }
 
 // The guest's write once the standby is active.
@@ -132,17 +108,11 @@ pub extern "C" fn standby_memory_write(
     if !standby_words::words_ok(state) {
         return number::OUT_OF_RANGE;
     }
-    let staged = *pending;
-    let kept = *processor;
-    let s = standby_words::standby_of(state, staged, kept);
+    let s = standby_words::standby_of(state, pending, processor);
     let r = standby::takeover::memory_write(s, memory, page, offset, bytes);
     let next = r.state;
-    standby_words::store(state, next);
-    let next_staged = next.pending;
-    let next_kept = next.processor;
-    *pending = next_staged;
-    *processor = next_kept;
-    word::reply(r.number, r.value)
+    standby_words::store(state, pending, processor, next);
+    word::reply_word(r.number, r.value)
 }
 
 // The same of a block.
@@ -160,15 +130,9 @@ pub extern "C" fn standby_disk_write(
     if !standby_words::words_ok(state) {
         return number::OUT_OF_RANGE;
     }
-    let staged = *pending;
-    let kept = *processor;
-    let s = standby_words::standby_of(state, staged, kept);
+    let s = standby_words::standby_of(state, pending, processor);
     let r = standby::takeover::disk_write(s, disk, block, bytes);
     let next = r.state;
-    standby_words::store(state, next);
-    let next_staged = next.pending;
-    let next_kept = next.processor;
-    *pending = next_staged;
-    *processor = next_kept;
-    word::reply(r.number, r.value)
+    standby_words::store(state, pending, processor, next);
+    word::reply_word(r.number, r.value)
 }

@@ -4,7 +4,7 @@ ghost use mathlib.Core.Bool.{true, _&&_};
 ghost use Prim.Native.Nat.{_<_, _+_};
 ghost use lib.ListN.{length, getD};
 ghost use Rattle.lists.specs.Part.{part, put};
-ghost use Rattle.capi.specs.Word.{isLow, allLow, between};
+ghost use Rattle.capi.specs.Word.{fits32, allFit32, between};
 ghost use Rattle.capi.specs.StandbyWords.{standbyLength, numbersAt, numbersMany, modeOf, modeWord, standbyOf, firstWords, lastWords, standbyWords, standbyWordsOk};
 use crate::word;
 use detector::Detector;
@@ -28,8 +28,8 @@ pub fn words_ok(w: &[u64]) -> bool
     if w.len() != LENGTH {
         return false;
     }
-    let ticks = word::all_low(w, 5, 7);
-    ticks & (w[7] <= 2) & (w[8] <= word::MOST_FIELD) & (w[78] <= 1)
+    let ticks = word::all_fit32(w, 5, 7);
+    ticks & (w[7] <= 2) & (w[8] <= word::MOST_32) & (w[78] <= 1)
 }
 
 fn mode_of(n: u64) -> Mode
@@ -68,10 +68,12 @@ fn numbers_of(w: &[u64]) -> [usize; 64]
 }
 
 // The state of words and of two processor states.
-pub fn standby_of(w: &[u64], pending: [u8; 64], processor: [u8; 64]) -> Standby
+pub fn standby_of(w: &[u64], pending: &[u8; 64], processor: &[u8; 64]) -> Standby
     requires { ⌜ standbyWordsOk (now w) ≡ true ⌝ }
-    ensures { λ r. ⌜ r ≡ standbyOf (now (w .entry)) pending processor ⌝ }
+    ensures { λ r. ⌜ r ≡ standbyOf (now (w .entry)) (now (pending .entry)) (now (processor .entry)) ⌝ }
 {
+    let staged = *pending;
+    let kept = *processor;
     let settings = StandbySettings {
         u: w[0] as usize,
         m: w[1] as usize,
@@ -100,14 +102,14 @@ pub fn standby_of(w: &[u64], pending: [u8; 64], processor: [u8; 64]) -> Standby
         pages: w[76] as usize,
         next: w[77] as usize,
         seen: word::flag_of(w[78]),
-        pending: pending,
-        processor: processor,
+        pending: staged,
+        processor: kept,
     }
 }
 
 fn first_words(s: Standby) -> [u64; 11]
     ensures { λ r. ⌜ r ≡ firstWords s ⌝ }
-    ensures { λ r. ⌜ (allLow (between 5 7 r) && isLow (getD r 8 0)) ≡ true ⌝ }
+    ensures { λ r. ⌜ (allFit32 (between 5 7 r) && fits32 (getD r 8 0)) ≡ true ⌝ }
 {
     let g = s.settings;
     let d = s.detector;
@@ -147,12 +149,15 @@ fn store_numbers(w: &mut [u64], numbers: [usize; 64])
     }
 }
 
-// Leaves the words of a state. That they are a state again, the same, the types of its fields give.
-pub fn store(w: &mut [u64], s: Standby)
+// Leaves the words and the two processor states of a state. That they are a state again, the same, the types of its
+// fields give.
+pub fn store(w: &mut [u64], pending: &mut [u8; 64], processor: &mut [u8; 64], s: Standby)
     requires { ⌜ length (now w) ≡ standbyLength ⌝ }
     ensures { λ _. ⌜ now (w .exit) ≡ standbyWords s ⌝ }
+    ensures { λ _. ⌜ now (pending .exit) ≡ s .pending ⌝ }
+    ensures { λ _. ⌜ now (processor .exit) ≡ s .processor ⌝ }
     ensures { λ _. ⌜ standbyWordsOk (now (w .exit)) ≡ true ⌝ }
-    ensures { λ _. ⌜ standbyOf (now (w .exit)) (s .pending) (s .processor) ≡ s ⌝ }
+    ensures { λ _. ⌜ standbyOf (now (w .exit)) (now (pending .exit)) (now (processor .exit)) ≡ s ⌝ }
 {
     let k = s.slots;
     let numbers = k.numbers;
@@ -161,4 +166,8 @@ pub fn store(w: &mut [u64], s: Standby)
     word::store_at(w, 0, &first);
     store_numbers(w, numbers);
     word::store_at(w, LAST, &last);
+    let staged = s.pending;
+    let kept = s.processor;
+    *pending = staged;
+    *processor = kept;
 }

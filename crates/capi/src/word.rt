@@ -3,23 +3,23 @@ ghost use mathlib.Core.Path.{_≡_};
 ghost use Prim.Native.Nat.{_<_, _≤_, _+_};
 ghost use lib.ListN.{length};
 ghost use Rattle.lists.specs.Part.{put};
-ghost use Rattle.capi.specs.Word.{replyWord, toldWord, answerWord, allLow, between, flagOf, flagWord};
+ghost use Rattle.capi.specs.Word.{replyWord, recordWord, answerWord, allFit32, between, flagOf, flagWord};
 use records::CUT_SHORT;
 use rules::Answer;
 
 // The largest number of a field of 32 bits.
-pub const MOST_FIELD: u64 = 4294967295;
+pub const MOST_32: u64 = 4294967295;
 
 // Whether the words from one place on, up to another, all fit a field of 32 bits. All are looked at, whatever the first
 // ones say: so the compiler can look at several at once.
-pub fn all_low(w: &[u64], from: usize, to: usize) -> bool
+pub fn all_fit32(w: &[u64], from: usize, to: usize) -> bool
     requires { ⌜ (from ≤ to) × (to ≤ length (now w)) ⌝ }
-    ensures { λ r. ⌜ r ≡ allLow (between from to (now (w .entry))) ⌝ }
+    ensures { λ r. ⌜ r ≡ allFit32 (between from to (now (w .entry))) ⌝ }
 {
     let mut low = true;
     let mut i = from;
     while i < to {
-        low = low & (w[i] <= MOST_FIELD);
+        low = low & (w[i] <= MOST_32);
         i += 1;
     }
     low
@@ -55,15 +55,15 @@ fn answer(number: u64, used: u64, value: u64) -> u64
 }
 
 // The answer of a call that reads no record.
-pub fn reply(number: u64, value: u64) -> u64
+pub fn reply_word(number: u64, value: u64) -> u64
     ensures { λ r. ⌜ r ≡ replyWord number value ⌝ }
 {
     answer(number, 0, value)
 }
 
 // The answer of a call that reads a record.
-pub fn told(a: Answer) -> u64
-    ensures { λ r. ⌜ r ≡ toldWord a ⌝ }
+pub fn record_word(a: Answer) -> u64
+    ensures { λ r. ⌜ r ≡ recordWord a ⌝ }
 {
     match a {
         Answer::Accepted { value, used } => answer(0, used as u64, value),

@@ -27,6 +27,12 @@ choiceNumber PrimaryDisk = 0
 choiceNumber StandbyDisk = 0
 choiceNumber (Refused n) = n
 
+-- the disk as a number: 1 the primary's, 2 the standby's, 0 where there is none
+abbrev pub diskOf : Choice → ℕ
+diskOf PrimaryDisk = 1
+diskOf StandbyDisk = 2
+diskOf (Refused n) = 0
+
 -- "The chosen one of the two lent disks is itself handed back; on 1 or 12 an empty part of the primary's is"
 abbrev pub chosen : {A : Type 0} → Choice → A → A → A → A
 chosen PrimaryDisk primary standby none = primary

@@ -10,29 +10,29 @@ decide-requires c κs = search needs
 enum-told : tie.Need-enum-told
 enum-told c = search needs
 
-reply-requires : tie.Need-reply-requires
-reply-requires c κs = search needs
+reply-word-requires : tie.Need-reply-word-requires
+reply-word-requires c κs = search needs
 
 enum-told-2 : tie.Need-enum-told-2
 enum-told-2 c = search needs
 
-reply-requires-2 : tie.Need-reply-requires-2
-reply-requires-2 c κs = search needs
+reply-word-requires-2 : tie.Need-reply-word-requires-2
+reply-word-requires-2 c κs = search needs
 
 enum-known-choice : tie.Need-enum-known-choice
 enum-known-choice c = search needs
 
-reply-requires-3 : tie.Need-reply-requires-3
-reply-requires-3 c κs = search needs
+reply-word-requires-3 : tie.Need-reply-word-requires-3
+reply-word-requires-3 c κs = search needs
 
 returns : tie.Need-returns
-returns c = rw (sym (c .before .before .before .decide .ensures) ∙ c .before .enum-told .given .1) (c .reply .ensures)
+returns c = rw (sym (c .before .before .before .decide .ensures) ∙ c .before .enum-told .given .1) (c .reply-word .ensures)
 
 returns-2 : tie.Need-returns-2
-returns-2 c = rw (sym (c .before .before .before .decide .ensures) ∙ c .before .enum-told2 .given .1) (c .reply2 .ensures)
+returns-2 c = rw (sym (c .before .before .before .decide .ensures) ∙ c .before .enum-told2 .given .1) (c .reply-word2 .ensures)
 
 returns-3 : tie.Need-returns-3
-returns-3 c = rw (sym (c .before .before .before .before .decide .ensures) ∙ c .before .before .choice .given .1) (c .reply3 .ensures)
+returns-3 c = rw (sym (c .before .before .before .before .decide .ensures) ∙ c .before .before .choice .given .1) (c .reply-word3 .ensures)
 
 pub pair-disk-choice-spec : {M : Type 1} → statement M
 pair-disk-choice-spec =
@@ -40,11 +40,11 @@ pair-disk-choice-spec =
     (tie.spec
     decide-requires
     enum-told
-    reply-requires
+    reply-word-requires
     enum-told-2
-    reply-requires-2
+    reply-word-requires-2
     enum-known-choice
-    reply-requires-3
+    reply-word-requires-3
     returns
     returns-2
     returns-3)

@@ -3,7 +3,7 @@ use mathlib.Core.Path.{_≡_, sym, _∙_}
 use mathlib.Core.Bool.{true, false}
 use borrow.Author.Tests.{not-true, not-false}
 use Rattle.capi.specs.PairCalls.{startWordsOk}
-use Rattle.capi.proofs.DoneLaws.{left-old, primary-old, standby-old, left-new, primary-new, standby-new, start-many}
+use Rattle.capi.proofs.DoneLaws.{leaves-old, primary-old, standby-old, leaves-new, primary-new, standby-new, start-many}
 use borrow.Author.Needs.{needs}
 use Rattle.capi.proofs.pair_calls.pair_start.Statement.{statement}
 use Rattle.capi.proofs.pair_calls.pair_start.Tie as tie
@@ -20,7 +20,7 @@ start-ok-requires : tie.Need-start-ok-requires
 start-ok-requires c κs = search needs
 
 returns : tie.Need-returns
-returns c = (primary-old (bad c), standby-old (bad c), left-old (bad c) _ _, left-old (bad c) _ _, left-old (bad c) _ _, left-old (bad c) _ _, left-old (bad c) _ _)
+returns c = (primary-old (bad c), standby-old (bad c), leaves-old (bad c) _ _, leaves-old (bad c) _ _, leaves-old (bad c) _ _, leaves-old (bad c) _ _, leaves-old (bad c) _ _)
 
 settings-of-requires : tie.Need-settings-of-requires
 settings-of-requires c κs = start-many _ _ _ (good (c .before)) .0
@@ -32,10 +32,10 @@ store-requires : tie.Need-store-requires
 store-requires c κs = start-many _ _ _ (good (c .before .before .before .before .before .before .before .before .before .before .before .before .before .before .before .before .before .before .before .before .before)) .1
 
 store-requires-2 : tie.Need-store-requires-2
-store-requires-2 c κs = start-many _ _ _ (good (c .before .before .before .before .before .before .before .before .before .before .before .before .before .before .before .before .before .before .before .before .before .before .before .before .before)) .2
+store-requires-2 c κs = start-many _ _ _ (good (c .before .before .before .before .before .before .before .before .before .before .before .before .before .before .before .before .before .before .before .before .before .before .before .before .before .before .before)) .2
 
-reply-requires : tie.Need-reply-requires
-reply-requires c κs = search needs
+reply-word-requires : tie.Need-reply-word-requires
+reply-word-requires c κs = search needs
 
 same-length : tie.Need-same-length
 same-length c = search needs
@@ -63,7 +63,7 @@ returns-2 c =
     let ok = good (c .before .before .before .before .before .before .before .before .before .before .before .before .before .before .before .before .before .before .before .before .before .before .before .before .before .before .before .before .before .before .before) in
     let r = c .before .before .before .before .before .before .before .before .before .before .before .before .before .before .before .before .before .before .before .before .before .before .before .start .ensures in
     rw (sym (c .before .before .before .before .before .before .before .before .before .before .before .before .before .before .before .before .before .before .before .before .before .before .before .before .before .before .before .before .before .settings-of .ensures), sym (r .0))
-    (primary-new ok (c .reply .ensures) (c .before .before .before .before .before .before .before .before .before .store .ensures), standby-new ok (c .reply .ensures) (c .before .before .before .before .before .store2 .ensures), left-new ok _ (r .1 .0), left-new ok _ (r .1 .1 .0), left-new ok _ (r .1 .1 .1 .0), left-new ok _ (r .1 .1 .1 .1 .0), left-new ok _ (r .1 .1 .1 .1 .1))
+    (primary-new ok (c .reply-word .ensures) (c .before .before .before .before .before .before .before .before .before .store .ensures), standby-new ok (c .reply-word .ensures) (c .before .before .before .store2 .ensures), leaves-new ok _ (r .1 .0), leaves-new ok _ (r .1 .1 .0), leaves-new ok _ (r .1 .1 .1 .0), leaves-new ok _ (r .1 .1 .1 .1 .0), leaves-new ok _ (r .1 .1 .1 .1 .1))
 
 pub pair-start-spec : {M : Type 1} → statement M
 pair-start-spec =
@@ -75,7 +75,7 @@ pair-start-spec =
     start-requires
     store-requires
     store-requires-2
-    reply-requires
+    reply-word-requires
     same-length
     same-length-2
     same-length-3

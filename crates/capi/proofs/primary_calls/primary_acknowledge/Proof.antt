@@ -33,8 +33,8 @@ acknowledge-requires c κs = search needs
 store-requires : tie.Need-store-requires
 store-requires c κs = primary-many _ (good (c .before .before .before .before .before))
 
-told-requires : tie.Need-told-requires
-told-requires c κs = search needs
+record-word-requires : tie.Need-record-word-requires
+record-word-requires c κs = search needs
 
 same-length-2 : tie.Need-same-length-2
 same-length-2 c = search needs
@@ -43,7 +43,7 @@ returns-2 : tie.Need-returns-2
 returns-2 c =
     let r = c .before .before .before .before .before .before .acknowledge .ensures in
     rw (sym (c .before .before .before .before .before .before .before .primary-of .ensures), sym (r .0))
-    (primary-new (good (c .before .before .before .before .before .before .before .before .before)) (c .told .ensures) (c .before .before .before .store .ensures))
+    (primary-new (good (c .before .before .before .before .before .before .before .before .before)) (c .record-word .ensures) (c .before .before .before .store .ensures))
 
 pub primary-acknowledge-spec : {M : Type 1} → statement M
 primary-acknowledge-spec =
@@ -55,6 +55,6 @@ primary-acknowledge-spec =
     primary-of-requires
     acknowledge-requires
     store-requires
-    told-requires
+    record-word-requires
     same-length-2
     returns-2)

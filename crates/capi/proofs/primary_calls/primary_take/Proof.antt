@@ -4,7 +4,7 @@ use mathlib.Core.Bool.{true, false}
 use borrow.Author.Tests.{not-true, not-false}
 use Rattle.capi.specs.PrimaryWords.{primaryWordsOk}
 use Rattle.capi.proofs.PrimaryWordLaws.{primary-many}
-use Rattle.capi.proofs.DoneLaws.{left-old, primary-old, left-new, primary-new}
+use Rattle.capi.proofs.DoneLaws.{leaves-old, primary-old, leaves-new, primary-new}
 use borrow.Author.Needs.{needs}
 use Rattle.capi.proofs.primary_calls.primary_take.Statement.{statement}
 use Rattle.capi.proofs.primary_calls.primary_take.Tie as tie
@@ -22,7 +22,7 @@ same-length : tie.Need-same-length
 same-length c = search needs
 
 returns : tie.Need-returns
-returns c = (primary-old (bad c), left-old (bad c) _ _, left-old (bad c) _ _)
+returns c = (primary-old (bad c), leaves-old (bad c) _ _, leaves-old (bad c) _ _)
 
 primary-of-requires : tie.Need-primary-of-requires
 primary-of-requires c κs = good (c .before)
@@ -33,8 +33,8 @@ take-requires c κs = search needs
 store-requires : tie.Need-store-requires
 store-requires c κs = primary-many _ (good (c .before .before .before .before .before .before .before .before .before .before .before))
 
-reply-requires : tie.Need-reply-requires
-reply-requires c κs = search needs
+reply-word-requires : tie.Need-reply-word-requires
+reply-word-requires c κs = search needs
 
 same-length-2 : tie.Need-same-length-2
 same-length-2 c = search needs
@@ -49,7 +49,7 @@ returns-2 : tie.Need-returns-2
 returns-2 c =
     let r = c .before .before .before .before .before .before .before .before .before .before .take .ensures in
     rw (sym (c .before .before .before .before .before .before .before .before .before .before .before .before .before .primary-of .ensures), sym (r .0))
-    (primary-new (good (c .before .before .before .before .before .before .before .before .before .before .before .before .before .before .before)) (c .reply .ensures) (c .before .before .before .store .ensures), left-new (good (c .before .before .before .before .before .before .before .before .before .before .before .before .before .before .before)) _ (r .1 .0), left-new (good (c .before .before .before .before .before .before .before .before .before .before .before .before .before .before .before)) _ (r .1 .1))
+    (primary-new (good (c .before .before .before .before .before .before .before .before .before .before .before .before .before .before .before)) (c .reply-word .ensures) (c .before .before .before .store .ensures), leaves-new (good (c .before .before .before .before .before .before .before .before .before .before .before .before .before .before .before)) _ (r .1 .0), leaves-new (good (c .before .before .before .before .before .before .before .before .before .before .before .before .before .before .before)) _ (r .1 .1))
 
 pub primary-take-spec : {M : Type 1} → statement M
 primary-take-spec =
@@ -61,7 +61,7 @@ primary-take-spec =
     primary-of-requires
     take-requires
     store-requires
-    reply-requires
+    reply-word-requires
     same-length-2
     same-length-3
     same-length-4

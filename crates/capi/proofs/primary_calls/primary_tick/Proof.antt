@@ -33,8 +33,8 @@ tick-requires c κs = search needs
 store-requires : tie.Need-store-requires
 store-requires c κs = primary-many _ (good (c .before .before .before .before .before))
 
-reply-requires : tie.Need-reply-requires
-reply-requires c κs = search needs
+reply-word-requires : tie.Need-reply-word-requires
+reply-word-requires c κs = search needs
 
 same-length-2 : tie.Need-same-length-2
 same-length-2 c = search needs
@@ -43,7 +43,7 @@ returns-2 : tie.Need-returns-2
 returns-2 c =
     let r = c .before .before .before .before .before .before .tick .ensures in
     rw (sym (c .before .before .before .before .before .before .before .primary-of .ensures), sym (r))
-    (primary-new (good (c .before .before .before .before .before .before .before .before .before)) (c .reply .ensures) (c .before .before .before .store .ensures))
+    (primary-new (good (c .before .before .before .before .before .before .before .before .before)) (c .reply-word .ensures) (c .before .before .before .store .ensures))
 
 pub primary-tick-spec : {M : Type 1} → statement M
 primary-tick-spec =
@@ -55,6 +55,6 @@ primary-tick-spec =
     primary-of-requires
     tick-requires
     store-requires
-    reply-requires
+    reply-word-requires
     same-length-2
     returns-2)

@@ -2,14 +2,14 @@
 use Prim.Native.Nat.{_<_}
 use mathlib.Core.Path.{_≡_}
 use mathlib.Core.Bool.{true}
-use Rattle.capi.specs.Word.{allLow, between}
+use Rattle.capi.specs.Word.{allFit32, between}
 use Rattle.capi.specs.PrimaryWords.{headWords}
-use Rattle.capi.proofs.WordLaws.{low-none, low-cons}
+use Rattle.capi.proofs.WordLaws.{fits-none, fits-cons}
 use borrow.Author.Needs.{needs}
 use Rattle.capi.proofs.primary_words.head_words.Statement.{statement}
 use Rattle.capi.proofs.primary_words.head_words.Tie as tie
 
-low : (c : tie.Start) → allLow (between 6 10 (headWords (c .args .p))) ≡ true
+low : (c : tie.Start) → allFit32 (between 6 10 (headWords (c .args .p))) ≡ true
 unfolding headWords
 low c =
     let p = c .args .p in
@@ -17,7 +17,7 @@ low c =
     let count : p .detector .count < 4294967296 = search needs in
     let epoch : p .epoch < 4294967296 = search needs in
     let acknowledged : p .acknowledged < 4294967296 = search needs in
-    low-cons _ _ patience (low-cons _ _ count (low-cons _ _ epoch (low-cons _ _ acknowledged low-none)))
+    fits-cons _ _ patience (fits-cons _ _ count (fits-cons _ _ epoch (fits-cons _ _ acknowledged fits-none)))
 
 flag-word-requires : tie.Need-flag-word-requires
 flag-word-requires c κs = search needs

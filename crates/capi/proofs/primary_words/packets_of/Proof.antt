@@ -1,4 +1,5 @@
--- `primary_words::packets_of` meets its contract. The loop's invariant: the packets read, and the rest. Assumes nothing.
+-- `primary_words::packets_of` meets its contract. The loop's invariant: the packets read, and the rest.
+-- Assumes nothing.
 use Prim.Native.Nat.{ℕ, _+_, _*_, _-_, _≤_}
 use mathlib.Core.Path.{_≡_, refl, sym}
 use mathlib.Core.List.{List, _++_}

@@ -3,22 +3,22 @@ use Prim.Native.Nat.{_<_}
 use mathlib.Core.Path.{_≡_}
 use mathlib.Core.List.{[], _∷_}
 use mathlib.Core.Bool.{true}
-use Rattle.capi.specs.Word.{allLow}
+use Rattle.capi.specs.Word.{allFit32}
 use Rattle.capi.specs.PrimaryWords.{packetWords}
-use Rattle.capi.proofs.WordLaws.{low-none, low-cons, pair-put}
+use Rattle.capi.proofs.WordLaws.{fits-none, fits-cons, pair-put}
 use native.Mathlib.Omega.{arith}
 use lib.ListN.{length-set}
 use borrow.Author.Needs.{needs}
 use Rattle.capi.proofs.primary_words.store_packet.Statement.{statement}
 use Rattle.capi.proofs.primary_words.store_packet.Tie as tie
 
-low : (c : tie.Start) → allLow (packetWords (c .args .k ∷ [])) ≡ true
+low : (c : tie.Start) → allFit32 (packetWords (c .args .k ∷ [])) ≡ true
 unfolding packetWords
 low c =
     let k = c .args .k in
     let epoch : k .epoch < 4294967296 = search needs in
     let size : k .length < 4294967296 = search needs in
-    low-cons _ _ epoch (low-cons _ _ size low-none)
+    fits-cons _ _ epoch (fits-cons _ _ size fits-none)
 
 cast-w : tie.Need-cast-w
 cast-w c = search needs

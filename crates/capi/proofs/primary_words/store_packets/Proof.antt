@@ -1,4 +1,5 @@
--- `primary_words::store_packets` meets its contract. The loop's invariant: the packets passed are stored. Assumes nothing.
+-- `primary_words::store_packets` meets its contract. The loop's invariant: the packets passed are stored.
+-- Assumes nothing.
 use Prim.Native.Nat.{ℕ, _+_, _*_, _-_, _≤_}
 use mathlib.Core.Path.{_≡_, refl, sym, ap, _∙_}
 use mathlib.Core.List.{List, [], _∷_}
@@ -9,16 +10,16 @@ use lib.Seq.{take-all}
 use Rattle.lists.specs.Part.{put}
 use Rattle.lists.proofs.PartLaws.{put-none, length-put}
 use Rattle.queue.specs.declared.Packet.{Packet}
-use Rattle.capi.specs.Word.{allLow}
+use Rattle.capi.specs.Word.{allFit32}
 use Rattle.capi.specs.PrimaryWords.{packetWords, packetsAt, primaryLength}
-use Rattle.capi.proofs.PrimaryWordLaws.{length-packetWords, store-more, low-packets-more}
+use Rattle.capi.proofs.PrimaryWordLaws.{length-packetWords, store-more, fits-packets-more}
 use borrow.Author.Needs.{needs}
 use Rattle.capi.proofs.primary_words.store_packets.Statement.{statement}
 use Rattle.capi.proofs.primary_words.store_packets.Tie as tie
 
 abbrev Inv-loop : tie.InvT-loop
 Inv-loop w₀ packets i₀ w i =
-    (i ≤ 64) × (length w ≡ primaryLength) × (w ≡ put w₀ packetsAt (packetWords (take i packets))) × (allLow (packetWords (take i packets)) ≡ true)
+    (i ≤ 64) × (length w ≡ primaryLength) × (w ≡ put w₀ packetsAt (packetWords (take i packets))) × (allFit32 (packetWords (take i packets)) ≡ true)
 
 abbrev μ-loop : tie.MeasureT-loop
 μ-loop w₀ packets i₀ w i = 64 - i
@@ -28,7 +29,7 @@ array : (c : tie.Start Inv-loop μ-loop) → length (c .args .t2) ≡ 64
 array c = search needs
 
 loop-holds : tie.Need-loop-holds Inv-loop μ-loop
-unfolding packetWords allLow
+unfolding packetWords allFit32
 loop-holds c = (omega arith, c .before .pre, sym (put-none _ packetsAt), refl)
 
 mul-k : tie.Need-mul-k Inv-loop μ-loop
@@ -68,7 +69,7 @@ loop-again c =
       omega arith,
       ap length e ∙ length-put (s .w) (packetsAt + 2 * i) (packetWords (k ∷ [])) (rw (length-packetWords (k ∷ [])) (omega arith)) ∙ n,
       e ∙ ap (λ (x : List ℕ). put x (packetsAt + 2 * i) (packetWords (k ∷ []))) (s .inv .2) ∙ store-more w ks (record { epoch = 0; length = 0 }) packetsAt i (omega arith) (omega arith),
-      low-packets-more ks (record { epoch = 0; length = 0 }) i (omega arith) (s .inv .3) (r .1),
+      fits-packets-more ks (record { epoch = 0; length = 0 }) i (omega arith) (s .inv .3) (r .1),
     )
 
 same-length : tie.Need-same-length Inv-loop μ-loop

@@ -4,7 +4,7 @@ use mathlib.Core.Bool.{true, false}
 use borrow.Author.Tests.{not-true, not-false}
 use Rattle.capi.specs.StandbyWords.{standbyWordsOk}
 use Rattle.capi.proofs.StandbyWordLaws.{standby-many}
-use Rattle.capi.proofs.DoneLaws.{left-old, standby-old, left-new, standby-new}
+use Rattle.capi.proofs.DoneLaws.{leaves-old, standby-old, leaves-new, standby-new}
 use borrow.Author.Needs.{needs}
 use Rattle.capi.proofs.standby_calls.standby_read.Statement.{statement}
 use Rattle.capi.proofs.standby_calls.standby_read.Tie as tie
@@ -22,7 +22,7 @@ same-length : tie.Need-same-length
 same-length c = search needs
 
 returns : tie.Need-returns
-returns c = (standby-old (bad c), left-old (bad c) _ _, left-old (bad c) _ _, left-old (bad c) _ _, left-old (bad c) _ _, left-old (bad c) _ _)
+returns c = (standby-old (bad c), leaves-old (bad c) _ _, leaves-old (bad c) _ _, leaves-old (bad c) _ _, leaves-old (bad c) _ _, leaves-old (bad c) _ _)
 
 standby-of-requires : tie.Need-standby-of-requires
 standby-of-requires c κs = good (c .before .before .before)
@@ -31,10 +31,10 @@ read-requires : tie.Need-read-requires
 read-requires c κs = search needs
 
 store-requires : tie.Need-store-requires
-store-requires c κs = standby-many _ (good (c .before .before .before .before .before .before .before .before .before .before .before .before .before .before .before .before .before .before .before .before .before .before))
+store-requires c κs = standby-many _ (good (c .before .before .before .before .before .before .before .before .before .before .before .before .before .before .before .before .before .before .before .before .before .before .before .before))
 
-told-requires : tie.Need-told-requires
-told-requires c κs = search needs
+record-word-requires : tie.Need-record-word-requires
+record-word-requires c κs = search needs
 
 same-length-2 : tie.Need-same-length-2
 same-length-2 c = search needs
@@ -58,7 +58,7 @@ returns-2 : tie.Need-returns-2
 returns-2 c =
     let r = c .before .before .before .before .before .before .before .before .before .before .before .before .before .before .before .before .before .before .read .ensures in
     rw (sym (c .before .before .before .before .before .before .before .before .before .before .before .before .before .before .before .before .before .before .before .before .before .before .before .before .standby-of .ensures), sym (r .0))
-    (standby-new (good (c .before .before .before .before .before .before .before .before .before .before .before .before .before .before .before .before .before .before .before .before .before .before .before .before .before .before .before .before)) (c .told .ensures) (c .before .before .before .before .before .store .ensures), left-new (good (c .before .before .before .before .before .before .before .before .before .before .before .before .before .before .before .before .before .before .before .before .before .before .before .before .before .before .before .before)) _ (r .1 .0), left-new (good (c .before .before .before .before .before .before .before .before .before .before .before .before .before .before .before .before .before .before .before .before .before .before .before .before .before .before .before .before)) _ (r .1 .1 .0), left-new (good (c .before .before .before .before .before .before .before .before .before .before .before .before .before .before .before .before .before .before .before .before .before .before .before .before .before .before .before .before)) _ (r .1 .1 .1 .0), left-new (good (c .before .before .before .before .before .before .before .before .before .before .before .before .before .before .before .before .before .before .before .before .before .before .before .before .before .before .before .before)) _ (r .1 .1 .1 .1 .0), left-new (good (c .before .before .before .before .before .before .before .before .before .before .before .before .before .before .before .before .before .before .before .before .before .before .before .before .before .before .before .before)) _ (r .1 .1 .1 .1 .1 .0))
+    (standby-new (good (c .before .before .before .before .before .before .before .before .before .before .before .before .before .before .before .before .before .before .before .before .before .before .before .before .before .before .before .before)) (c .record-word .ensures) (c .before .before .before .store .ensures), leaves-new (good (c .before .before .before .before .before .before .before .before .before .before .before .before .before .before .before .before .before .before .before .before .before .before .before .before .before .before .before .before)) _ (r .1 .0), leaves-new (good (c .before .before .before .before .before .before .before .before .before .before .before .before .before .before .before .before .before .before .before .before .before .before .before .before .before .before .before .before)) _ (r .1 .1 .0), leaves-new (good (c .before .before .before .before .before .before .before .before .before .before .before .before .before .before .before .before .before .before .before .before .before .before .before .before .before .before .before .before)) _ (r .1 .1 .1 .0), leaves-new (good (c .before .before .before .before .before .before .before .before .before .before .before .before .before .before .before .before .before .before .before .before .before .before .before .before .before .before .before .before)) _ (r .1 .1 .1 .1 .0), leaves-new (good (c .before .before .before .before .before .before .before .before .before .before .before .before .before .before .before .before .before .before .before .before .before .before .before .before .before .before .before .before)) _ (r .1 .1 .1 .1 .1 .0))
 
 pub standby-read-spec : {M : Type 1} → statement M
 standby-read-spec =
@@ -70,7 +70,7 @@ standby-read-spec =
     standby-of-requires
     read-requires
     store-requires
-    told-requires
+    record-word-requires
     same-length-2
     same-length-3
     same-length-4

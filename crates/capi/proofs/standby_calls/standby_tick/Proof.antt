@@ -4,7 +4,7 @@ use mathlib.Core.Bool.{true, false}
 use borrow.Author.Tests.{not-true, not-false}
 use Rattle.capi.specs.StandbyWords.{standbyWordsOk}
 use Rattle.capi.proofs.StandbyWordLaws.{standby-many}
-use Rattle.capi.proofs.DoneLaws.{left-old, standby-old, left-new, standby-new}
+use Rattle.capi.proofs.DoneLaws.{leaves-old, standby-old, leaves-new, standby-new}
 use borrow.Author.Needs.{needs}
 use Rattle.capi.proofs.standby_calls.standby_tick.Statement.{statement}
 use Rattle.capi.proofs.standby_calls.standby_tick.Tie as tie
@@ -22,7 +22,7 @@ same-length : tie.Need-same-length
 same-length c = search needs
 
 returns : tie.Need-returns
-returns c = (standby-old (bad c), left-old (bad c) _ _)
+returns c = (standby-old (bad c), leaves-old (bad c) _ _)
 
 standby-of-requires : tie.Need-standby-of-requires
 standby-of-requires c κs = good (c .before .before .before)
@@ -31,10 +31,10 @@ tick-requires : tie.Need-tick-requires
 tick-requires c κs = search needs
 
 store-requires : tie.Need-store-requires
-store-requires c κs = standby-many _ (good (c .before .before .before .before .before .before .before .before .before .before))
+store-requires c κs = standby-many _ (good (c .before .before .before .before .before .before .before .before .before .before .before .before))
 
-reply-requires : tie.Need-reply-requires
-reply-requires c κs = search needs
+reply-word-requires : tie.Need-reply-word-requires
+reply-word-requires c κs = search needs
 
 same-length-2 : tie.Need-same-length-2
 same-length-2 c = search needs
@@ -46,7 +46,7 @@ returns-2 : tie.Need-returns-2
 returns-2 c =
     let r = c .before .before .before .before .before .before .before .before .before .before .tick .ensures in
     rw (sym (c .before .before .before .before .before .before .before .before .before .before .before .before .standby-of .ensures), sym (r .0))
-    (standby-new (good (c .before .before .before .before .before .before .before .before .before .before .before .before .before .before .before .before)) (c .reply .ensures) (c .before .before .before .before .before .store .ensures), left-new (good (c .before .before .before .before .before .before .before .before .before .before .before .before .before .before .before .before)) _ (r .1))
+    (standby-new (good (c .before .before .before .before .before .before .before .before .before .before .before .before .before .before .before .before)) (c .reply-word .ensures) (c .before .before .before .store .ensures), leaves-new (good (c .before .before .before .before .before .before .before .before .before .before .before .before .before .before .before .before)) _ (r .1))
 
 pub standby-tick-spec : {M : Type 1} → statement M
 standby-tick-spec =
@@ -58,7 +58,7 @@ standby-tick-spec =
     standby-of-requires
     tick-requires
     store-requires
-    reply-requires
+    reply-word-requires
     same-length-2
     same-length-3
     returns-2)

@@ -6,21 +6,21 @@ use native.Mathlib.Omega.{arith}
 use lib.ListN.{getD}
 use borrow.Author.Tests.{le-leb}
 use Rattle.lists.proofs.TestLaws.{join}
-use Rattle.capi.specs.Word.{isLow, allLow, between, mostField}
+use Rattle.capi.specs.Word.{fits32, allFit32, between, most32}
 use Rattle.capi.specs.StandbyWords.{firstWords}
-use Rattle.capi.proofs.WordLaws.{low-none, low-cons}
+use Rattle.capi.proofs.WordLaws.{fits-none, fits-cons}
 use borrow.Author.Needs.{needs}
 use Rattle.capi.proofs.standby_words.first_words.Statement.{statement}
 use Rattle.capi.proofs.standby_words.first_words.Tie as tie
 
-low : (c : tie.Start) → (allLow (between 5 7 (firstWords (c .args .s))) && isLow (getD (firstWords (c .args .s)) 8 0)) ≡ true
+low : (c : tie.Start) → (allFit32 (between 5 7 (firstWords (c .args .s))) && fits32 (getD (firstWords (c .args .s)) 8 0)) ≡ true
 unfolding firstWords
 low c =
     let s = c .args .s in
     let patience : s .detector .patience < 4294967296 = search needs in
     let count : s .detector .count < 4294967296 = search needs in
     let received : s .received < 4294967296 = search needs in
-    join _ _ (low-cons _ _ patience (low-cons _ _ count low-none)) (le-leb (s .received) mostField (omega arith))
+    join _ _ (fits-cons _ _ patience (fits-cons _ _ count fits-none)) (le-leb (s .received) most32 (omega arith))
 
 mode-word-requires : tie.Need-mode-word-requires
 mode-word-requires c κs = search needs

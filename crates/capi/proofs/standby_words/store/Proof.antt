@@ -1,6 +1,6 @@
 -- `standby_words::store` meets its contract. Assumes nothing.
 use Prim.Native.Nat.{ℕ}
-use mathlib.Core.Path.{_≡_, ap, _∙_}
+use mathlib.Core.Path.{_≡_, refl, ap, _∙_}
 use mathlib.Core.List.{List}
 use lib.ListN.{length}
 use Rattle.lists.specs.Part.{put}
@@ -40,17 +40,17 @@ same-length c = search needs
 
 returns : tie.Need-returns
 returns c =
-    let start = c .before .before .before .before .before .before .before .before .before .before .before .before .before .before .before .before .before .before .before in
+    let start = c .before .before .before .before .before .before .before .before .before .before .before .before .before .before .before .before .before .before .before .before .before in
     let w : List ℕ = start .args .w .now in
     let s = start .args .s in
     let ns : List ℕ = s .slots .numbers in
     let many : length ns ≡ numbersMany = array start in
-    let first = c .before .before .before .before .before .before .before .before .before .before .before .before .before .before .before .first-words .ensures in
-    let e : c .before .before .store-at2 .last .0 ≡ standbyWords s =
-    c .before .before .store-at2 .ensures
-    ∙ rw (c .before .before .before .before .before .before .before .before .before .before .before .before .before .before .last-words .ensures) (ap (λ (x : List ℕ). put x 75 (lastWords s)) (c .before .before .before .before .before .before .before .store-numbers .ensures ∙ ap (λ (x : List ℕ). put x numbersAt ns) (c .before .before .before .before .before .before .before .before .before .before .before .store-at .ensures ∙ ap (put w 0) (first .0))))
+    let first = c .before .before .before .before .before .before .before .before .before .before .before .before .before .before .before .before .before .first-words .ensures in
+    let e : c .before .before .before .before .store-at2 .last .0 ≡ standbyWords s =
+    c .before .before .before .before .store-at2 .ensures
+    ∙ rw (c .before .before .before .before .before .before .before .before .before .before .before .before .before .before .before .before .last-words .ensures) (ap (λ (x : List ℕ). put x 75 (lastWords s)) (c .before .before .before .before .before .before .before .before .before .store-numbers .ensures ∙ ap (λ (x : List ℕ). put x numbersAt ns) (c .before .before .before .before .before .before .before .before .before .before .before .before .before .store-at .ensures ∙ ap (put w 0) (first .0))))
     ∙ store-three w s (start .pre) many in
-    (e, (rw e (standby-words-ok s many (rw (first .0) at (first .1))), rw e (standby-again s many)))
+    (e, (refl, (refl, (rw e (standby-words-ok s many (rw (first .0) at (first .1))), rw e (standby-again s many)))))
 
 pub store-spec : {M : Type 1} → statement M
 store-spec =

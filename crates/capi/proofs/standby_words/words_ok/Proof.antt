@@ -9,8 +9,8 @@ returns : tie.Need-returns
 unfolding standbyWordsOk
 returns c = simp (ne-eqb _ _ (c .if1 .taken))
 
-all-low-requires : tie.Need-all-low-requires
-all-low-requires c κs = search needs
+all-fit32-requires : tie.Need-all-fit32-requires
+all-fit32-requires c κs = search needs
 
 shared-slice-read-result : tie.Need-shared-slice-read-result
 shared-slice-read-result c = search needs
@@ -23,14 +23,14 @@ shared-slice-read-result-3 c = search needs
 
 returns-2 : tie.Need-returns-2
 unfolding standbyWordsOk
-returns-2 c = rw (eq-eqb _ _ (c .before .before .before .before .if1 .left), c .before .before .before .all-low .ensures)
+returns-2 c = rw (eq-eqb _ _ (c .before .before .before .before .if1 .left), c .before .before .before .all-fit32 .ensures)
 
 pub words-ok-spec : {M : Type 1} → statement M
 words-ok-spec =
     tie.close
     (tie.spec
     returns
-    all-low-requires
+    all-fit32-requires
     shared-slice-read-result
     shared-slice-read-result-2
     shared-slice-read-result-3

@@ -1,7 +1,7 @@
--- `word::told` meets its contract. Assumes nothing.
+-- `word::record_word` meets its contract. Assumes nothing.
 use borrow.Author.Needs.{needs}
-use Rattle.capi.proofs.word.told.Statement.{statement}
-use Rattle.capi.proofs.word.told.Tie as tie
+use Rattle.capi.proofs.word.record_word.Statement.{statement}
+use Rattle.capi.proofs.word.record_word.Tie as tie
 
 enum-known-a : tie.Need-enum-known-a
 enum-known-a c = search needs
@@ -30,8 +30,8 @@ returns-2 c = rw (c .before .enum-told .given .1) (c .answer2 .ensures)
 returns-3 : tie.Need-returns-3
 returns-3 c = rw (c .before .before .a2 .given .1) (c .answer3 .ensures)
 
-pub told-spec : {M : Type 1} → statement M
-told-spec =
+pub record-word-spec : {M : Type 1} → statement M
+record-word-spec =
     tie.close
     (tie.spec
     enum-known-a

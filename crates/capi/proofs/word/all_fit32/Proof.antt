@@ -1,17 +1,17 @@
--- `word::all_low` meets its contract. The loop's invariant: the words passed and the test of the rest. Assumes nothing.
+-- `word::all_fit32` meets its contract. The loop's invariant: the words passed and the test of the rest. Assumes nothing.
 use Prim.Native.Nat.{_+_, _-_, _≤_}
 use mathlib.Core.Path.{_≡_, refl, sym, ap, _∙_}
 use mathlib.Core.Bool.{Bool, _&&_}
 use native.Mathlib.Omega.{arith}
 use lib.ListN.{getD}
-use Rattle.capi.specs.Word.{isLow, allLow, between}
-use Rattle.capi.proofs.WordLaws.{low-more, low-end, test-more, test-end}
+use Rattle.capi.specs.Word.{fits32, allFit32, between}
+use Rattle.capi.proofs.WordLaws.{fits-more, fits-end, test-more, test-end}
 use borrow.Author.Needs.{needs}
-use Rattle.capi.proofs.word.all_low.Statement.{statement}
-use Rattle.capi.proofs.word.all_low.Tie as tie
+use Rattle.capi.proofs.word.all_fit32.Statement.{statement}
+use Rattle.capi.proofs.word.all_fit32.Tie as tie
 
 abbrev Inv-loop : tie.InvT-loop
-Inv-loop w from to low₀ i₀ low i = (from ≤ i) × (i ≤ to) × ((low && allLow (between i to w)) ≡ allLow (between from to w))
+Inv-loop w from to low₀ i₀ low i = (from ≤ i) × (i ≤ to) × ((low && allFit32 (between i to w)) ≡ allFit32 (between from to w))
 
 abbrev μ-loop : tie.MeasureT-loop
 μ-loop w from to low₀ i₀ low i = to - i
@@ -37,18 +37,18 @@ loop-again c =
     let l = c .before .before .loop in (
       omega arith,
       omega arith,
-      test-more (l .low) (isLow (getD (a .w .now) (l .i) 0)) (allLow (between (l .i + 1) (a .to) (a .w .now)))
-          ∙ ap (λ (x : Bool). l .low && x) (sym (low-more (a .w .now) (l .i) (a .to) (omega arith) (omega arith))) ∙ l .inv .2,
+      test-more (l .low) (fits32 (getD (a .w .now) (l .i) 0)) (allFit32 (between (l .i + 1) (a .to) (a .w .now)))
+          ∙ ap (λ (x : Bool). l .low && x) (sym (fits-more (a .w .now) (l .i) (a .to) (omega arith) (omega arith))) ∙ l .inv .2,
     )
 
 returns : tie.Need-returns Inv-loop μ-loop
 returns c =
     let a = c .before .before .args in
     let l = c .before .loop in
-    sym (test-end (l .low) (allLow (between (l .i) (a .to) (a .w .now))) (low-end (a .w .now) (l .i) (a .to) (omega arith) (omega arith))) ∙ l .inv .2
+    sym (test-end (l .low) (allFit32 (between (l .i) (a .to) (a .w .now))) (fits-end (a .w .now) (l .i) (a .to) (omega arith) (omega arith))) ∙ l .inv .2
 
-pub all-low-spec : {M : Type 1} → statement M
-all-low-spec =
+pub all-fit32-spec : {M : Type 1} → statement M
+all-fit32-spec =
     tie.close
     (tie.spec
     Inv-loop
