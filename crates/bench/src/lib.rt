@@ -304,3 +304,28 @@ pub extern "C" fn bench_flush(
     let r = flush(state, slots, disk, n);
     told(r.number, r.value)
 }
+
+// Ticks of a standby that has staged nothing, rounds times: how many its detector has counted.
+// A primary's tick is not exported: with a second caller of its range test, the compiler would no longer inline it
+// in the checkpoint above, which is timed too.
+#[no_mangle]
+pub extern "C" fn bench_standby_ticks(
+    u: usize,
+    m: usize,
+    s: usize,
+    rounds: usize,
+    marks: &mut [u64],
+) -> u64 {
+    let k = slots_of(0);
+    let mut state = standby_of(u, m, 64, s, k, 0, false);
+    let mut last = 0;
+    let mut i = 0;
+    while i < rounds {
+        let r = standby::takeover::tick(state, marks);
+        state = r.state;
+        let d = state.detector;
+        last = told(r.number, d.count as u64);
+        i += 1;
+    }
+    last
+}
