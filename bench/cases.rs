@@ -4,11 +4,14 @@
 mod primary;
 #[path = "standby_cases.rs"]
 mod standby;
+#[path = "tick_cases.rs"]
+mod tick;
 
 use crate::model;
-use crate::Case;
+use crate::{Case, Interface};
 use primary::{Checkpoint, Drain, Packets, ROUNDS};
 use standby::{Commit, Flush, PageReads};
+use tick::{PrimaryTicks, StandbyTicks};
 
 /// Bytes that are not all alike.
 fn filled(n: usize, from: usize) -> Vec<u8> {
@@ -43,7 +46,7 @@ fn told(r: model::Reply) -> u64 {
 }
 
 /// Every case in turn.
-pub fn all(mut each: impl FnMut(&mut dyn Case)) {
+pub fn all(mut each: impl FnMut(&mut (dyn Case + 'static))) {
     let sizes = [64, 512, 4096].map(|u| [64, 4096].map(|m| [m, 8, 1].map(|step| (u, m, step))));
     for (u, m, step) in sizes.into_iter().flatten().flatten() {
         each(&mut Checkpoint::new(u, m, step));
@@ -72,4 +75,18 @@ pub fn all(mut each: impl FnMut(&mut dyn Case)) {
             each(&mut Flush::new(u, staged, n));
         }
     }
+}
+
+/// Every case of the C interface in turn.
+pub fn interface(mut each: impl FnMut(&mut (dyn Interface + 'static))) {
+    for n in [64, 1514] {
+        for kept in [0, 32, 63] {
+            each(&mut Packets::new(n, kept));
+        }
+    }
+    each(&mut PrimaryTicks::new());
+    for u in [64, 512, 4096] {
+        each(&mut PageReads::new(u));
+    }
+    each(&mut StandbyTicks::new());
 }

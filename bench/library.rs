@@ -69,6 +69,14 @@ mod foreign {
             disk: *mut u8,
             disk_len: usize,
         ) -> u64;
+        pub fn bench_standby_ticks(
+            u: usize,
+            m: usize,
+            s: usize,
+            rounds: usize,
+            marks: *mut u64,
+            marks_len: usize,
+        ) -> u64;
         pub fn base_copy(dst: *mut u8, src: *const u8, n: usize);
         pub fn base_gather(dst: *mut u8, src: *const u8, u: usize, m: usize, step: usize, gap: usize);
         pub fn base_place(dst: *mut u8, src: *const u8, u: usize, m: usize, step: usize);
@@ -159,6 +167,11 @@ pub fn read(u: usize, m: usize, had: usize, seen: bool, rounds: usize, bytes: &[
 pub fn flush(u: usize, staged: usize, n: usize, slots: &mut [u8], disk: &mut [u8]) -> u64 {
     let (s, d) = (slots.len(), disk.len());
     unsafe { foreign::bench_flush(u, 64, 64, staged, n, slots.as_mut_ptr(), s, disk.as_mut_ptr(), d) }
+}
+
+/// On a standby with 64 slots.
+pub fn standby_ticks(u: usize, m: usize, rounds: usize, marks: &mut [u64]) -> u64 {
+    unsafe { foreign::bench_standby_ticks(u, m, 64, rounds, marks.as_mut_ptr(), marks.len()) }
 }
 
 pub fn base_copy(dst: &mut [u8], src: &[u8]) {

@@ -1,5 +1,5 @@
 //! Times the verified calls of libbench.a beside memcpy of the same bytes and beside a plain Rust writing of the
-//! same rules, and prints a table.
+//! same rules, and the calls of libcapi.a beside both, and prints a table of each.
 //!
 //! The compared things run by turns, in short batches. A time is the median of its batches, in processor time of
 //! this thread. What has to be made anew before each call is timed by itself and taken off.
@@ -8,6 +8,7 @@
 mod model;
 
 mod cases;
+mod interface;
 mod library;
 
 use std::hint::black_box;
@@ -32,28 +33,47 @@ mod clock {
 const BATCH: f64 = 200_000.0;
 const BATCHES: usize = 61;
 
-/// One case. Its buffers are touched before anything is timed.
-pub trait Case {
+/// A verified call and the model's. Its buffers are touched before anything is timed.
+pub trait Call {
     fn name(&self) -> String;
-    /// The bytes that one operation copies or moves.
-    fn bytes(&self) -> usize;
     /// How many operations a call makes.
     fn operations(&self) -> usize {
         1
     }
     /// What both ours and the model's call give.
     fn wanted(&self) -> u64;
-    /// Makes anew what a call changes.
-    fn reset(&mut self) {}
     fn ours(&mut self) -> u64;
-    fn copy(&mut self);
     fn model(&mut self) -> u64;
 }
 
-type Timed = fn(&mut dyn Case);
+/// One that is timed beside memcpy.
+pub trait Case: Call {
+    /// The bytes that one operation copies or moves.
+    fn bytes(&self) -> usize;
+    /// Makes anew what a call changes.
+    fn reset(&mut self) {}
+    fn copy(&mut self);
+}
+
+/// One that is made through the C interface too.
+pub trait Interface: Call {
+    /// How many calls of the interface are one operation.
+    fn calls(&self) -> usize {
+        1
+    }
+    /// Whether libbench.a has the call. Where it has not, ours is the model's.
+    fn is_inlined(&self) -> bool {
+        true
+    }
+    /// The same as ours, by calls of libcapi.a. The words of the state are copied from kept ones first, as ours makes
+    /// its state first: that is in the time of both, once for all operations.
+    fn in_c(&mut self) -> u64;
+}
+
+type Timed<C> = fn(&mut C);
 
 /// What is timed: the reset, then each of the three with what it needs.
-const TIMED: [Timed; 4] = [
+const TIMED: [Timed<dyn Case>; 4] = [
     |c| c.reset(),
     |c| {
         c.reset();
@@ -66,8 +86,21 @@ const TIMED: [Timed; 4] = [
     },
 ];
 
+/// What is timed of the C interface.
+const TIMED_IN_C: [Timed<dyn Interface>; 3] = [
+    |c| {
+        black_box(c.in_c());
+    },
+    |c| {
+        black_box(c.ours());
+    },
+    |c| {
+        black_box(c.model());
+    },
+];
+
 /// Nanoseconds of one call, of a batch of them.
-fn batch(calls: u64, f: Timed, case: &mut dyn Case) -> f64 {
+fn batch<C: ?Sized>(calls: u64, f: Timed<C>, case: &mut C) -> f64 {
     let began = clock::now();
     for _ in 0..calls {
         f(black_box(&mut *case));
@@ -75,10 +108,10 @@ fn batch(calls: u64, f: Timed, case: &mut dyn Case) -> f64 {
     (clock::now() - began) as f64 / calls as f64
 }
 
-/// A batch on a stack that is a few hundred bytes deeper for each step, so that the steps go through a page: an array on the stack that lies across two pages takes longer to copy, and
-/// where the stack begins is chance.
+/// A batch on a stack that is a few hundred bytes deeper for each step, so that the steps go through a page: an array
+/// on the stack that lies across two pages takes longer to copy, and where the stack begins is chance.
 #[inline(never)]
-fn deeper(steps: usize, calls: u64, f: Timed, case: &mut dyn Case) -> f64 {
+fn deeper<C: ?Sized>(steps: usize, calls: u64, f: Timed<C>, case: &mut C) -> f64 {
     let room = black_box([0u8; 192]);
     let time = if steps == 0 { batch(calls, f, case) } else { deeper(steps - 1, calls, f, case) };
     black_box(room);
@@ -91,15 +124,15 @@ fn median(mut list: Vec<f64>) -> f64 {
 }
 
 /// The median nanoseconds of each.
-fn times(case: &mut dyn Case) -> [f64; 4] {
-    let calls = TIMED.map(|f| {
+fn times<C: ?Sized, const N: usize>(timed: [Timed<C>; N], case: &mut C) -> [f64; N] {
+    let calls = timed.map(|f| {
         batch(2, f, case);
         (BATCH / batch(3, f, case).max(1.0)).ceil() as u64
     });
-    let mut lists = [const { Vec::new() }; 4];
+    let mut lists = [const { Vec::new() }; N];
     for at in 0..BATCHES {
-        for i in 0..4 {
-            lists[i].push(deeper(at % 16, calls[i], TIMED[i], case));
+        for i in 0..N {
+            lists[i].push(deeper(at % 16, calls[i], timed[i], case));
         }
     }
     lists.map(median)
@@ -112,12 +145,12 @@ struct Row {
     to_model: f64,
 }
 
-fn row(case: &mut dyn Case) -> Row {
+fn row(case: &mut (dyn Case + 'static)) -> Row {
     case.reset();
     assert_eq!(case.model(), case.wanted(), "the model's call: {}", case.name());
     case.reset();
     assert_eq!(case.ours(), case.wanted(), "the verified call: {}", case.name());
-    let [reset, ours, copy, model] = times(case);
+    let [reset, ours, copy, model] = times(TIMED, case);
     let per = case.operations() as f64;
     let (ns, copy, model) = ((ours - reset) / per, copy / per, (model - reset) / per);
     let row = Row { name: case.name(), ns, to_copy: ns / copy, to_model: ns / model };
@@ -132,9 +165,33 @@ fn row(case: &mut dyn Case) -> Row {
     row
 }
 
-/// Says of a limit which rows pass it.
-fn limit(what: &str, rows: &[Row], over: impl Fn(&Row) -> bool) {
-    let names: Vec<&str> = rows.iter().filter(|r| over(r)).map(|r| r.name.as_str()).collect();
+/// What the C interface adds to a call, in nanoseconds.
+struct Added {
+    name: String,
+    ns: f64,
+}
+
+/// The name of a case of the C interface.
+fn name_in_c(case: &dyn Interface) -> String {
+    format!("C interface: {}", case.name())
+}
+
+fn added(case: &mut (dyn Interface + 'static)) -> Added {
+    let name = name_in_c(case);
+    assert_eq!(case.model(), case.wanted(), "the model's call: {name}");
+    assert_eq!(case.ours(), case.wanted(), "the verified call: {name}");
+    assert_eq!(case.in_c(), case.wanted(), "the call in C: {name}");
+    let per = case.operations() as f64;
+    let [in_c, ours, model] = times(TIMED_IN_C, case).map(|time| time / per);
+    let ns = (in_c - ours) / case.calls() as f64;
+    let inlined = if case.is_inlined() { format!("{ours:.0}") } else { "none".to_string() };
+    println!("| {name} | {in_c:.0} | {inlined} | {model:.0} | {:.2} | {} | {ns:.0} |", in_c / model, case.calls());
+    Added { name, ns }
+}
+
+/// Says of a limit which cases pass it.
+fn limit<'a>(what: &str, over: impl Iterator<Item = &'a String>) {
+    let names: Vec<&str> = over.map(String::as_str).collect();
     if names.is_empty() {
         println!("- {what}: kept.");
     } else {
@@ -142,19 +199,54 @@ fn limit(what: &str, rows: &[Row], over: impl Fn(&Row) -> bool) {
     }
 }
 
+fn largest(r: &Row) -> bool {
+    r.name.contains("U 4096, M 4096") && r.name.contains("all")
+}
+
+fn limits(rows: &[Row]) {
+    if rows.is_empty() {
+        return;
+    }
+    let over = |test: fn(&Row) -> bool| rows.iter().filter(move |r| test(r)).map(|r| &r.name);
+    println!();
+    limit("all 4,096 pages of 4,096 bytes within 1.25 times memcpy", over(|r| largest(r) && r.to_copy > 1.25));
+    limit("within 1.5 times the model", over(|r| r.to_model > 1.5));
+    limit("packet and take under 1,000 ns", over(|r| r.name.starts_with("packet") && r.ns >= 1000.0));
+}
+
+/// The wanted bound is of the primary's calls: the guest waits for them.
+fn limits_in_c(rows: &[Added]) {
+    if rows.is_empty() {
+        return;
+    }
+    let primary = |r: &&Added| r.name.contains("packet") || r.name.contains("primary");
+    let over = rows.iter().filter(primary).filter(|r| r.ns >= 100.0).map(|r| &r.name);
+    println!();
+    limit("the C interface adds under 100 ns to a primary's call", over);
+}
+
 fn main() {
+    let words: Vec<String> = std::env::args().skip(1).collect();
+    let wanted = |name: String| words.is_empty() || words.iter().any(|w| name.contains(w.as_str()));
+
     println!("| case | bytes | ns | memcpy ns | to memcpy | model ns | to model |");
     println!("|---|---:|---:|---:|---:|---:|---:|");
-    let wanted: Vec<String> = std::env::args().skip(1).collect();
     let mut rows = Vec::new();
     cases::all(|case| {
-        if wanted.is_empty() || wanted.iter().any(|w| case.name().contains(w.as_str())) {
+        if wanted(case.name()) {
             rows.push(row(case));
         }
     });
+    limits(&rows);
+
     println!();
-    let largest = |r: &Row| r.name.contains("U 4096, M 4096") && r.name.contains("all");
-    limit("all 4,096 pages of 4,096 bytes within 1.25 times memcpy", &rows, |r| largest(r) && r.to_copy > 1.25);
-    limit("within 1.5 times the model", &rows, |r| r.to_model > 1.5);
-    limit("packet and take under 1,000 ns", &rows, |r| r.name.starts_with("packet") && r.ns >= 1000.0);
+    println!("| case | C ns | inlined ns | model ns | to model | calls | added a call, ns |");
+    println!("|---|---:|---:|---:|---:|---:|---:|");
+    let mut rows = Vec::new();
+    cases::interface(|case| {
+        if wanted(name_in_c(case)) {
+            rows.push(added(case));
+        }
+    });
+    limits_in_c(&rows);
 }

@@ -1,13 +1,14 @@
 //! The primary's cases: checkpoint, drain, packet and take.
 
 use super::{filled, how_many, marks, told};
+use crate::interface::{self, PrimaryWords};
 use crate::library;
 use crate::model;
-use crate::Case;
+use crate::{Call, Case, Interface};
 use std::hint::black_box;
 
 /// The state that libbench.a makes of the same numbers.
-fn primary(u: usize, m: usize, q: usize, l: usize, waiting: usize) -> model::Primary {
+pub fn primary(u: usize, m: usize, q: usize, l: usize, waiting: usize) -> model::Primary {
     let none = model::Packet { epoch: 0, length: 0 };
     model::Primary {
         u: u as u64,
@@ -55,28 +56,15 @@ impl Checkpoint {
     }
 }
 
-impl Case for Checkpoint {
+impl Call for Checkpoint {
     fn name(&self) -> String {
         format!("checkpoint, U {}, M {}, dirty {}", self.u, self.m, how_many(self.m, self.step))
-    }
-    fn bytes(&self) -> usize {
-        self.m.div_ceil(self.step) * self.u
     }
     fn wanted(&self) -> u64 {
         2
     }
-    fn reset(&mut self) {
-        self.dirty.copy_from_slice(black_box(&self.set));
-    }
     fn ours(&mut self) -> u64 {
         library::checkpoint(self.u, self.m, 0, &self.memory, &mut self.dirty, &mut self.stream)
-    }
-    fn copy(&mut self) {
-        if self.step == 1 {
-            library::base_copy(&mut self.stream, &self.memory);
-        } else {
-            library::base_gather(&mut self.stream, &self.memory, self.u, self.step, 10);
-        }
     }
     #[inline(never)]
     fn model(&mut self) -> u64 {
@@ -84,6 +72,22 @@ impl Case for Checkpoint {
         let r = model::checkpoint(&mut p, &self.memory, &mut self.dirty, &mut self.stream, &[7; 64]);
         black_box(&p);
         told(r)
+    }
+}
+
+impl Case for Checkpoint {
+    fn bytes(&self) -> usize {
+        self.m.div_ceil(self.step) * self.u
+    }
+    fn reset(&mut self) {
+        self.dirty.copy_from_slice(black_box(&self.set));
+    }
+    fn copy(&mut self) {
+        if self.step == 1 {
+            library::base_copy(&mut self.stream, &self.memory);
+        } else {
+            library::base_gather(&mut self.stream, &self.memory, self.u, self.step, 10);
+        }
     }
 }
 
@@ -102,12 +106,9 @@ impl Drain {
     }
 }
 
-impl Case for Drain {
+impl Call for Drain {
     fn name(&self) -> String {
         format!("drain of {}, {} waiting", self.n, self.waiting)
-    }
-    fn bytes(&self) -> usize {
-        self.waiting - self.n * (self.rounds - 1) / 2
     }
     fn operations(&self) -> usize {
         self.rounds
@@ -117,12 +118,6 @@ impl Case for Drain {
     }
     fn ours(&mut self) -> u64 {
         library::drain(self.waiting, self.n, self.rounds, &mut self.stream, &mut self.destination)
-    }
-    fn copy(&mut self) {
-        for i in 0..self.rounds {
-            let total = self.waiting - self.n * i;
-            library::base_move_out(&mut self.destination, &mut self.stream, self.n, total);
-        }
     }
     #[inline(never)]
     fn model(&mut self) -> u64 {
@@ -136,6 +131,18 @@ impl Case for Drain {
     }
 }
 
+impl Case for Drain {
+    fn bytes(&self) -> usize {
+        self.waiting - self.n * (self.rounds - 1) / 2
+    }
+    fn copy(&mut self) {
+        for i in 0..self.rounds {
+            let total = self.waiting - self.n * i;
+            library::base_move_out(&mut self.destination, &mut self.stream, self.n, total);
+        }
+    }
+}
+
 /// The others are of this many bytes at first, so that 63 of them leave room for packets of 1,514.
 const OTHER: usize = 64;
 /// How often a call that is made in turns is made.
@@ -144,14 +151,27 @@ pub const ROUNDS: usize = 16;
 /// A packet in and a packet out, on a primary that is alone and holds others.
 pub struct Packets {
     kept: usize,
+    words: PrimaryWords,
     one: Vec<u8>,
     held: Vec<u8>,
     destination: Vec<u8>,
 }
 
+/// A primary that is alone and holds others.
+fn holding(kept: usize, q: usize) -> model::Primary {
+    let mut p = primary(64, 1, q, 158, 0);
+    p.alone = true;
+    p.packets = kept as u64;
+    p.held = (kept * OTHER) as u64;
+    p.queue[..kept].fill(model::Packet { epoch: 1, length: OTHER as u64 });
+    p
+}
+
 impl Packets {
     pub fn new(n: usize, kept: usize) -> Packets {
-        Packets { kept, one: filled(n, 11), held: filled(32_768, 10), destination: filled(1514, 12) }
+        let (one, held, destination) = (filled(n, 11), filled(32_768, 10), filled(1514, 12));
+        let words = interface::primary_words(&holding(kept, held.len()));
+        Packets { kept, words, one, held, destination }
     }
     /// The length of each packet handed out.
     fn first(&self) -> usize {
@@ -167,13 +187,9 @@ impl Packets {
     }
 }
 
-impl Case for Packets {
+impl Call for Packets {
     fn name(&self) -> String {
         format!("packet of {} and take, {} others held", self.one.len(), self.kept)
-    }
-    fn bytes(&self) -> usize {
-        let moved: usize = (0..ROUNDS).map(|i| self.others(i)).sum();
-        2 * self.one.len() + moved / ROUNDS
     }
     fn operations(&self) -> usize {
         ROUNDS
@@ -184,20 +200,9 @@ impl Case for Packets {
     fn ours(&mut self) -> u64 {
         library::packets(self.kept, OTHER, ROUNDS, &mut self.held, &self.one, &mut self.destination)
     }
-    fn copy(&mut self) {
-        let first = self.first();
-        for i in 0..ROUNDS {
-            let others = self.others(i);
-            library::base_in_and_out(&mut self.destination, &mut self.held, &self.one, others, first);
-        }
-    }
     #[inline(never)]
     fn model(&mut self) -> u64 {
-        let mut p = primary(64, 1, self.held.len(), 158, 0);
-        p.alone = true;
-        p.packets = self.kept as u64;
-        p.held = (self.kept * OTHER) as u64;
-        p.queue[..self.kept].fill(model::Packet { epoch: 1, length: OTHER as u64 });
+        let mut p = holding(self.kept, self.held.len());
         let mut last = 0;
         for _ in 0..ROUNDS {
             let r = model::packet(&mut p, &mut self.held, &self.one);
@@ -205,6 +210,39 @@ impl Case for Packets {
                 if r.number == 0 { told(model::take(&mut p, &mut self.held, &mut self.destination)) } else { u64::MAX };
         }
         black_box(&p);
+        last
+    }
+}
+
+impl Case for Packets {
+    fn bytes(&self) -> usize {
+        let moved: usize = (0..ROUNDS).map(|i| self.others(i)).sum();
+        2 * self.one.len() + moved / ROUNDS
+    }
+    fn copy(&mut self) {
+        let first = self.first();
+        for i in 0..ROUNDS {
+            let others = self.others(i);
+            library::base_in_and_out(&mut self.destination, &mut self.held, &self.one, others, first);
+        }
+    }
+}
+
+impl Interface for Packets {
+    fn calls(&self) -> usize {
+        2
+    }
+    fn in_c(&mut self) -> u64 {
+        let mut state = self.words;
+        let mut last = 0;
+        for _ in 0..ROUNDS {
+            let r = interface::packet(&mut state, &mut self.held, &self.one);
+            last = if r.number == 0 {
+                told(interface::take(&mut state, &mut self.held, &mut self.destination))
+            } else {
+                u64::MAX
+            };
+        }
         last
     }
 }

@@ -1,13 +1,14 @@
 //! The standby's cases: read of PAGE and of COMMIT, flush.
 
 use super::{filled, how_many, marks, told};
+use crate::interface;
 use crate::library::{self, Lent};
 use crate::model;
-use crate::Case;
+use crate::{Call, Case, Interface};
 use std::hint::black_box;
 
 /// The state that libbench.a makes of the same numbers.
-fn standby(u: usize, m: usize, staged: usize, had: usize, seen: bool) -> model::Standby {
+pub fn standby(u: usize, m: usize, staged: usize, had: usize, seen: bool) -> model::Standby {
     model::Standby {
         u: u as u64,
         m: m as u64,
@@ -77,21 +78,27 @@ impl Commit {
     }
 }
 
-impl Case for Commit {
+impl Call for Commit {
     fn name(&self) -> String {
         format!("COMMIT, U {}, M {}, staged {}", self.u, self.m, how_many(self.m, self.step))
-    }
-    fn bytes(&self) -> usize {
-        self.count() * self.u
     }
     fn wanted(&self) -> u64 {
         12
     }
-    fn reset(&mut self) {
-        self.lent.marks.copy_from_slice(black_box(&self.set));
-    }
     fn ours(&mut self) -> u64 {
         library::read(self.u, self.m, self.count(), true, 1, &self.record, &mut self.lent)
+    }
+    fn model(&mut self) -> u64 {
+        model_read(self.u, self.m, self.count(), true, 1, &self.record, &mut self.lent)
+    }
+}
+
+impl Case for Commit {
+    fn bytes(&self) -> usize {
+        self.count() * self.u
+    }
+    fn reset(&mut self) {
+        self.lent.marks.copy_from_slice(black_box(&self.set));
     }
     fn copy(&mut self) {
         if self.step == 1 {
@@ -100,9 +107,6 @@ impl Case for Commit {
             library::base_place(&mut self.lent.memory, &self.lent.pages, self.u, self.step);
         }
     }
-    fn model(&mut self) -> u64 {
-        model_read(self.u, self.m, self.count(), true, 1, &self.record, &mut self.lent)
-    }
 }
 
 const PAGES: usize = 64;
@@ -110,6 +114,7 @@ const PAGES: usize = 64;
 /// The PAGE records of a checkpoint of 64 dirty pages, read one by one.
 pub struct PageReads {
     u: usize,
+    state: interface::Standby,
     bytes: Vec<u8>,
     lent: Lent,
 }
@@ -120,16 +125,14 @@ impl PageReads {
         let memory = filled(PAGES * u, 7);
         assert_eq!(library::checkpoint(u, PAGES, 0, &memory, &mut marks(PAGES, 1), &mut bytes), 2);
         bytes.truncate(PAGES * (u + 10));
-        PageReads { u, bytes, lent: lent(u, PAGES) }
+        let state = interface::standby_words(&standby(u, PAGES, 0, 0, false));
+        PageReads { u, state, bytes, lent: lent(u, PAGES) }
     }
 }
 
-impl Case for PageReads {
+impl Call for PageReads {
     fn name(&self) -> String {
         format!("read of PAGE, U {}", self.u)
-    }
-    fn bytes(&self) -> usize {
-        self.u
     }
     fn operations(&self) -> usize {
         PAGES
@@ -140,11 +143,28 @@ impl Case for PageReads {
     fn ours(&mut self) -> u64 {
         library::read(self.u, PAGES, 0, false, PAGES, &self.bytes, &mut self.lent)
     }
+    fn model(&mut self) -> u64 {
+        model_read(self.u, PAGES, 0, false, PAGES, &self.bytes, &mut self.lent)
+    }
+}
+
+impl Case for PageReads {
+    fn bytes(&self) -> usize {
+        self.u
+    }
     fn copy(&mut self) {
         library::base_scatter(&mut self.lent.pages, &self.bytes, self.u, PAGES);
     }
-    fn model(&mut self) -> u64 {
-        model_read(self.u, PAGES, 0, false, PAGES, &self.bytes, &mut self.lent)
+}
+
+impl Interface for PageReads {
+    fn in_c(&mut self) -> u64 {
+        let mut state = self.state;
+        let mut at = 0;
+        for _ in 0..PAGES {
+            at += interface::read(&mut state, &mut self.lent, &self.bytes[at..]).used as usize;
+        }
+        at as u64
     }
 }
 
@@ -163,12 +183,9 @@ impl Flush {
     }
 }
 
-impl Case for Flush {
+impl Call for Flush {
     fn name(&self) -> String {
         format!("flush of {}, U {}, {} due", self.n, self.u, self.staged)
-    }
-    fn bytes(&self) -> usize {
-        self.staged * self.u
     }
     fn wanted(&self) -> u64 {
         self.n as u64
@@ -176,14 +193,20 @@ impl Case for Flush {
     fn ours(&mut self) -> u64 {
         library::flush(self.u, self.staged, self.n, &mut self.slots, &mut self.disk)
     }
-    fn copy(&mut self) {
-        library::base_move_out(&mut self.disk, &mut self.slots, self.n * self.u, self.staged * self.u);
-    }
     #[inline(never)]
     fn model(&mut self) -> u64 {
         let mut s = standby(self.u, 1, self.staged, 0, false);
         let r = model::flush(&mut s, &mut self.slots, &mut self.disk, self.n as u64);
         black_box(&s);
         told(r)
+    }
+}
+
+impl Case for Flush {
+    fn bytes(&self) -> usize {
+        self.staged * self.u
+    }
+    fn copy(&mut self) {
+        library::base_move_out(&mut self.disk, &mut self.slots, self.n * self.u, self.staged * self.u);
     }
 }

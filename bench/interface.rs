@@ -1,0 +1,107 @@
+//! The functions of libcapi.a on slices, and the words of a state.
+
+#[path = "../tests/calls/capi.rs"]
+#[allow(dead_code)] // only some of the calls are timed
+mod capi;
+
+use crate::library::Lent;
+use crate::model;
+
+pub const PRIMARY_WORDS: usize = 143;
+pub const STANDBY_WORDS: usize = 79;
+
+/// Where the count of ticks stands.
+pub const PRIMARY_TICKS: usize = 7;
+pub const STANDBY_TICKS: usize = 6;
+
+pub type PrimaryWords = [u64; PRIMARY_WORDS];
+
+pub fn primary_words(p: &model::Primary) -> PrimaryWords {
+    let mut words = [0; PRIMARY_WORDS];
+    words[..6].copy_from_slice(&[p.u, p.m, p.d, p.b, p.q, p.l]);
+    words[6..11].copy_from_slice(&[p.t, p.count, p.open.into(), p.acknowledged.into(), p.alone.into()]);
+    words[11..15].copy_from_slice(&[p.blocks, p.waiting, p.packets, p.held]);
+    for (pair, packet) in words[15..].chunks_exact_mut(2).zip(&p.queue) {
+        pair.copy_from_slice(&[packet.epoch.into(), packet.length]);
+    }
+    words
+}
+
+/// A standby's state as it is lent.
+#[derive(Clone, Copy)]
+pub struct Standby {
+    pub words: [u64; STANDBY_WORDS],
+    pending: [u8; 64],
+    processor: [u8; 64],
+}
+
+/// The words of a standby that is receiving.
+pub fn standby_words(s: &model::Standby) -> Standby {
+    assert!(s.mode == model::Mode::Receiving);
+    let mut words = [0; STANDBY_WORDS];
+    words[..6].copy_from_slice(&[s.u, s.m, s.d, s.b, s.s, s.t]);
+    words[6..11].copy_from_slice(&[s.count, 0, s.received.into(), s.staged, s.due]);
+    words[11..75].copy_from_slice(&s.slots);
+    words[75..].copy_from_slice(&[s.blocks, s.pages, s.next_page, s.state_seen.into()]);
+    Standby { words, pending: s.staged_cpu, processor: s.kept_cpu }
+}
+
+/// The three parts of an answer.
+pub fn answered(word: u64) -> model::Reply {
+    model::Reply { number: word & 65535, value: word >> 32, used: word >> 16 & 65535 }
+}
+
+pub fn packet(state: &mut PrimaryWords, held: &mut [u8], bytes: &[u8]) -> model::Reply {
+    let h = held.len();
+    answered(unsafe {
+        capi::primary_packet(state.as_mut_ptr(), state.len(), held.as_mut_ptr(), h, bytes.as_ptr(), bytes.len())
+    })
+}
+
+pub fn take(state: &mut PrimaryWords, held: &mut [u8], destination: &mut [u8]) -> model::Reply {
+    let (h, d) = (held.len(), destination.len());
+    answered(unsafe {
+        capi::primary_take(state.as_mut_ptr(), state.len(), held.as_mut_ptr(), h, destination.as_mut_ptr(), d)
+    })
+}
+
+pub fn primary_tick(state: &mut PrimaryWords) -> model::Reply {
+    answered(unsafe { capi::primary_tick(state.as_mut_ptr(), state.len()) })
+}
+
+pub fn read(s: &mut Standby, lent: &mut Lent, bytes: &[u8]) -> model::Reply {
+    answered(unsafe {
+        capi::standby_read(
+            s.words.as_mut_ptr(),
+            s.words.len(),
+            s.pending.as_mut_ptr(),
+            s.processor.as_mut_ptr(),
+            lent.memory.as_mut_ptr(),
+            lent.memory.len(),
+            lent.pages.as_mut_ptr(),
+            lent.pages.len(),
+            lent.marks.as_mut_ptr(),
+            lent.marks.len(),
+            lent.blocks.as_mut_ptr(),
+            lent.blocks.len(),
+            bytes.as_ptr(),
+            bytes.len(),
+            lent.reply.as_mut_ptr(),
+            lent.reply.len(),
+        )
+    })
+}
+
+pub fn standby_tick(s: &mut Standby, marks: &mut [u64]) -> model::Reply {
+    let (state, n) = (s.words.as_mut_ptr(), marks.len());
+    answered(unsafe {
+        capi::standby_tick(
+            state,
+            STANDBY_WORDS,
+            s.pending.as_mut_ptr(),
+            s.processor.as_mut_ptr(),
+            marks.as_mut_ptr(),
+            n,
+        )
+    })
+}
