@@ -1,10 +1,10 @@
-// The primary's calls.
+// The primary's calls: the words are tested and read, the call is made, the words of its state are stored.
 ghost use Rattle.capi.specs.PrimaryCalls.{MemoryWriteDone, DiskWriteDone, PacketDone, CheckpointDone, DrainDone, AckDone, TakeDone, PrimaryTickDone};
 use crate::primary_words;
 use crate::word;
 use records::number;
 
-// Bytes inside one page; the page becomes dirty.
+// Memory write: bytes inside one page, which becomes dirty.
 #[no_mangle]
 pub extern "C" fn primary_memory_write(
     state: &mut [u64],
@@ -26,7 +26,7 @@ pub extern "C" fn primary_memory_write(
     word::reply_word(r.number, r.value)
 }
 
-// One block.
+// Disk write: one block.
 #[no_mangle]
 pub extern "C" fn primary_disk_write(
     state: &mut [u64],
@@ -47,7 +47,7 @@ pub extern "C" fn primary_disk_write(
     word::reply_word(r.number, r.value)
 }
 
-// A packet is held with the open epoch.
+// Packet: held with the open epoch.
 #[no_mangle]
 pub extern "C" fn primary_packet(state: &mut [u64], held: &mut [u8], bytes: &[u8]) -> u64
     ensures { λ r. ⌜ PacketDone (now (state .entry)) (now (held .entry)) (now (bytes .entry)) r (now (state .exit)) (now (held .exit)) ⌝ }
@@ -62,7 +62,7 @@ pub extern "C" fn primary_packet(state: &mut [u64], held: &mut [u8], bytes: &[u8
     word::reply_word(r.number, r.value)
 }
 
-// Every dirty page, STATE and COMMIT go to the stream; the next epoch is open.
+// Checkpoint: every dirty page, STATE and COMMIT go to the stream, and the next epoch is open.
 #[no_mangle]
 pub extern "C" fn primary_checkpoint(
     state: &mut [u64],
@@ -84,7 +84,7 @@ pub extern "C" fn primary_checkpoint(
     word::reply_word(r.number, r.value)
 }
 
-// The head of the stream moves to the destination.
+// Drain: the head of the stream moves to the destination.
 #[no_mangle]
 pub extern "C" fn primary_drain(
     state: &mut [u64],
@@ -104,7 +104,7 @@ pub extern "C" fn primary_drain(
     word::reply_word(r.number, r.value)
 }
 
-// Reads an ACK.
+// ACK: reads one.
 #[no_mangle]
 pub extern "C" fn primary_acknowledge(state: &mut [u64], bytes: &[u8]) -> u64
     ensures { λ r. ⌜ AckDone (now (state .entry)) (now (bytes .entry)) r (now (state .exit)) ⌝ }
@@ -120,7 +120,7 @@ pub extern "C" fn primary_acknowledge(state: &mut [u64], bytes: &[u8]) -> u64
     word::record_word(answer)
 }
 
-// The oldest packet, if it is free to go.
+// Take: the oldest packet, if it is free to go.
 #[no_mangle]
 pub extern "C" fn primary_take(state: &mut [u64], held: &mut [u8], destination: &mut [u8]) -> u64
     ensures { λ r. ⌜ TakeDone (now (state .entry)) (now (held .entry)) (now (destination .entry)) r (now (state .exit)) (now (held .exit)) (now (destination .exit)) ⌝ }
@@ -135,7 +135,7 @@ pub extern "C" fn primary_take(state: &mut [u64], held: &mut [u8], destination: 
     word::reply_word(r.number, r.value)
 }
 
-// A tick.
+// Tick.
 #[no_mangle]
 pub extern "C" fn primary_tick(state: &mut [u64]) -> u64
     ensures { λ r. ⌜ PrimaryTickDone (now (state .entry)) r (now (state .exit)) ⌝ }

@@ -3,7 +3,7 @@ ghost use mathlib.Core.Path.{_≡_};
 ghost use mathlib.Core.Bool.{true};
 ghost use mathlib.Core.List.{[], _∷_};
 ghost use Prim.Native.Nat.{_<_, _≤_, _+_};
-ghost use lib.ListN.{length, drop, getD};
+ghost use lib.ListN.{length, drop};
 ghost use Rattle.lists.specs.Part.{put};
 ghost use Rattle.capi.specs.Word.{allFit32, between};
 ghost use Rattle.capi.specs.PrimaryWords.{primaryLength, packetsAt, packetsOf, primaryOf, packetWords, headWords, primaryWords, primaryWordsOk};
@@ -32,17 +32,8 @@ pub fn words_ok(w: &[u64]) -> bool
     numbers & (w[10] <= 1) & packets
 }
 
-// The packet of the two words from a place on.
-fn packet_at(w: &[u64], at: usize) -> Packet
-    requires { ⌜ (at + 1 < length (now w)) × (getD (now w) at 0 < 4294967296) × (getD (now w) (at + 1) 0 < 4294967296) ⌝ }
-    ensures { λ r. ⌜ packetsOf (drop at (now (w .entry))) ≡ r ∷ packetsOf (drop (at + 2) (now (w .entry))) ⌝ }
-{
-    Packet {
-        epoch: word::field(w[at]),
-        length: word::field(w[at + 1]),
-    }
-}
-
+// Each packet is made in the loop: where a function of its own made it, the compiler did not read several at once any
+// more, and every call took about a tenth longer.
 fn packets_of(w: &[u64]) -> [Packet; 64]
     requires { ⌜ primaryWordsOk (now w) ≡ true ⌝ }
     ensures { λ r. ⌜ r ≡ packetsOf (drop packetsAt (now (w .entry))) ⌝ }
@@ -54,7 +45,11 @@ fn packets_of(w: &[u64]) -> [Packet; 64]
     let mut packets = [none; MOST_PACKETS];
     let mut i = 0;
     while i < MOST_PACKETS {
-        packets[i] = packet_at(w, PACKETS + 2 * i);
+        let at = PACKETS + 2 * i;
+        packets[i] = Packet {
+            epoch: word::field(w[at]),
+            length: word::field(w[at + 1]),
+        };
         i += 1;
     }
     packets

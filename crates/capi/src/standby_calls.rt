@@ -1,10 +1,11 @@
-// The standby's calls. Its two processor states, the staged and the kept one, are lent beside its words.
+// The standby's calls, as the primary's. Its two processor states, the staged and the kept one, are lent beside its
+// words.
 ghost use Rattle.capi.specs.StandbyCalls.{asLent, ReadDone, FlushDone, StandbyTickDone, ActivationDone, ActiveMemoryWriteDone, ActiveDiskWriteDone};
 use crate::standby_words;
 use crate::word;
 use records::number;
 
-// Reads one record of the stream.
+// Read: at most one record of the stream.
 #[no_mangle]
 pub extern "C" fn standby_read(
     state: &mut [u64],
@@ -30,7 +31,7 @@ pub extern "C" fn standby_read(
     word::record_word(answer)
 }
 
-// Stores blocks that are due.
+// Flush: stores blocks that are due.
 #[no_mangle]
 pub extern "C" fn standby_flush(
     state: &mut [u64],
@@ -52,7 +53,7 @@ pub extern "C" fn standby_flush(
     word::reply_word(r.number, r.value)
 }
 
-// A tick.
+// Tick.
 #[no_mangle]
 pub extern "C" fn standby_tick(
     state: &mut [u64],
@@ -72,7 +73,7 @@ pub extern "C" fn standby_tick(
     word::reply_word(r.number, r.value)
 }
 
-// Activation.
+// Activation: writes the record, and the standby is active.
 #[no_mangle]
 pub extern "C" fn standby_activate(
     state: &mut [u64],
@@ -92,7 +93,7 @@ pub extern "C" fn standby_activate(
     word::reply_word(r.number, r.value)
 }
 
-// The guest's write once the standby is active.
+// Memory write of the guest, once the standby is active.
 #[no_mangle]
 pub extern "C" fn standby_memory_write(
     state: &mut [u64],
@@ -115,7 +116,7 @@ pub extern "C" fn standby_memory_write(
     word::reply_word(r.number, r.value)
 }
 
-// The same of a block.
+// Disk write of the guest, once the standby is active.
 #[no_mangle]
 pub extern "C" fn standby_disk_write(
     state: &mut [u64],

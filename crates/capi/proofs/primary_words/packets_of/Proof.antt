@@ -4,9 +4,9 @@ use Prim.Native.Nat.{ℕ, _+_, _*_, _-_, _≤_}
 use mathlib.Core.Path.{_≡_, refl, sym}
 use mathlib.Core.List.{List, _++_}
 use native.Mathlib.Omega.{arith}
-use lib.ListN.{length, take, drop}
+use lib.ListN.{length, take, drop, set}
 use Rattle.capi.specs.PrimaryWords.{packetsOf, packetsAt}
-use Rattle.capi.proofs.PrimaryWordLaws.{primary-many, packet-field, read-more, read-all}
+use Rattle.capi.proofs.PrimaryWordLaws.{primary-many, packet-field, packet-cons, read-more, read-all}
 use borrow.Author.Needs.{needs}
 use Rattle.capi.proofs.primary_words.packets_of.Statement.{statement}
 use Rattle.capi.proofs.primary_words.packets_of.Tie as tie
@@ -21,17 +21,32 @@ abbrev μ-loop : tie.MeasureT-loop
 loop-holds : tie.Need-loop-holds Inv-loop μ-loop
 loop-holds c = (omega arith, search needs, refl)
 
-mul-packet-at : tie.Need-mul-packet-at Inv-loop μ-loop
-mul-packet-at c = search needs
+mul-at : tie.Need-mul-at Inv-loop μ-loop
+mul-at c = search needs
 
-add-packet-at : tie.Need-add-packet-at Inv-loop μ-loop
-add-packet-at c = search needs
+add-at : tie.Need-add-at Inv-loop μ-loop
+add-at c = search needs
 
-packet-at-requires : tie.Need-packet-at-requires Inv-loop μ-loop
-packet-at-requires c κs =
-    let ok = c .before .before .before .pre in
-    let many : length (c .before .before .before .args .w .now) ≡ 143 = primary-many _ ok in
-    (omega arith, packet-field _ _ ok (omega arith) (omega arith), packet-field _ _ ok (omega arith) (omega arith))
+mul-field : tie.Need-mul-field Inv-loop μ-loop
+mul-field c = search needs
+
+shared-slice-read-field : tie.Need-shared-slice-read-field Inv-loop μ-loop
+shared-slice-read-field c = omega (arith, primary-many _ (c .before .before .before .before .pre))
+
+field-requires : tie.Need-field-requires Inv-loop μ-loop
+field-requires c κs = packet-field _ _ (c .before .before .before .before .pre) (omega arith) (omega arith)
+
+add-field : tie.Need-add-field Inv-loop μ-loop
+add-field c = search needs
+
+mul-field-2 : tie.Need-mul-field-2 Inv-loop μ-loop
+mul-field-2 c = search needs
+
+shared-slice-read-field-2 : tie.Need-shared-slice-read-field-2 Inv-loop μ-loop
+shared-slice-read-field-2 c = omega (arith, primary-many _ (c .before .before .before .before .before .before .pre))
+
+field-requires-2 : tie.Need-field-requires-2 Inv-loop μ-loop
+field-requires-2 c κs = packet-field _ _ (c .before .before .before .before .before .before .pre) (omega arith) (omega arith)
 
 mul-packets : tie.Need-mul-packets Inv-loop μ-loop
 mul-packets c = search needs
@@ -47,10 +62,15 @@ loop-less c = search needs
 
 loop-again : tie.Need-loop-again Inv-loop μ-loop
 loop-again c =
-    let l = c .before .before .loop in
+    let w : List ℕ = c .before .before .before .before .before .before .before .args .w .now in
+    let l = c .before .before .before .before .before .loop in
     let at : ℕ = packetsAt + 2 * l .i in
-    let e : packetsAt + 2 * (l .i + 1) ≡ at + 2 = omega arith in
-    (omega arith, search needs, rw e (read-more (c .before .before .before .before .args .w .now) (l .packets) (c .packet-at .result) (l .i) at (omega arith) (c .packet-at .ensures) (l .inv .2)))
+    let many : length w ≡ 143 = primary-many _ (c .before .before .before .before .before .before .before .pre) in
+    let e : packetsAt + 2 * (l .i + 1) ≡ at + 2 = omega arith in (
+      omega arith,
+      search needs,
+      rw (c .before .before .field .ensures, c .field2 .ensures, e) (read-more w (l .packets) _ (l .i) at (omega arith) (packet-cons w at (omega arith)) (l .inv .2)),
+    )
 
 returns : tie.Need-returns Inv-loop μ-loop
 returns c =
@@ -67,9 +87,15 @@ packets-of-spec =
     Inv-loop
     μ-loop
     loop-holds
-    mul-packet-at
-    add-packet-at
-    packet-at-requires
+    mul-at
+    add-at
+    mul-field
+    shared-slice-read-field
+    field-requires
+    add-field
+    mul-field-2
+    shared-slice-read-field-2
+    field-requires-2
     mul-packets
     array-set-from-packets
     add-i
