@@ -16,12 +16,12 @@ use settings::MOST_PACKETS;
 use settings::PrimarySettings;
 
 // How many words a state has, and where its packets begin.
-pub const LENGTH: usize = 143;
+pub(crate) const LENGTH: usize = 143;
 
 const PACKETS: usize = 15;
 
 // Whether words are a state.
-pub fn words_ok(w: &[u64]) -> bool
+pub(crate) fn words_ok(w: &[u64]) -> bool
     ensures { λ r. ⌜ r ≡ primaryWordsOk (now (w .entry)) ⌝ }
 {
     if w.len() != LENGTH {
@@ -56,7 +56,7 @@ fn packets_of(w: &[u64]) -> [Packet; 64]
 }
 
 // The state of words.
-pub fn primary_of(w: &[u64]) -> Primary
+pub(crate) fn primary_of(w: &[u64]) -> Primary
     requires { ⌜ primaryWordsOk (now w) ≡ true ⌝ }
     ensures { λ r. ⌜ r ≡ primaryOf (now (w .entry)) ⌝ }
 {
@@ -140,7 +140,7 @@ fn store_packets(w: &mut [u64], packets: [Packet; 64])
 }
 
 // Leaves the words of a state. That they are a state again, the types of its fields give.
-pub fn store(w: &mut [u64], p: Primary)
+pub(crate) fn store(w: &mut [u64], p: Primary)
     requires { ⌜ length (now w) ≡ primaryLength ⌝ }
     ensures { λ _. ⌜ now (w .exit) ≡ primaryWords p ⌝ }
     ensures { λ _. ⌜ primaryWordsOk (now (w .exit)) ≡ true ⌝ }

@@ -15,14 +15,14 @@ use settings::StandbySettings;
 use staging::Slots;
 
 // How many words a state has, and where its block numbers begin and end.
-pub const LENGTH: usize = 79;
+pub(crate) const LENGTH: usize = 79;
 
 const NUMBERS: usize = 11;
 
 const LAST: usize = 75;
 
 // Whether words are a state.
-pub fn words_ok(w: &[u64]) -> bool
+pub(crate) fn words_ok(w: &[u64]) -> bool
     ensures { λ r. ⌜ r ≡ standbyWordsOk (now (w .entry)) ⌝ }
 {
     if w.len() != LENGTH {
@@ -68,7 +68,7 @@ fn numbers_of(w: &[u64]) -> [usize; 64]
 }
 
 // The state of words and of two processor states.
-pub fn standby_of(w: &[u64], pending: &[u8; 64], processor: &[u8; 64]) -> Standby
+pub(crate) fn standby_of(w: &[u64], pending: &[u8; 64], processor: &[u8; 64]) -> Standby
     requires { ⌜ standbyWordsOk (now w) ≡ true ⌝ }
     ensures { λ r. ⌜ r ≡ standbyOf (now (w .entry)) (now (pending .entry)) (now (processor .entry)) ⌝ }
 {
@@ -151,7 +151,7 @@ fn store_numbers(w: &mut [u64], numbers: [usize; 64])
 
 // Leaves the words and the two processor states of a state. That they are a state again, the same, the types of its
 // fields give.
-pub fn store(w: &mut [u64], pending: &mut [u8; 64], processor: &mut [u8; 64], s: Standby)
+pub(crate) fn store(w: &mut [u64], pending: &mut [u8; 64], processor: &mut [u8; 64], s: Standby)
     requires { ⌜ length (now w) ≡ standbyLength ⌝ }
     ensures { λ _. ⌜ now (w .exit) ≡ standbyWords s ⌝ }
     ensures { λ _. ⌜ now (pending .exit) ≡ s .pending ⌝ }

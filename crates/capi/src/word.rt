@@ -8,11 +8,11 @@ use records::CUT_SHORT;
 use rules::Answer;
 
 // The largest number of a field of 32 bits.
-pub const MOST_32: u64 = 4294967295;
+pub(crate) const MOST_32: u64 = 4294967295;
 
 // Whether the words from one place on, up to another, all fit a field of 32 bits. All are looked at, whatever the first
 // ones say: so the compiler can look at several at once.
-pub fn all_fit32(w: &[u64], from: usize, to: usize) -> bool
+pub(crate) fn all_fit32(w: &[u64], from: usize, to: usize) -> bool
     requires { ⌜ (from ≤ to) × (to ≤ length (now w)) ⌝ }
     ensures { λ r. ⌜ r ≡ allFit32 (between from to (now (w .entry))) ⌝ }
 {
@@ -26,20 +26,20 @@ pub fn all_fit32(w: &[u64], from: usize, to: usize) -> bool
 }
 
 // A word that fits a field of 32 bits, as that field.
-pub fn field(n: u64) -> u32
+pub(crate) fn field(n: u64) -> u32
     requires { ⌜ n < 4294967296 ⌝ }
     ensures { λ r. ⌜ r ≡ n ⌝ }
 {
     n as u32
 }
 
-pub fn flag_of(n: u64) -> bool
+pub(crate) fn flag_of(n: u64) -> bool
     ensures { λ r. ⌜ r ≡ flagOf n ⌝ }
 {
     n == 1
 }
 
-pub fn flag_word(b: bool) -> u64
+pub(crate) fn flag_word(b: bool) -> u64
     ensures { λ r. ⌜ r ≡ flagWord b ⌝ }
 {
     if b {
@@ -55,14 +55,14 @@ fn answer(number: u64, used: u64, value: u64) -> u64
 }
 
 // The answer of a call that reads no record.
-pub fn reply_word(number: u64, value: u64) -> u64
+pub(crate) fn reply_word(number: u64, value: u64) -> u64
     ensures { λ r. ⌜ r ≡ replyWord number value ⌝ }
 {
     answer(number, 0, value)
 }
 
 // The answer of a call that reads a record.
-pub fn record_word(a: Answer) -> u64
+pub(crate) fn record_word(a: Answer) -> u64
     ensures { λ r. ⌜ r ≡ recordWord a ⌝ }
 {
     match a {
@@ -73,7 +73,7 @@ pub fn record_word(a: Answer) -> u64
 }
 
 // Copies words in at a place.
-pub fn store_at(w: &mut [u64], at: usize, src: &[u64])
+pub(crate) fn store_at(w: &mut [u64], at: usize, src: &[u64])
     requires { ⌜ at + length (now src) ≤ length (now w) ⌝ }
     ensures { λ _. ⌜ now (w .exit) ≡ put (now (w .entry)) at (now (src .entry)) ⌝ }
 {
