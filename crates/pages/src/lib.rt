@@ -34,10 +34,10 @@ pub fn write_dirty(
     ensures { λ r. ⌜ (now (out .exit) ≡ put (now (out .entry)) 0 (dirtyRecords (now (memory .entry)) (now (dirty .entry)) u epoch m)) × (r ≡ countMarks (now (dirty .entry)) m * recordLength u PAGE) ⌝ }
 {
     let mut at = 0;
-    let mut p = marks::next_marked(dirty, 0, m);
-    while p < m {
-        at = write_one(out, at, memory, u, epoch, p);
-        p = marks::next_marked(dirty, p + 1, m);
+    let mut place = marks::marked_from(dirty, 0, m);
+    while place.page < m {
+        at = write_one(out, at, memory, u, epoch, place.page);
+        place = marks::marked_after(dirty, place, m);
     }
     at
 }
@@ -56,10 +56,10 @@ pub fn install(memory: &mut [u8], staged: &[u8], marks: &[u64], u: usize, m: usi
     requires { ⌜ (length (now memory) ≡ m * u) × (length (now staged) ≡ m * u) ⌝ }
     ensures { λ _. ⌜ now (memory .exit) ≡ installed (now (memory .entry)) (now (staged .entry)) (now (marks .entry)) u m ⌝ }
 {
-    let mut p = marks::next_marked(marks, 0, m);
-    while p < m {
-        install_one(memory, staged, u, p);
-        p = marks::next_marked(marks, p + 1, m);
+    let mut place = marks::marked_from(marks, 0, m);
+    while place.page < m {
+        install_one(memory, staged, u, place.page);
+        place = marks::marked_after(marks, place, m);
     }
 }
 

@@ -1,58 +1,64 @@
-use Prim.Native.Nat.{_-_}
+-- `pages::install` meets its contract. The loop's invariant: the marked pages below the place are installed.
+use Prim.Native.Nat.{_-_, _<_}
 use native.Mathlib.Omega.{arith}
 use Rattle.lists.proofs.PageLaws.{page-end}
+use Rattle.marks.proofs.PlaceLaws.{Behind}
 use Rattle.pages.proofs.InstallLaws.{Installing, installing-start, installing-more, installing-end}
 use Rattle.pages.proofs.install.Statement.{statement}
 use Rattle.pages.proofs.install.Tie as tie
 
 abbrev Inv-loop : tie.InvT-loop
-Inv-loop memory₀ staged marks u m p₀ memory p = Installing memory₀ staged marks u m memory p
+Inv-loop memory₀ staged marks u m place₀ memory place =
+    Installing memory₀ staged marks u m memory (place .page) × (place .page < m → Behind marks (place .page) (place .behind))
 
 abbrev μ-loop : tie.MeasureT-loop
-μ-loop memory₀ staged marks u m p₀ memory p = m - p
+μ-loop memory₀ staged marks u m place₀ memory place = m - place .page
 
-next-marked-requires : tie.Need-next-marked-requires Inv-loop μ-loop
-next-marked-requires c κs = tt
+marked-from-requires : tie.Need-marked-from-requires Inv-loop μ-loop
+marked-from-requires c κs = tt
 
 loop-holds : tie.Need-loop-holds Inv-loop μ-loop
 loop-holds c =
     let a = c .before .before .before .before .args in
-    installing-start (a .memory .now) (a .staged .now) (a .marks .now) (a .u) (a .m) (c .next-marked .result) (c .next-marked .ensures)
+    let first = c .marked-from in
+    (installing-start (a .memory .now) (a .staged .now) (a .marks .now) (a .u) (a .m) (first .result .page) (first .ensures .0), first .ensures .1)
 
 install-one-requires : tie.Need-install-one-requires Inv-loop μ-loop
 install-one-requires c κs =
-    let start = c .before .before .before .before .before .before .before in
-    let at = c .before .before .loop in
-    let e = page-end (at .p) (start .args .m) (start .args .u) (c .before .loop-test .taken) in
-    (omega (arith, e, at .inv .size, start .pre .0), omega (arith, e, start .pre .1))
+    let start = c .before .before .before .before .before .before .before .before in
+    let at = c .before .before .before .loop in
+    let e = page-end (at .place .page) (start .args .m) (start .args .u) (c .before .if1 .taken) in
+    (omega (arith, e, at .inv .0 .size, start .pre .0), omega (arith, e, start .pre .1))
 
-add-next-marked : tie.Need-add-next-marked Inv-loop μ-loop
-add-next-marked c = omega arith
-
-next-marked-requires-2 : tie.Need-next-marked-requires-2 Inv-loop μ-loop
-next-marked-requires-2 c κs = tt
+marked-after-requires : tie.Need-marked-after-requires Inv-loop μ-loop
+marked-after-requires c κs =
+    let l = c .before .before .before .before .if1 .taken in
+    (l, c .before .before .before .before .before .before .loop .inv .1 l)
 
 loop-less : tie.Need-loop-less Inv-loop μ-loop
-loop-less c = omega (arith, c .next-marked2 .ensures .up)
+loop-less c = omega (arith, c .marked-after .ensures .0 .up)
 
 loop-again : tie.Need-loop-again Inv-loop μ-loop
 loop-again c =
-    let start = c .before .before .before .before .before .before .before .before .before .before .before in
+    let start = c .before .before .before .before .before .before .before .before .before .before .before .before in
     let a = start .args in
-    let at = c .before .before .before .before .before .before .loop in
-    rw (c .before .before .before .install-one .ensures)
-    (installing-more (a .memory .now) (a .staged .now) (a .marks .now) (a .u) (a .m) (start .pre .0) (start .pre .1) (at .memory) (at .p) (c .next-marked2 .result)
-    (at .inv) (c .before .before .before .before .before .loop-test .taken) (c .next-marked2 .ensures))
+    let at = c .before .before .before .before .before .before .before .loop in
+    let next = c .marked-after in
+    rw (c .before .before .before .install-one .ensures) (
+      installing-more (a .memory .now) (a .staged .now) (a .marks .now) (a .u) (a .m) (start .pre .0) (start .pre .1) (at .memory) (at .place .page) (next .result .page)
+          (at .inv .0) (c .before .before .before .before .before .if1 .taken) (next .ensures .0),
+      next .ensures .1,
+    )
 
 same-length : tie.Need-same-length Inv-loop μ-loop
-same-length c = c .before .loop .inv .size
+same-length c = c .before .before .loop .inv .0 .size
 
 returns : tie.Need-returns Inv-loop μ-loop
 returns c =
-    let start = c .before .before .before .before .before .before in
+    let start = c .before .before .before .before .before .before .before in
     let a = start .args in
-    let at = c .before .loop in
-    installing-end (a .memory .now) (a .staged .now) (a .marks .now) (a .u) (a .m) (start .pre .0) (start .pre .1) (at .memory) (at .p) (at .inv) (omega arith)
+    let at = c .before .before .loop in
+    installing-end (a .memory .now) (a .staged .now) (a .marks .now) (a .u) (a .m) (start .pre .0) (start .pre .1) (at .memory) (at .place .page) (at .inv .0) (omega arith)
 
 pub install-spec : {M : Type 1} → statement M
 install-spec =
@@ -60,11 +66,10 @@ install-spec =
     (tie.spec
     Inv-loop
     μ-loop
-    next-marked-requires
+    marked-from-requires
     loop-holds
     install-one-requires
-    add-next-marked
-    next-marked-requires-2
+    marked-after-requires
     loop-less
     loop-again
     same-length
