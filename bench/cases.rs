@@ -1,5 +1,7 @@
 //! The cases, and what they share.
 
+#[path = "mark_cases.rs"]
+mod mark;
 #[path = "primary_cases.rs"]
 mod primary;
 #[path = "standby_cases.rs"]
@@ -8,7 +10,8 @@ mod standby;
 mod tick;
 
 use crate::model;
-use crate::{Case, Interface};
+use crate::{Call, Case, Interface};
+use mark::Marks;
 use primary::{Checkpoint, Drain, Packets, ROUNDS};
 use standby::{Commit, Flush, PageReads};
 use tick::{PrimaryTicks, StandbyTicks};
@@ -89,4 +92,15 @@ pub fn interface(mut each: impl FnMut(&mut (dyn Interface + 'static))) {
         each(&mut PageReads::new(u));
     }
     each(&mut StandbyTicks::new());
+}
+
+/// Every case of the marks in turn.
+pub fn parts(mut each: impl FnMut(&mut (dyn Call + 'static))) {
+    for part in [Marks::count, Marks::walk] {
+        for m in [64, 4096] {
+            for step in [None, Some(m), Some(8), Some(1)] {
+                each(&mut part(m, step));
+            }
+        }
+    }
 }

@@ -77,6 +77,8 @@ mod foreign {
             marks: *mut u64,
             marks_len: usize,
         ) -> u64;
+        pub fn bench_count(marks: *const u64, marks_len: usize, m: usize) -> u64;
+        pub fn bench_walk(marks: *const u64, marks_len: usize, m: usize) -> u64;
         pub fn base_copy(dst: *mut u8, src: *const u8, n: usize);
         pub fn base_gather(dst: *mut u8, src: *const u8, u: usize, m: usize, step: usize, gap: usize);
         pub fn base_place(dst: *mut u8, src: *const u8, u: usize, m: usize, step: usize);
@@ -172,6 +174,15 @@ pub fn flush(u: usize, staged: usize, n: usize, slots: &mut [u8], disk: &mut [u8
 /// On a standby with 64 slots.
 pub fn standby_ticks(u: usize, m: usize, rounds: usize, marks: &mut [u64]) -> u64 {
     unsafe { foreign::bench_standby_ticks(u, m, 64, rounds, marks.as_mut_ptr(), marks.len()) }
+}
+
+pub fn count(marks: &[u64], m: usize) -> u64 {
+    unsafe { foreign::bench_count(marks.as_ptr(), marks.len(), m) }
+}
+
+/// How many marked pages the walk passes.
+pub fn walk(marks: &[u64], m: usize) -> u64 {
+    unsafe { foreign::bench_walk(marks.as_ptr(), marks.len(), m) }
 }
 
 pub fn base_copy(dst: &mut [u8], src: &[u8]) {

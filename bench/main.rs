@@ -1,5 +1,6 @@
 //! Times the verified calls of libbench.a beside memcpy of the same bytes and beside a plain Rust writing of the
-//! same rules, and the calls of libcapi.a beside both, and prints a table of each.
+//! same rules, the calls of libcapi.a beside both, and two parts of the calls beside the plain writing, and prints a
+//! table of each.
 //!
 //! The compared things run by turns, in short batches. A time is the median of its batches, in processor time of
 //! this thread. What has to be made anew before each call is timed by itself and taken off.
@@ -99,6 +100,16 @@ const TIMED_IN_C: [Timed<dyn Interface>; 3] = [
     },
 ];
 
+/// What is timed of a part of a call.
+const TIMED_PARTS: [Timed<dyn Call>; 2] = [
+    |c| {
+        black_box(c.ours());
+    },
+    |c| {
+        black_box(c.model());
+    },
+];
+
 /// Nanoseconds of one call, of a batch of them.
 fn batch<C: ?Sized>(calls: u64, f: Timed<C>, case: &mut C) -> f64 {
     let began = clock::now();
@@ -189,6 +200,15 @@ fn added(case: &mut (dyn Interface + 'static)) -> Added {
     Added { name, ns }
 }
 
+/// A part of a call has no limit of its own.
+fn part(case: &mut (dyn Call + 'static)) {
+    let name = case.name();
+    assert_eq!(case.model(), case.wanted(), "the model's part: {name}");
+    assert_eq!(case.ours(), case.wanted(), "the verified part: {name}");
+    let [ours, model] = times(TIMED_PARTS, case);
+    println!("| {name} | {ours:.0} | {model:.0} | {:.2} |", ours / model);
+}
+
 /// Says of a limit which cases pass it.
 fn limit<'a>(what: &str, over: impl Iterator<Item = &'a String>) {
     let names: Vec<&str> = over.map(String::as_str).collect();
@@ -249,4 +269,13 @@ fn main() {
         }
     });
     limits_in_c(&rows);
+
+    println!();
+    println!("| part | ns | model ns | to model |");
+    println!("|---|---:|---:|---:|");
+    cases::parts(|case| {
+        if wanted(case.name()) {
+            part(case);
+        }
+    });
 }

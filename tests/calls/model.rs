@@ -217,12 +217,12 @@ fn clear_marks(marks: &mut [u64], m: u64) {
     }
 }
 
-fn count_marked(marks: &[u64], m: u64) -> u64 {
+pub fn count_marked(marks: &[u64], m: u64) -> u64 {
     marks.iter().enumerate().map(|(at, word)| (word & page_bits(m, at)).count_ones() as u64).sum()
 }
 
 /// Calls `each` with every marked page below M, in rising order.
-fn for_marked(marks: &[u64], m: u64, mut each: impl FnMut(usize)) {
+pub fn for_marked(marks: &[u64], m: u64, mut each: impl FnMut(usize)) {
     for (at, word) in marks.iter().enumerate() {
         let mut left = word & page_bits(m, at);
         while left != 0 {

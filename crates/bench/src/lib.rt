@@ -1,5 +1,9 @@
-// Calls of the two ends on states that are made from numbers, exported so that a program in another language can time them.
+// Calls of the two ends on states that are made from numbers, and the count and the walk of the marks, exported so that
+// a program in another language can time them.
 use detector::Detector;
+use marks::count;
+use marks::marked_after;
+use marks::marked_from;
 use primary::checkpoint::checkpoint;
 use primary::packets::packet;
 use primary::packets::take;
@@ -328,4 +332,22 @@ pub extern "C" fn bench_standby_ticks(
         i += 1;
     }
     last
+}
+
+// How many of the first m pages are marked.
+#[no_mangle]
+pub extern "C" fn bench_count(marks: &[u64], m: usize) -> u64 {
+    count(marks, m) as u64
+}
+
+// The walk from marked page to marked page: how many of the first m pages it passes.
+#[no_mangle]
+pub extern "C" fn bench_walk(marks: &[u64], m: usize) -> u64 {
+    let mut passed = 0;
+    let mut place = marked_from(marks, 0, m);
+    while place.page < m {
+        passed += 1;
+        place = marked_after(marks, place, m);
+    }
+    passed
 }
