@@ -10,6 +10,10 @@ use std::ops::Range;
 /// What differs, in words.
 pub type Check = Result<(), String>;
 
+pub fn demand(holds: bool, what: &str) -> Check {
+    if holds { Ok(()) } else { Err(what.to_string()) }
+}
+
 /// Everything: the answer, and every word and byte that the call was given, with the guards.
 pub fn compare(which: usize, l: &Lent, answer: Answer, reply: &Reply, wanted: &View) -> Check {
     compare_answer(answer, reply)?;

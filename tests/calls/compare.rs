@@ -16,6 +16,7 @@ mod items;
 mod large;
 mod lent;
 mod lines;
+mod marks;
 mod model;
 mod names;
 mod no_state;
@@ -60,7 +61,8 @@ const TESTS: [Test; 14] = [
 const LARGE: &str = "memory of every size";
 const CUTS: &str = "runs cut at every place";
 const LINES: &str = "lines through the program";
-const ON_TOP: [&str; 3] = [LARGE, CUTS, LINES];
+const MARKS: &str = "marks about the ends of words";
+const ON_TOP: [&str; 4] = [LARGE, CUTS, LINES, MARKS];
 
 fn until(sink: &mut Sink, end: u64, mut one: impl FnMut(&mut Sink)) {
     while sink.calls < end {
@@ -203,7 +205,8 @@ fn main() {
         noted(name, &mut sink, |sink| match name {
             LARGE => demanded(large::run(&r, sink)),
             CUTS => cut_runs(&r, sink, calls, seed),
-            _ => demanded(lines::run(&r, sink, &program)),
+            LINES => demanded(lines::run(&r, sink, &program)),
+            _ => demanded(marks::run(&r, sink)),
         });
     }
     // that every number comes is a test of all kinds together

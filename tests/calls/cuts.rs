@@ -3,6 +3,7 @@
 //! Every call is made by the library too, and all that it gives is compared with the model's; so what is checked here
 //! on the model's world is checked of the library's.
 use crate::arguments::{fresh_world, start_args};
+use crate::checker::{demand, Check};
 use crate::generate::{ending_mood, next_step, perform, lively_mood, Step};
 use crate::items::code;
 use crate::model::*;
@@ -29,13 +30,6 @@ pub struct Tally {
 struct Both {
     world: World,
     plain: Plain,
-}
-
-/// What is wrong, in words.
-type Check = Result<(), String>;
-
-fn demand(holds: bool, what: &str) -> Check {
-    if holds { Ok(()) } else { Err(what.to_string()) }
 }
 
 fn is_primary_call(which: usize) -> bool {

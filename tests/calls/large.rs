@@ -6,7 +6,7 @@
 use crate::arguments::{arguments, fresh_world, start_args};
 use crate::beyond;
 use crate::call::call;
-use crate::checker::{compare_answer, compare_item, same_bytes, Check};
+use crate::checker::{compare_answer, compare_item, demand, same_bytes, Check};
 use crate::items::{code, given, Item};
 use crate::lent::Lent;
 use crate::model::*;
@@ -66,10 +66,6 @@ fn one(r: &Random, sink: &mut Sink, settings: Settings) -> Check {
     pair.take_over()?;
     pair.end_alone()?;
     pair.whole()
-}
-
-fn demand(holds: bool, what: &str) -> Check {
-    if holds { Ok(()) } else { Err(what.to_string()) }
 }
 
 impl Pair<'_> {
