@@ -230,7 +230,7 @@ static uint32_t take_over(struct standby *s)
                     "activation"); /* a real box now syncs its disk and the area */
 }
 
-/* Takes over after T ticks in a row without a COMMIT. */
+/* Takes over after T ticks in a row without an accepted record. */
 uint32_t run_standby(struct standby *s)
 {
     int64_t disk = milliseconds(), tick = disk; /* when each was last */

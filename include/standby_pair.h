@@ -2,8 +2,9 @@
  * The two ends of a standby pair, as a host calls them in libcapi.a.
  *
  * The primary end holds the guest's memory and disk and makes checkpoints of them; the standby end
- * receives these and takes over. Every call is proved to do what document 01 says, for any words,
- * lengths and bytes, under what this header asks of the caller:
+ * receives these and takes over. Every call is proved to do what document 01 says, with the jobs of
+ * document 02 that have landed, for any words, lengths and bytes, under what this header asks of
+ * the caller:
  *
  * - No pointer is ever null: for a length of 0, pass any valid pointer.
  * - Buffers are lent for the call only, and none is kept.
@@ -312,8 +313,10 @@ uint64_t primary_take(uint64_t *state, size_t state_len, uint8_t *held, size_t h
 
 /*
  * Tick: counts while a closed epoch is unacknowledged; at T the primary is alone (PRIMARY_ALONE),
- * and what waits in the stream is dropped. Alone it lets packets go without a standby: see that the
- * standby cannot take over any more before you take them.
+ * and what waits in the stream is dropped. So it is where T of these ticks pass with no ACK while a
+ * checkpoint is under way, though the standby still receives: make them long enough for the largest
+ * checkpoint. Alone it lets packets go without a standby: see that the standby cannot take over any
+ * more before you take them.
  * Gives 1. Value 0. Changes: state.
  */
 uint64_t primary_tick(uint64_t *state, size_t state_len);
@@ -352,9 +355,9 @@ uint64_t standby_flush(uint64_t *state, size_t state_len, uint8_t *pending, uint
                        size_t disk_len, size_t n);
 
 /*
- * Tick: counts while receiving, and the count returns to 0 at each accepted COMMIT. At T the
- * standby takes over (MODE_TAKING_OVER): what it has of a checkpoint not wholly received is
- * dropped.
+ * Tick: counts while receiving, and the count returns to 0 at each record that standby_read
+ * accepts, of whichever kind: at T ticks in a row without one the standby takes over
+ * (MODE_TAKING_OVER), and what it has of a checkpoint not wholly received is dropped.
  * Gives 1. Value 0. Changes: state, and at T staged_marks.
  */
 uint64_t standby_tick(uint64_t *state, size_t state_len, uint8_t *pending, uint8_t *processor,

@@ -1,4 +1,5 @@
-//! A second writing of the two ends, start and the disk choice, made from document 01 alone.
+//! A second writing of the two ends, start and the disk choice, made from document 01 and the jobs of
+//! document 02 that have landed alone.
 //!
 //! Every call works in place on the state and on the lent buffers and answers with a number, a value and
 //! the bytes used. A refused call changes nothing. Nothing here is shared with the verified program.

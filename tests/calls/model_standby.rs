@@ -32,7 +32,11 @@ pub fn read(s: &mut Standby, lent: &mut Staging, data: &[u8], reply: &mut [u8]) 
         _ => Err(CUT_SHORT),
     };
     match answer {
-        Ok((kind, used)) => Reply { number: 0, value: kind, used },
+        Ok((kind, used)) => {
+            // document 02, Job 1: "at each accepted record of kinds 1 to 4"
+            s.count = 0;
+            Reply { number: 0, value: kind, used }
+        }
         Err(number) => refused(number),
     }
 }
@@ -125,7 +129,6 @@ fn read_commit(s: &mut Standby, lent: &mut Staging, epoch: u32, counts: (u64, u6
     s.due = s.staged;
     s.forget_epoch();
     s.received = epoch;
-    s.count = 0;
     put_epoch(reply, ACK, epoch);
     Ok((COMMIT, 12))
 }

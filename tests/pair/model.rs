@@ -1,6 +1,7 @@
-//! A second, plain model of the program `pair`, written from document 01 alone: both ends at
-//! `pair`'s settings, the link between them, and the commands. It is made for reading, not for
-//! speed, and shares nothing with the program that it is compared with.
+//! A second, plain model of the program `pair`, written from document 01 and the jobs of document
+//! 02 that have landed alone: both ends at `pair`'s settings, the link between them, and the
+//! commands. It is made for reading, not for speed, and shares nothing with the program that it is
+//! compared with.
 //!
 //! What 01 has and `pair` has no command for is left out: the primary's tick (so the primary is
 //! never alone), guest writes at an active standby, the disk choice. Lent lengths are always

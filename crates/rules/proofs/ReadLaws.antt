@@ -1,6 +1,7 @@
 -- What a read keeps: a state stays in range, and reached, whatever record is judged, and what is cut short or refused
 -- changes nothing. Assumes nothing.
 use mathlib.Core.Path.{_≡_, refl, _∙_, ap}
+use mathlib.Core.Bool.{true}
 use mathlib.Core.List.{List}
 use Prim.Native.Nat.{ℕ, _+_, _-_, _≤_, _<_}
 use native.Mathlib.Omega.{arith}
@@ -23,8 +24,7 @@ use Rattle.rules.specs.Reply.{numberOf, valueOf, usedOf, answerOf}
 use Rattle.rules.specs.Judge.{judged}
 use Rattle.rules.specs.Read.{bytesAt, sealedState, installedState, readState, memoryAfter, stagedPagesAfter, stagedMarksAfter, stagedBlocksAfter, replyAfter, readReply}
 use Rattle.rules.specs.Reached.{StandbyInRange, StandbyReached}
-use Rattle.rules.proofs.DetectorFacts.{detector-of, reset-facts}
-use Rattle.rules.proofs.StandbyFacts.{standby-tests, standby-tested, standby-facts, in-range-slots, reached-slots}
+use Rattle.rules.proofs.StandbyFacts.{standby-tests, standby-tested, standby-facts, in-range-slots, reached-slots, resetCount, reset-in-range, reset-reached}
 use Rattle.rules.proofs.ReplyLaws.{answer-found}
 use Rattle.rules.proofs.JudgeLaws.{PageTests, BlockTests, JudgedFacts, judged-cases, judged-facts}
 
@@ -63,19 +63,18 @@ module _ (s : Standby) (h : StandbyInRange s) where
         numbers = h .numbers;
       }
 
-  pub commit-in-range : (epoch : ℕ) → StandbyInRange (withDetector (installedState (sealedState s) epoch) (reset (s .detector)))
+  pub commit-in-range : (epoch : ℕ) → StandbyInRange (installedState (sealedState s) epoch)
   unfolding allDue
   commit-in-range epoch =
       let t = standby-tests s (h .inRange) in
-      let d = reset-facts (s .detector) (isReceiving (s .mode)) (standby-facts s (h .inRange) .detector) in
       record {
-        inRange = standby-tested (withDetector (installedState (sealedState s) epoch) (reset (s .detector)))
+        inRange = standby-tested (installedState (sealedState s) epoch)
             (record {
               settings-ok = t .settings-ok;
               slots-ok = slots-all-due (s .slots) (s .settings .s) (s .settings .d) (t .slots-ok);
               blocks-high = omega arith;
               pages-high = omega arith;
-              detector-ok = detector-of (reset (s .detector)) (isReceiving (s .mode)) d;
+              detector-ok = t .detector-ok;
             });
         numbers = h .numbers;
       }
@@ -111,7 +110,7 @@ module _ (s : Standby) (h : StandbyReached s) where
         notDue = h .notDue;
       }
 
-  pub commit-reached : (epoch : ℕ) → StandbyReached (withDetector (installedState (sealedState s) epoch) (reset (s .detector)))
+  pub commit-reached : (epoch : ℕ) → StandbyReached (installedState (sealedState s) epoch)
   unfolding allDue
   commit-reached epoch =
       record {
@@ -123,18 +122,18 @@ module _ (s : Standby) (h : StandbyReached s) where
         notDue = omega arith;
       }
 
--- ---- a fact of the state is kept by a read, where each accepted record keeps it
-module _ (P : Standby → Type 0) (s : Standby) (h : P s)
+-- ---- a fact of the state is kept by a read, where each accepted record keeps it, and so does the count returned to 0
+module _ (P : Standby → Type 0) (resets : (s : Standby) → P s → P (resetCount s)) (s : Standby) (h : P s)
     (page : (e p : ℕ) → PageTests s e p → P (withPagesNext s (s .pages + 1) (p + 1)))
     (block : (e n : ℕ) → BlockTests s e n → P (withSlotsBlocks s (withBlock (s .slots) n) (s .blocks + 1)))
     (state : (processor : List ℕ) → length processor ≡ processorBytes → P (withPendingSeen s processor))
-    (commit : (epoch : ℕ) → P (withDetector (installedState (sealedState s) epoch) (reset (s .detector))))
+    (commit : (epoch : ℕ) → P (installedState (sealedState s) epoch))
     (l : ReadLent) (bytes : List ℕ) where
   record-kept : (r : Record) → JudgedFacts s l bytes r → P (readState s bytes r)
-  record-kept (Page e p c) f = page e p (f .tests)
-  record-kept (Block e n c) f = block e n (f .tests)
-  record-kept (State e c) f = state (bytesAt c bytes) (bytes-length c bytes processorBytes (f .field .span) (f .field .inside))
-  record-kept (Commit e p b c) f = commit e
+  record-kept (Page e p c) f = resets _ (page e p (f .tests))
+  record-kept (Block e n c) f = resets _ (block e n (f .tests))
+  record-kept (State e c) f = resets _ (state (bytesAt c bytes) (bytes-length c bytes processorBytes (f .field .span) (f .field .inside)))
+  record-kept (Commit e p b c) f = resets _ (commit e)
   record-kept (Ack e c) f = absurd f
   record-kept Short f = h
   record-kept (Refused n) f = h
@@ -145,10 +144,34 @@ module _ (P : Standby → Type 0) (s : Standby) (h : P s)
 
 module _ (s : Standby) (l : ReadLent) (bytes : List ℕ) where
   pub read-in-range : StandbyInRange s → StandbyInRange (readReply s l bytes .state)
-  read-in-range h = read-kept StandbyInRange s h (page-in-range s h) (block-in-range s h) (λ processor size. state-in-range s h processor) (commit-in-range s h) l bytes
+  read-in-range h = read-kept StandbyInRange reset-in-range s h (page-in-range s h) (block-in-range s h) (λ processor size. state-in-range s h processor) (commit-in-range s h) l bytes
 
   pub read-reached : StandbyReached s → StandbyReached (readReply s l bytes .state)
-  read-reached h = read-kept StandbyReached s h (page-reached s h) (block-reached s h) (state-reached s h) (commit-reached s h) l bytes
+  read-reached h = read-kept StandbyReached reset-reached s h (page-reached s h) (block-reached s h) (state-reached s h) (commit-reached s h) l bytes
+
+  pub read-mode : readReply s l bytes .state .mode ≡ s .mode
+  read-mode = read-kept (λ (x : Standby). x .mode ≡ s .mode) (λ x e. e) s refl (λ e p f. refl) (λ e n f. refl) (λ processor size. refl) (λ epoch. refl) l bytes
+
+-- ---- "returns to 0 at each accepted record of kinds 1 to 4": of every state, whatever was lent
+module _ (s : Standby) (l : ReadLent) (bytes : List ℕ) where
+  pub record-resets : numberOf (readReply s l bytes .answer) ≡ 0 → readReply s l bytes .state .detector ≡ reset (s .detector)
+  unfolding readReply
+  record-resets = go (judged s l bytes) (judged-facts s l bytes)
+    where
+      go : (r : Record) → JudgedFacts s l bytes r → numberOf (answerOf r) ≡ 0 → readState s bytes r .detector ≡ reset (s .detector)
+      go (Page e p c) f z = refl
+      go (Block e n c) f z = refl
+      go (State e c) f z = refl
+      go (Commit e p b c) f z = refl
+      go (Ack e c) f z = absurd f
+      go Short f z = absurd (omega arith)
+      go (Refused n) f z = absurd (omega arith)
+
+  -- and only a standby that receives accepts one
+  pub read-receives : numberOf (readReply s l bytes .answer) ≡ 0 → isReceiving (s .mode) ≡ true
+  unfolding readReply
+  read-receives =
+      judged-cases s l bytes (λ (r : Record). numberOf (answerOf r) ≡ 0 → isReceiving (s .mode) ≡ true) (λ n h z. absurd (omega arith)) (λ ready z _. ready .receiving)
 
 -- ---- after the last epoch there is no next one: no record is accepted
 module _ (s : Standby) (l : ReadLent) (bytes : List ℕ) (low : (j : ℕ) → getD bytes j 0 < 256) where

@@ -1,4 +1,5 @@
--- What the range of the standby's state says, by name, and back; its staged blocks replaced. Assumes nothing.
+-- What the range of the standby's state says, by name, and back; its staged blocks, or its detector and mode, replaced.
+-- Assumes nothing.
 use mathlib.Core.Path.{_≡_}
 use mathlib.Core.Bool.{true}
 use Prim.Native.Nat.{ℕ, _-_, _≤_}
@@ -12,10 +13,13 @@ use Rattle.staging.specs.declared.Slots.{Slots}
 use Rattle.staging.specs.Slot.{slotsOk}
 use Rattle.staging.proofs.SlotLaws.{SlotsTests, slots-tests}
 use Rattle.rules.specs.declared.Standby.{Standby}
+use Rattle.detector.specs.declared.Detector.{Detector}
 use Rattle.detector.specs.Range.{detectorOk}
-use Rattle.rules.specs.StandbyState.{isReceiving, standbyOk, withSlotsBlocks}
+use Rattle.detector.specs.Tick.{reset}
+use Rattle.rules.specs.declared.Mode.{Mode}
+use Rattle.rules.specs.StandbyState.{isReceiving, standbyOk, withSlotsBlocks, withDetector, withMode}
 use Rattle.rules.specs.Reached.{StandbyInRange, StandbyReached}
-use Rattle.rules.proofs.DetectorFacts.{DetectorFacts, detector-facts}
+use Rattle.rules.proofs.DetectorFacts.{DetectorFacts, detector-facts, detector-of, reset-facts}
 
 -- ---- test by test
 pub record StandbyTests (s : Standby) : Type 0 where
@@ -92,3 +96,39 @@ module _ (s : Standby) (slots : Slots) (blocks : ℕ) where
         nextBelow = r .nextBelow;
         notDue = e;
       }
+
+-- ---- the detector and the mode replaced
+module _ (s : Standby) (d : Detector) (mode : Mode) (ok : detectorOk d (isReceiving mode) ≡ true) where
+  pub watched-in-range : StandbyInRange s → StandbyInRange (withMode (withDetector s d) mode)
+  watched-in-range r =
+      let t = standby-tests s (r .inRange) in
+      record {
+        inRange = standby-tested (withMode (withDetector s d) mode)
+            (record { settings-ok = t .settings-ok; slots-ok = t .slots-ok; blocks-high = t .blocks-high; pages-high = t .pages-high; detector-ok = ok });
+        numbers = r .numbers;
+      }
+
+  pub watched-reached : StandbyReached s → StandbyReached (withMode (withDetector s d) mode)
+  watched-reached r =
+      record {
+        range = watched-in-range (r .range);
+        stagedProcessor = r .stagedProcessor;
+        processor = r .processor;
+        pagesBelow = r .pagesBelow;
+        nextBelow = r .nextBelow;
+        notDue = r .notDue;
+      }
+
+-- the count returned to 0
+abbrev pub resetCount : Standby → Standby
+resetCount s = withDetector s (reset (s .detector))
+
+module _ (s : Standby) where
+  reset-ok : StandbyInRange s → detectorOk (reset (s .detector)) (isReceiving (s .mode)) ≡ true
+  reset-ok r = detector-of _ _ (reset-facts (s .detector) (isReceiving (s .mode)) (standby-facts s (r .inRange) .detector))
+
+  pub reset-in-range : StandbyInRange s → StandbyInRange (resetCount s)
+  reset-in-range r = watched-in-range s (reset (s .detector)) (s .mode) (reset-ok r) r
+
+  pub reset-reached : StandbyReached s → StandbyReached (resetCount s)
+  reset-reached r = watched-reached s (reset (s .detector)) (s .mode) (reset-ok (r .range)) r

@@ -22,7 +22,7 @@ use Rattle.rules.specs.StandbyState.{standbyOk, isReceiving, isTakingOve
 use Rattle.rules.specs.Takeover.{standbyTickTests, activationTests, activeWriteTests, standbyTickRefusal, dropped, takesOver, standbyTickState, activationRefusal, activeMemoryWriteRefusal, activeDiskWriteRefusal}
 use Rattle.rules.specs.Reached.{StandbyInRange, StandbyReached}
 use Rattle.rules.proofs.DetectorFacts.{detector-of, ticked-facts}
-use Rattle.rules.proofs.StandbyFacts.{standby-tests, standby-tested, standby-facts}
+use Rattle.rules.proofs.StandbyFacts.{standby-tests, standby-tested, standby-facts, watched-in-range, watched-reached}
 
 -- ---- acceptance: what it says, and of the calls of a takeover that it follows from that
 pub record TickAccepted (s : Standby) (marks : ℕ) : Type 0 where
@@ -122,28 +122,6 @@ module _ (s : Standby) where
   tick-takes-over e x = rw (e, x) (refl, refl)
 
 -- ---- what a tick and an activation keep
-
--- another detector and mode
-module _ (s : Standby) (d : Detector) (mode : Mode) (ok : detectorOk d (isReceiving mode) ≡ true) where
-  watched-in-range : StandbyInRange s → StandbyInRange (withMode (withDetector s d) mode)
-  watched-in-range r =
-      let t = standby-tests s (r .inRange) in
-      record {
-        inRange = standby-tested (withMode (withDetector s d) mode)
-            (record { settings-ok = t .settings-ok; slots-ok = t .slots-ok; blocks-high = t .blocks-high; pages-high = t .pages-high; detector-ok = ok });
-        numbers = r .numbers;
-      }
-
-  watched-reached : StandbyReached s → StandbyReached (withMode (withDetector s d) mode)
-  watched-reached r =
-      record {
-        range = watched-in-range (r .range);
-        stagedProcessor = r .stagedProcessor;
-        processor = r .processor;
-        pagesBelow = r .pagesBelow;
-        nextBelow = r .nextBelow;
-        notDue = r .notDue;
-      }
 
 module _ (s : Standby) where
   only-due-counts : (onlyDue (s .slots) .staged ≡ s .slots .due) × (onlyDue (s .slots) .due ≡ s .slots .due)

@@ -1,16 +1,13 @@
 -- What a read at the standby leaves, by the record that was judged. Assumes nothing.
 use Prim.Native.Nat.{ℕ, _+_, _-_}
-use mathlib.Core.Bool.{Bool, cond}
+use mathlib.Core.Bool.{Bool, true, false, cond}
 use mathlib.Core.List.{List}
-use lib.Dec.{eqb}
 use lib.ListN.{length}
 use Rattle.lists.specs.Part.{part, put}
 use Rattle.lists.specs.Page.{withPage}
 use Rattle.records.specs.declared.Cursor.{Cursor}
 use Rattle.records.specs.declared.Record.{Record}
 use Rattle.records.specs.Cases.{onPage, onBlock, onCommit, byKind}
-use Rattle.records.specs.Kind.{COMMIT}
-use Rattle.records.specs.Read.{kindOf}
 use Rattle.records.specs.Write.{ackRecord}
 use Rattle.marks.specs.Mark.{withMark, cleared}
 use Rattle.pages.specs.Dirty.{installed}
@@ -28,12 +25,13 @@ use Rattle.rules.specs.Judge.{judged}
 abbrev pub bytesAt : Cursor → List ℕ → List ℕ
 bytesAt c bytes = part (c .start) (c .end - c .start) bytes
 
--- "returns to 0 at each accepted COMMIT": which kinds reset the count
-abbrev pub resetsCount : ℕ → Bool
-resetsCount kind = eqb kind COMMIT
+-- "returns to 0 at each accepted record of kinds 1 to 4" (document 02, Job 1): by the record's case, not
+-- by its kind's number
+abbrev pub resetsCount : Record → Bool
+resetsCount r = byKind r (λ e p c. true) (λ e n c. true) (λ e c. true) (λ e p b c. true) false
 
-abbrev pub detectorAfter : ℕ → Detector → Detector
-detectorAfter kind d = cond (resetsCount kind) (reset d) d
+abbrev pub detectorAfter : Record → Detector → Detector
+detectorAfter r d = cond (resetsCount r) (reset d) d
 
 -- a checkpoint is sealed: the next record belongs to the next epoch
 abbrev pub sealedState : Standby → Standby
@@ -54,7 +52,7 @@ afterRecord s bytes r =
     s
 
 abbrev pub readState : Standby → List ℕ → Record → Standby
-readState s bytes r = withDetector (afterRecord s bytes r) (detectorAfter (kindOf r) (s .detector))
+readState s bytes r = afterRecord (withDetector s (detectorAfter r (s .detector))) bytes r
 
 -- each lent buffer: "A record cut short or refused .. changes nothing"
 abbrev pub memoryAfter : Standby → List ℕ → List ℕ → List ℕ → Record → List ℕ

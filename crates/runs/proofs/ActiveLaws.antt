@@ -3,17 +3,13 @@ use Prim.Native.Nat.{ℕ}
 use mathlib.Core.Path.{_≡_, refl, sym, ap, _∙_, subst}
 use mathlib.Core.Bool.{true, true≢false}
 use mathlib.Core.List.{List, [], _∷_, _++_, append-nil}
-use native.Mathlib.Omega.{arith}
 use lib.Seq.{append-snoc}
-use Rattle.records.specs.declared.Record.{Record}
 use Rattle.settings.specs.declared.Settings.{Settings}
-use Rattle.rules.specs.Reply.{numberOf, answerOf}
-use Rattle.rules.specs.Read.{readReply}
 use Rattle.rules.specs.World.{Processor, Call, Buffers, startNumber}
 use Rattle.rules.specs.World as call
 use Rattle.rules.specs.Step.{step}
 use Rattle.rules.proofs.ReplyLaws.{pick-cases}
-use Rattle.rules.proofs.JudgeLaws.{judged-cases}
+use Rattle.rules.proofs.ReadLaws.{read-receives}
 use Rattle.runs.specs.Plain.{Plain, plainAccepted, plainStep}
 use Rattle.runs.specs.Run.{Both, steps, runCall}
 use Rattle.runs.specs.Demand3.{active}
@@ -24,10 +20,8 @@ use Rattle.runs.proofs.Corollaries.{whole, after-call}
 
 -- an active standby accepts no record
 read-refused : (b : Both) (n : ℕ) (reply : List ℕ) → active (b .world) ≡ true → Accepted b (call.read n reply) → ⊥
-unfolding step readReply
-read-refused b n reply a =
-    judged-cases _ _ _ (λ (r : Record). numberOf (answerOf r) ≡ 0 → ⊥) (λ k h e. omega arith)
-    (λ ready z e. true≢false (sym a ∙ receiving-not-active (b .world .standby .state .mode) (ready .receiving)))
+unfolding step
+read-refused b n reply a e = true≢false (sym a ∙ receiving-not-active (b .world .standby .state .mode) (read-receives _ _ _ e))
 
 -- r and the activation stay
 record Fixed (p q : Plain) : Type 0 where

@@ -19,11 +19,11 @@ use Rattle.pages.specs.Dirty.{installed}
 use Rattle.pages.proofs.InstallLaws.{length-installed}
 use Rattle.staging.specs.SlotList.{slotList, storeAll}
 use Rattle.staging.proofs.ListLaws.{list-all-due, due-all-due}
-use Rattle.detector.specs.Tick.{reset}
 use Rattle.rules.specs.declared.Standby.{Standby}
-use Rattle.rules.specs.StandbyState.{isReceiving, withDetector}
+use Rattle.rules.specs.StandbyState.{isReceiving}
 use Rattle.rules.specs.Read.{sealedState, installedState}
 use Rattle.rules.specs.World.{StandbyEnd}
+use Rattle.rules.proofs.StandbyFacts.{resetCount, reset-reached}
 use Rattle.rules.proofs.ReadLaws.{commit-reached}
 use Rattle.runs.specs.Plain.{Checkpoint, withCounts}
 use Rattle.runs.specs.Run.{Both}
@@ -65,7 +65,7 @@ acks-more es e =
 
 -- ---- the pair after a COMMIT of an epoch
 abbrev pub commitState : Standby → ℕ → Standby
-commitState s epoch = withDetector (installedState (sealedState s) epoch) (reset (s .detector))
+commitState s epoch = resetCount (installedState (sealedState s) epoch)
 
 abbrev pub commitEnd : StandbyEnd → ℕ → StandbySettings → StandbyEnd
 commitEnd e epoch x =
@@ -160,7 +160,7 @@ module _ (g : Settings) (b : Both) (epoch p n : ℕ) (xs : List Message) (on : i
           standbyKept = record {
             settings = k .settings;
             patience = k .patience;
-            reached = commit-reached s (k .reached) epoch;
+            reached = reset-reached _ (commit-reached s (k .reached) epoch);
             memory = long;
             disk = k .disk;
             stagedPages = k .stagedPages;

@@ -22,6 +22,7 @@ use Rattle.rules.specs.declared.Standby.{Standby}
 use Rattle.rules.specs.StandbyState.{isReceiving, withPagesNext, withSlotsBlocks, withPendingSeen}
 use Rattle.rules.specs.World.{StandbyEnd}
 use Rattle.rules.proofs.JudgeLaws.{PageTests, BlockTests}
+use Rattle.rules.proofs.StandbyFacts.{resetCount, reset-reached}
 use Rattle.rules.proofs.ReadLaws.{page-reached, block-reached, state-reached}
 use Rattle.runs.specs.Plain.{Checkpoint}
 use Rattle.runs.specs.Run.{Both}
@@ -30,10 +31,10 @@ use Rattle.runs.proofs.Invariant.{Taker, StandbyKept, Inv}
 use Rattle.runs.proofs.KeptLaws.{standby-m, slots-few, slots-fit}
 use Rattle.runs.proofs.StagedPages.{installed-more}
 
--- the standby after a record that is staged
+-- the standby after a record that is staged: with this state, but that the count returned to 0
 abbrev pub stagedEnd : StandbyEnd → Standby → List ℕ → List ℕ → List ℕ → StandbyEnd
 stagedEnd e s pages marks blocks =
-    record { state = s; memory = e .memory; disk = e .disk; stagedPages = pages; stagedMarks = marks; stagedBlocks = blocks; area = e .area }
+    record { state = resetCount s; memory = e .memory; disk = e .disk; stagedPages = pages; stagedMarks = marks; stagedBlocks = blocks; area = e .area }
 
 -- the pair after it: `used` bytes leave the link
 abbrev pub stagedAfter : Both → StandbyEnd → ℕ → Both
@@ -131,7 +132,7 @@ module _ (g : Settings) (b : Both) (i : Inv g b) where
       (record {
         settings = k .settings;
         patience = k .patience;
-        reached = page-reached s (k .reached) epoch p f;
+        reached = reset-reached _ (page-reached s (k .reached) epoch p f);
         memory = k .memory;
         disk = k .disk;
         stagedPages = length-with-page (g .u) p (e .stagedPages) bs whole inside ∙ k .stagedPages;
@@ -186,7 +187,7 @@ module _ (g : Settings) (b : Both) (i : Inv g b) where
       (record {
         settings = k .settings;
         patience = k .patience;
-        reached = block-reached s r epoch m f;
+        reached = reset-reached _ (block-reached s r epoch m f);
         memory = k .memory;
         disk = k .disk;
         stagedPages = k .stagedPages;
@@ -225,7 +226,7 @@ module _ (g : Settings) (b : Both) (i : Inv g b) where
       (record {
         settings = k .settings;
         patience = k .patience;
-        reached = state-reached s (k .reached) bs (n .fits .1);
+        reached = reset-reached _ (state-reached s (k .reached) bs (n .fits .1));
         memory = k .memory;
         disk = k .disk;
         stagedPages = k .stagedPages;

@@ -16,7 +16,7 @@ pub record Steps : Type 0 where
   pub real : World → Call → Stepped
   pub plain : ℕ → Call → Outcome → Plain → Plain
 
--- document 01's
+-- the documents'
 abbrev pub steps : Steps
 steps = record { real = step; plain = plainStep }
 

@@ -73,6 +73,8 @@ impl Standby {
         if let Some(number) = self.refusal(kind, body) {
             return Reading::Refused(number);
         }
+        // document 02, Job 1: "at each accepted record of kinds 1 to 4"
+        self.count = 0;
         let mut ack = None;
         match kind {
             PAGE => {
@@ -123,7 +125,6 @@ impl Standby {
         self.processor = self.staged_processor.take().unwrap();
         self.due = self.blocks.len();
         self.received = epoch;
-        self.count = 0;
         record(ACK, epoch, &[]).try_into().unwrap()
     }
 
