@@ -56,7 +56,8 @@ rows =
     ∷ row (call.take (zeros 39)) 5 0
     ∷ row (call.take (zeros 50)) 0 40
     ∷ row (call.take (zeros 50)) 18 0
-    -- checkpoint 2, for which one slot of three is free until a flush
+    -- checkpoint 2, for which one slot of three is free until a flush; it takes six ticks, twice T, never three between
+    -- two records
     ∷ row (call.diskWrite 0 (unit 44)) 0 2
     ∷ row (call.checkpoint (processorOf 62)) 0 2
     ∷ row (call.read 74 (zeros 8)) 0 2
@@ -64,7 +65,11 @@ rows =
     ∷ row (call.read 74 (zeros 8)) 17 0
     ∷ row (call.flush 1) 0 1
     ∷ row (call.read 74 (zeros 8)) 0 2
+    ∷ row call.standbyTick 0 0
+    ∷ row call.standbyTick 0 0
     ∷ row (call.read 74 (zeros 8)) 0 1
+    ∷ row call.standbyTick 0 0
+    ∷ row call.standbyTick 0 0
     ∷ row (call.read 72 (zeros 8)) 0 3
     ∷ row call.standbyTick 0 0
     ∷ row call.standbyTick 0 0
@@ -164,7 +169,7 @@ run-choice = (refl, refl, refl)
 
 -- ---- the same list, the standby cut inside its flush of 2, which counts as one of 1; the primary goes on, and a takeover follows
 abbrev pub standbyCut : Cut
-standbyCut = record { primary = uncut; standby = after 66 (budget 1) }
+standbyCut = record { primary = uncut; standby = after 70 (budget 1) }
 
 abbrev pub cutThere : List Call → Both
 cutThere calls = run steps 64 begun calls

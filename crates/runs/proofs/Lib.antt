@@ -1,4 +1,5 @@
--- Runs that compute, the refutations of wrong programs, the proof of demand 3 and what follows from it, and the proofs of progress and of catching up.
+-- Runs that compute, the refutations of wrong programs, the proof of demand 3 and what follows from it, and the proofs of
+-- progress, of catching up and of when the standby takes over.
 pub mod Compute
 pub mod CutLaws
 pub mod Small
@@ -64,3 +65,6 @@ pub mod ExchangeLaws
 pub mod Rounds
 pub mod CatchUpProved
 pub mod ProgressRefutes
+pub mod SilenceLaws
+pub mod SilenceProved
+pub mod SilenceRefutes

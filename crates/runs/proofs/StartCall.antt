@@ -28,7 +28,7 @@ use Rattle.runs.proofs.StagedPages.{installed-none}
 use Rattle.runs.proofs.Frame.{StartLaw}
 
 -- ---- the pair that is started
-abbrev begun : Settings → Processor → Buffers → Both
+abbrev pub begun : Settings → Processor → Buffers → Both
 begun g processor b =
     record {
       world = record {
@@ -48,7 +48,7 @@ begun g processor b =
       plain = plainStart (b .memory) (b .disk) (processor .bytes);
     }
 
-begun-is : (g : Settings) (processor : Processor) (b : Buffers) → startNumber g b ≡ 0 → startBoth g processor b ≡ begun g processor b
+pub begun-is : (g : Settings) (processor : Processor) (b : Buffers) → startNumber g b ≡ 0 → startBoth g processor b ≡ begun g processor b
 unfolding startWorld started startCopy startMarks startArea
 begun-is g processor b e = rw (eq-eqb _ _ e)
 

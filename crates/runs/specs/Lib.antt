@@ -4,3 +4,4 @@ pub mod Cut
 pub mod Demand3
 pub mod Corollaries
 pub mod Progress
+pub mod Silence
