@@ -5,6 +5,7 @@
 //! that FORM.md describes. The last line is `N passed, 0 failed`.
 mod arguments;
 mod beyond;
+mod both;
 mod call;
 mod capi;
 mod changed_lines;
@@ -25,13 +26,17 @@ mod plain;
 mod print_form;
 mod random;
 mod recognise;
+mod refused_records;
 mod report;
+mod silence;
 mod singles;
 mod sink;
+mod ticks;
 mod view;
 mod world;
 
 use arguments::{large_settings, limit_settings, small_settings};
+use checker::demand;
 use random::Random;
 use sink::Sink;
 use std::process::exit;
@@ -62,7 +67,8 @@ const LARGE: &str = "memory of every size";
 const CUTS: &str = "runs cut at every place";
 const LINES: &str = "lines through the program";
 const MARKS: &str = "marks about the ends of words";
-const ON_TOP: [&str; 4] = [LARGE, CUTS, LINES, MARKS];
+const SILENCE: &str = "records that come slower than T ticks";
+const ON_TOP: [&str; 5] = [LARGE, CUTS, LINES, MARKS, SILENCE];
 
 fn until(sink: &mut Sink, end: u64, mut one: impl FnMut(&mut Sink)) {
     while sink.calls < end {
@@ -155,6 +161,8 @@ fn cut_runs(r: &Random, sink: &mut Sink, calls: u64, seed: u64) {
     println!("  {} takes, {} of them under protection", tally.takes, tally.protected_takes);
     let [first, second] = tally.after_checkpoint;
     println!("  takeovers after checkpoint 1 or later {first}, 2 or later {second}, at most {}", tally.highest);
+    println!("  runs with a checkpoint longer than T ticks {}", tally.long_checkpoints);
+    demanded(demand(tally.long_checkpoints > 0, "no checkpoint was longer than T ticks"));
 }
 
 /// Makes one test's calls and prints how many they were. One that makes none tests nothing.
@@ -206,7 +214,8 @@ fn main() {
             LARGE => demanded(large::run(&r, sink)),
             CUTS => cut_runs(&r, sink, calls, seed),
             LINES => demanded(lines::run(&r, sink, &program)),
-            _ => demanded(marks::run(&r, sink)),
+            MARKS => demanded(marks::run(&r, sink)),
+            _ => demanded(silence::run(&r, sink)),
         });
     }
     // that every number comes is a test of all kinds together

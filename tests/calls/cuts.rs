@@ -1,16 +1,12 @@
-//! The cut, by running: lists of calls with the plain pair beside them, cut at every place.
-//!
-//! Every call is made by the library too, and all that it gives is compared with the model's; so what is checked here
-//! on the model's world is checked of the library's.
-use crate::arguments::{fresh_world, start_args};
+//! The cut, by running: lists of calls with the plain pair and the ticks beside them, cut at every place.
+use crate::both::Both;
 use crate::checker::{demand, Check};
-use crate::generate::{ending_mood, next_step, perform, lively_mood, Step};
+use crate::generate::{ending_mood, lively_mood, next_step, Step, PUT_OFF};
 use crate::items::code;
 use crate::model::*;
-use crate::plain::Plain;
 use crate::random::Random;
 use crate::sink::Sink;
-use crate::world::{Args, World};
+use crate::world::Args;
 
 #[derive(Default)]
 pub struct Tally {
@@ -23,13 +19,8 @@ pub struct Tally {
     /// Takeovers at a checkpoint above 0, at one above 1, and the highest.
     pub after_checkpoint: [u64; 2],
     pub highest: u64,
-}
-
-/// Both ends and the plain pair at one place of a list.
-#[derive(Clone)]
-struct Both {
-    world: World,
-    plain: Plain,
+    /// Runs with a checkpoint wholly received although more than T ticks came between its records.
+    pub long_checkpoints: u64,
 }
 
 fn is_primary_call(which: usize) -> bool {
@@ -44,17 +35,18 @@ fn is_standby_call(which: usize) -> bool {
 pub fn run(r: &Random, sink: &mut Sink, tally: &mut Tally) -> Check {
     tally.runs += 1;
     let mut both = begin(r, sink);
-    let (length, haste) = (r.range(16, 40), r.pick(&[40, 85, 85]));
+    let (length, haste, put_off) = (r.range(16, 40), r.pick(&[40, 85, 85]), r.pick(&PUT_OFF));
     let ending_from = if r.percent(40) { r.range(length / 2, length) } else { length };
     let mut places = vec![both.clone()];
     let mut steps: Vec<Step> = Vec::new();
     for at in 0..length {
-        let mood = if at < ending_from { lively_mood(3, haste) } else { ending_mood(r, 3) };
+        let mood = if at < ending_from { lively_mood(3, haste, put_off) } else { ending_mood(r, 3) };
         let mut step = next_step(r, &both.world, &mood);
         advance(sink, tally, &mut both, &mut step)?;
         steps.push(step);
         places.push(both.clone());
     }
+    tally.long_checkpoints += (both.ticks.long_checkpoints > 0) as u64;
     for at in 0..places.len() {
         cut_at(r, sink, tally, &places, &steps, at).map_err(|what| format!("{what}, cut at place {at}"))?;
     }
@@ -74,52 +66,15 @@ fn begin(r: &Random, sink: &mut Sink) -> Both {
         t: r.range(1, 3),
     };
     settings.l = least_stream(64, settings.m, b) + r.pick(&[0, 74, 160]);
-    let mut world = fresh_world(r, &settings);
-    let mut args = start_args(r, settings);
-    let plain = Plain::start(&args, &world.memory, &world.disk);
-    sink.call(code::START, &mut world, &mut args);
-    Both { world, plain }
+    Both::start(r, sink, settings)
 }
 
-/// Makes one call on the world and on the plain pair, and checks what must hold after it.
+/// Makes one call, with its checks.
 fn advance(sink: &mut Sink, tally: &mut Tally, both: &mut Both, step: &mut Step) -> Check {
-    let reply = perform(sink, &mut both.world, step);
+    let reply = both.advance(sink, step)?;
     if step.which == code::TAKE && reply.number == 0 {
-        check_take(tally, &both.plain, &step.args, &reply)?;
-    }
-    if step.which == code::ACTIVATION && reply.number == 0 {
-        demand(reply.value == both.plain.r as u64, "activation's value is not r")?;
-    }
-    both.plain.step(step.which, &step.args, &reply);
-    check_always(both)
-}
-
-/// An accepted take gave the oldest packet; under protection it is one of checkpoint r's.
-fn check_take(tally: &mut Tally, plain: &Plain, args: &Args, reply: &Reply) -> Check {
-    tally.takes += 1;
-    demand(plain.left < plain.packets.len(), "a take with no packet queued")?;
-    let given = &args.out[..reply.value as usize];
-    demand(plain.packets[plain.left][..] == *given, "a take that is not the oldest packet")?;
-    if !plain.alone() {
-        tally.protected_takes += 1;
-        demand(plain.left < plain.received().packets, "a take under protection that checkpoint r has not")?;
-    }
-    Ok(())
-}
-
-/// What holds after every call.
-fn check_always(both: &Both) -> Check {
-    let (w, plain) = (&both.world, &both.plain);
-    demand(w.primary.in_range() && w.standby.in_range(), "a state out of range")?;
-    demand(plain.r < plain.checkpoints.len() && plain.a <= plain.r, "r or a is too high")?;
-    demand(w.standby.received as usize == plain.r, "the last received epoch is not r")?;
-    demand(w.primary.alone == plain.alone(), "alone and the plain count differ")?;
-    demand((w.standby.mode == Mode::Active) == plain.activated, "active and activated differ")?;
-    demand(w.memory == plain.memory && w.disk == plain.disk, "the primary's images")?;
-    if plain.activated {
-        demand(w.standby_memory == plain.standby_memory, "the active standby's memory")?;
-        demand(w.standby_disk == plain.standby_disk, "the active standby's disk")?;
-        demand(w.standby.kept_cpu == plain.received().cpu, "the active standby's processor state")?;
+        tally.takes += 1;
+        tally.protected_takes += !both.plain.alone() as u64;
     }
     Ok(())
 }
@@ -180,18 +135,8 @@ fn take_over(sink: &mut Sink, tally: &mut Tally, both: &mut Both) -> Check {
     tally.after_checkpoint[0] += (both.plain.r > 0) as u64;
     tally.after_checkpoint[1] += (both.plain.r > 1) as u64;
     tally.highest = tally.highest.max(both.plain.r as u64);
-    let (patience, was_active) = (both.world.standby.t, both.plain.activated);
-    let plain_call = |which: usize, n: u64| Step { which, args: Args { n, ..Args::none() }, part: None };
-    if !was_active {
-        for _ in 0..patience {
-            advance(sink, tally, both, &mut plain_call(code::STANDBY_TICK, 0))?;
-        }
-        let due = both.world.standby.due;
-        advance(sink, tally, both, &mut plain_call(code::FLUSH, due))?;
-        advance(sink, tally, both, &mut plain_call(code::ACTIVATION, 0))?;
-        let received = both.plain.received();
-        demand(both.world.standby_memory == received.memory, "memory is not checkpoint r's")?;
-        demand(both.world.standby_disk == received.disk, "the disk is not checkpoint r's")?;
+    if !both.plain.activated {
+        both.take_over(sink, both.world.standby.t)?;
     }
     demand(both.plain.activated && both.world.standby.mode == Mode::Active, "not active after the takeover")?;
     choose(sink, tally, both)

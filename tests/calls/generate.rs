@@ -4,6 +4,7 @@ use crate::items::code;
 use crate::model::*;
 use crate::random::Random;
 use crate::sink::Sink;
+use crate::ticks::Ticks;
 use crate::world::{carry, Args, World};
 
 /// A call of a list. `part`: a read or an ACK gets so many of the first unread bytes, instead of `args.data`.
@@ -24,6 +25,8 @@ pub struct Mood {
     last_ticks: bool,
     /// Of a hundred calls so many see first to what waits on the link, in the slots or as an ACK.
     haste: u64,
+    /// Of a hundred reads so many come only after a tick more, so that a checkpoint may take longer than T ticks.
+    put_off: u64,
 }
 
 // Weights by code: start, memory write, disk write, packet, checkpoint, drain, ACK, take, tick of the primary,
@@ -34,9 +37,13 @@ const ALONE: [u64; 16] = [0, 10, 10, 9, 6, 3, 2, 14, 14, 6, 4, 1, 1, 1, 1, 2];
 const TAKEOVER: [u64; 16] = [0, 2, 2, 2, 2, 3, 2, 2, 1, 3, 10, 14, 8, 2, 2, 2];
 const ACTIVE: [u64; 16] = [0, 3, 3, 3, 2, 2, 2, 5, 3, 2, 4, 3, 3, 14, 14, 5];
 
+/// What `put_off` is in a list.
+pub const PUT_OFF: [u64; 4] = [0, 0, 0, 60];
+
 /// The moods of one list: a long protected part, then in some lists the end of it on one side or both.
 struct Course {
     length: u64,
+    put_off: u64,
     alone_from: u64,
     takeover_from: u64,
     active_from: u64,
@@ -48,11 +55,12 @@ impl Course {
         let alone_from = if r.percent(35) { late(r) } else { length };
         let takeover_from = if r.percent(60) { late(r) } else { length };
         let active_from = takeover_from + r.range(10, 40);
-        Course { length, alone_from, takeover_from, active_from }
+        Course { length, put_off: r.pick(&PUT_OFF), alone_from, takeover_from, active_from }
     }
 
     fn mood(&self, r: &Random, at: u64, odd: u64, damage: u64) -> Mood {
-        let mood = |weights, last_ticks, haste| Mood { weights, odd, damage, last_ticks, haste };
+        let put_off = self.put_off;
+        let mood = |weights, last_ticks, haste| Mood { weights, odd, damage, last_ticks, haste, put_off };
         let both = at >= self.alone_from && at >= self.takeover_from && r.percent(40);
         if at >= self.alone_from && (at < self.takeover_from || both) {
             mood(ALONE, true, 0)
@@ -76,12 +84,16 @@ pub fn list(r: &Random, sink: &mut Sink, settings: Settings, length: u64, near_t
     let course = Course::new(r, length);
     let damage = if r.percent(50) { 0 } else { 5 };
     let odd = r.pick(&[0, 3, 6]);
+    let mut ticks = Ticks::start(settings.t);
     for at in 0..course.length {
         let mood = course.mood(r, at, odd, damage);
         let mut step = next_step(r, &w, &mood);
         let reply = perform(sink, &mut w, &mut step);
+        ticks.step(step.which, &reply);
+        sink.end_at_difference(step.which, ticks.check(&w.standby));
         drop_what_blocks(r, &mut w, step.which, &reply);
     }
+    sink.long_checkpoints += (ticks.long_checkpoints > 0) as u64;
 }
 
 /// A world after an accepted start that was compared too.
@@ -105,7 +117,7 @@ fn drop_what_blocks(r: &Random, w: &mut World, which: usize, reply: &Reply) {
 }
 
 /// The length of the record at the head of the bytes, as its header says it; 4 where there is none.
-fn head_record(bytes: &[u8]) -> usize {
+pub fn head_record(bytes: &[u8]) -> usize {
     if bytes.len() < 4 { 4 } else { 4 + u16::from_le_bytes([bytes[0], bytes[1]]) as usize }
 }
 
@@ -126,14 +138,14 @@ pub fn fill(w: &World, step: &mut Step) {
 }
 
 /// A mood in which checkpoints come soon one after the other.
-pub fn lively_mood(odd: u64, haste: u64) -> Mood {
-    Mood { weights: LIVELY, odd, damage: 0, last_ticks: false, haste }
+pub fn lively_mood(odd: u64, haste: u64, put_off: u64) -> Mood {
+    Mood { weights: LIVELY, odd, damage: 0, last_ticks: false, haste, put_off }
 }
 
 /// A mood in which every sort of ending may come.
 pub fn ending_mood(r: &Random, odd: u64) -> Mood {
     let weights = r.pick(&[ALONE, TAKEOVER, TAKEOVER, ACTIVE]);
-    Mood { weights, odd, damage: 0, last_ticks: true, haste: 0 }
+    Mood { weights, odd, damage: 0, last_ticks: true, haste: 0, put_off: 0 }
 }
 
 /// The next call of a list.
@@ -142,6 +154,9 @@ pub fn next_step(r: &Random, w: &World, mood: &Mood) -> Step {
     let ends = |which| !mood.last_ticks && ends_something(w, which);
     while is_idle(w, which) && r.percent(90) || ends(which) && r.percent(99) {
         which = r.weighted(&mood.weights);
+    }
+    if which == code::READ && !ends_something(w, code::STANDBY_TICK) && r.percent(mood.put_off) {
+        which = code::STANDBY_TICK;
     }
     let mut args = arguments(r, which, w, mood.odd);
     let part = match which {

@@ -78,6 +78,7 @@ impl Pair<'_> {
 
     /// Makes one call on both sides and compares.
     fn make(&mut self, which: usize, a: &mut Args) -> Result<Reply, String> {
+        self.sink.calls += 1;
         let answer = call(which, &mut self.lent);
         let reply = run_model(which, &mut self.w, a);
         let check = compare_answer(answer, &reply).and_then(|()| self.compare(which, a));

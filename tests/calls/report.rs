@@ -20,9 +20,11 @@ pub fn print_records(sink: &Sink) {
     println!("records accepted: {pages} PAGE, {blocks} BLOCK, {states} STATE, {commits} COMMIT");
     let [pages, blocks] = sink.by_count;
     println!("records out of order by the count of pages alone: {pages} PAGE, {blocks} BLOCK");
+    println!("lists with a checkpoint longer than T ticks: {}", sink.long_checkpoints);
 }
 
 /// Every number from 1 to 20, and cut short, must have come; 9 also by the count of pages alone, of a PAGE and a BLOCK.
+/// In some lists a checkpoint must have taken longer than T ticks.
 pub fn all_numbers_seen(sink: &Sink) -> bool {
     let missing: Vec<usize> = (1..22).filter(|&row| sink.seen[row].iter().sum::<u64>() == 0).collect();
     missing.iter().for_each(|row| println!("number {} never came", if *row == 21 { 256 } else { *row }));
@@ -30,5 +32,8 @@ pub fn all_numbers_seen(sink: &Sink) -> bool {
     if !counted {
         println!("number 9 never came by the count of pages alone, of a PAGE or of a BLOCK");
     }
-    missing.is_empty() && counted
+    if sink.long_checkpoints == 0 {
+        println!("in no list was a checkpoint longer than T ticks");
+    }
+    missing.is_empty() && counted && sink.long_checkpoints > 0
 }

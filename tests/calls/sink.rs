@@ -26,6 +26,7 @@ pub struct Sink {
     seed: u64,
     /// The kind of run that is under way.
     pub kind: &'static str,
+    /// The calls made, the one under way among them.
     pub calls: u64,
     /// How often each number came, by call code; cut short is counted at 21.
     pub seen: [[u64; code::ALL]; 22],
@@ -33,6 +34,8 @@ pub struct Sink {
     pub records: [u64; 5],
     /// How many PAGEs and BLOCKs were out of order by the count of pages alone.
     pub by_count: [u64; 2],
+    /// Lists with a checkpoint wholly received although more than T ticks came between its records.
+    pub long_checkpoints: u64,
     /// Where the calls are wanted as lines too.
     pub text: Option<Text>,
 }
@@ -48,12 +51,14 @@ impl Sink {
             seen: [[0; code::ALL]; 22],
             records: [0; 5],
             by_count: [0; 2],
+            long_checkpoints: 0,
             text: None,
         }
     }
 
     /// Makes one call by the library and on the model's world, and compares everything.
     pub fn call(&mut self, which: usize, w: &mut World, a: &mut Args) -> Reply {
+        self.calls += 1;
         View::new(w, a).lend_all(&mut self.before, which);
         self.lent.copy(which, &self.before);
         let answer = call(which, &mut self.lent);
@@ -67,6 +72,7 @@ impl Sink {
 
     /// Makes one call on what `change` makes of the words lent: it must give 1 and change nothing.
     pub fn refused(&mut self, which: usize, w: &World, a: &Args, change: impl FnOnce(&mut Lent)) {
+        self.calls += 1;
         View::new(w, a).lend_all(&mut self.before, which);
         change(&mut self.before);
         self.lent.copy(which, &self.before);
@@ -78,9 +84,8 @@ impl Sink {
         self.note(which, &reply, w, a);
     }
 
-    /// Counts a call that was compared.
+    /// Counts what a call that was compared gave.
     pub fn note(&mut self, which: usize, reply: &Reply, w: &World, a: &Args) {
-        self.calls += 1;
         let row = if reply.number == CUT_SHORT { 21 } else { reply.number as usize };
         self.seen[row][which] += 1;
         if which == code::READ && reply.number == 0 {
@@ -108,8 +113,8 @@ impl Sink {
         }
     }
 
-    /// Tells a difference and ends everything. The call's line goes to a file.
-    fn end_at_difference(&self, which: usize, check: Check) {
+    /// Tells a difference in the last call and ends everything. The call's line goes to a file.
+    pub fn end_at_difference(&self, which: usize, check: Check) {
         let Err(what) = check else { return };
         println!("{}", self.told(which, &what));
         let line = input_line(which, &self.before);
@@ -120,9 +125,9 @@ impl Sink {
         exit(1)
     }
 
-    /// A difference in the call that is under way, in words.
+    /// A difference in the last call, in words.
     pub fn told(&self, which: usize, what: &str) -> String {
-        format!("difference in {}: seed {}, call {}, code {which}: {what}", self.kind, self.seed, self.calls + 1)
+        format!("difference in {}: seed {}, call {}, code {which}: {what}", self.kind, self.seed, self.calls)
     }
 }
 

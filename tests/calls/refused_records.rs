@@ -1,0 +1,163 @@
+//! Records that are not accepted: every refusal that a read gives to a receiving standby, records cut short, and
+//! records given to a standby that is not receiving. None of them changes its count of ticks.
+use crate::arguments::record;
+use crate::both::Both;
+use crate::checker::{demand, Check};
+use crate::items::code;
+use crate::model::*;
+use crate::sink::Sink;
+use crate::world::{Args, World};
+use std::collections::BTreeMap;
+
+const PAGE: u64 = 1;
+const BLOCK: u64 = 2;
+const STATE: u64 = 3;
+const COMMIT: u64 = 4;
+
+/// How often each number came; cut short is told apart by whether its header is incomplete.
+#[derive(Default)]
+pub struct Refusals(BTreeMap<(u64, bool), u64>);
+
+impl Refusals {
+    fn note(&mut self, number: u64, data: &[u8]) {
+        *self.0.entry((number, number == CUT_SHORT && data.len() < 4)).or_default() += 1;
+    }
+
+    pub fn count(&self) -> u64 {
+        self.0.values().sum()
+    }
+
+    /// The numbers of document 01's "Reading a record"; 11 is of an ACK, which a standby refuses with 6.
+    pub fn every_one_came(&self) -> Check {
+        let numbers = [1, 13, 6, 7, CUT_SHORT, 2, 5, 8, 9, 10, 14, 17].map(|number| (number, false));
+        let mut wanted = numbers.into_iter().chain([(CUT_SHORT, true)]);
+        match wanted.find(|one| !self.0.contains_key(one)) {
+            None => Ok(()),
+            Some((number, by_header)) => Err(format!("no read gave {number} (header incomplete: {by_header})")),
+        }
+    }
+}
+
+/// A read that is not accepted: its number, the bytes given and the reply buffer's length.
+struct Bad {
+    number: u64,
+    data: Vec<u8>,
+    reply: usize,
+}
+
+fn bad(number: u64, data: Vec<u8>) -> Bad {
+    Bad { number, data, reply: 8 }
+}
+
+/// Every refusal at this place, each in a copy: the count stays, so that the next tick, the T-th, takes over.
+pub fn try_all(sink: &mut Sink, both: &Both, refusals: &mut Refusals) -> Check {
+    let s = &both.world.standby;
+    for bad in by_header(s).into_iter().chain(by_field(s)).chain(by_order(s)) {
+        let mut both = both.clone();
+        refused(sink, &mut both, bad, refusals)?;
+        last_tick(sink, both)?;
+    }
+    for lengthen in LENGTHEN {
+        let mut both = both.clone();
+        let right = both.world.clone();
+        lengthen(&mut both.world);
+        refused(sink, &mut both, bad(1, next(s, STATE)), refusals)?;
+        both.world = World { standby: both.world.standby, ..right };
+        last_tick(sink, both)?;
+    }
+    Ok(())
+}
+
+/// One thing too many in a buffer that a read is lent.
+const LENGTHEN: [fn(&mut World); 4] =
+    [|w| w.standby_memory.push(0), |w| w.pages.push(0), |w| w.standby_marks.push(0), |w| w.blocks.push(0)];
+
+/// Whatever is given to a standby that is not receiving: 13.
+pub fn not_receiving(sink: &mut Sink, both: &mut Both, refusals: &mut Refusals) -> Check {
+    let records = (PAGE..=COMMIT).map(|kind| next(&both.world.standby, kind));
+    for data in records.chain([Vec::new()]).collect::<Vec<_>>() {
+        refused(sink, both, bad(13, data), refusals)?;
+    }
+    Ok(())
+}
+
+/// A read that is not accepted changes nothing of the standby, and so not its count.
+fn refused(sink: &mut Sink, both: &mut Both, bad: Bad, refusals: &mut Refusals) -> Check {
+    let Bad { number, data, reply } = bad;
+    refusals.note(number, &data);
+    let before = both.world.standby.clone();
+    let reply = both.call(sink, code::READ, Args { data, out: vec![0; reply], ..Args::none() })?;
+    if reply.number != number {
+        return Err(format!("a read gave {}, not {number}", reply.number));
+    }
+    demand(both.world.standby.count == before.count, "a record that is not accepted changes the count")?;
+    demand(both.world.standby == before && reply.used == 0, "a record that is not accepted changes the standby")
+}
+
+fn last_tick(sink: &mut Sink, mut both: Both) -> Check {
+    both.call(sink, code::STANDBY_TICK, Args::none())?;
+    demand(both.world.standby.mode == Mode::TakingOver, "the T-th tick does not take over after a refusal")
+}
+
+/// A record of this kind and of the next epoch. Its page or block is 0, its counts are those received.
+fn next(s: &Standby, kind: u64) -> Vec<u8> {
+    let epoch = s.received + 1;
+    match kind {
+        PAGE | BLOCK => record(s.u + 6, kind, epoch, &[vec![0; 2], vec![7; s.u as usize]].concat()),
+        STATE => record(68, kind, epoch, &[7; 64]),
+        _ => record(8, kind, epoch, &[(s.pages as u16).to_le_bytes(), (s.blocks as u16).to_le_bytes()].concat()),
+    }
+}
+
+/// The record with another number in these two bytes.
+fn with(mut data: Vec<u8>, at: usize, number: u64) -> Vec<u8> {
+    data[at..at + 2].copy_from_slice(&(number as u16).to_le_bytes());
+    data
+}
+
+/// 6, 7 and cut short, of every kind.
+fn by_header(s: &Standby) -> Vec<Bad> {
+    let mut all = Vec::new();
+    for kind in PAGE..=COMMIT {
+        let good = next(s, kind);
+        let (length, body) = (good.len(), good.len() as u64 - 4);
+        all.extend([0, 5, 6, 7, kind + 256].map(|other| bad(6, with(good.clone(), 2, other))));
+        all.extend([body - 1, body + 1].map(|other| bad(7, with(good.clone(), 0, other))));
+        all.extend([0, 3, 4, length - 1].map(|short| bad(CUT_SHORT, good[..short].to_vec())));
+    }
+    all
+}
+
+/// 2 of a PAGE and a BLOCK, 5 of a COMMIT, 8 of every kind.
+fn by_field(s: &Standby) -> Vec<Bad> {
+    let mut all = vec![bad(2, with(next(s, PAGE), 8, s.m)), bad(2, with(next(s, BLOCK), 8, s.d))];
+    all.extend([0, 7].map(|reply| Bad { number: 5, data: next(s, COMMIT), reply }));
+    // at D 0 every BLOCK gives 2, which comes before 8
+    for kind in (PAGE..=COMMIT).filter(|&kind| kind != BLOCK || s.d > 0) {
+        let received = s.received as u64;
+        all.extend([received, received + 2].map(|epoch| bad(8, with(next(s, kind), 4, epoch))));
+    }
+    all
+}
+
+/// 9, 10, 14 and 17, where the records read before ask for them.
+fn by_order(s: &Standby) -> Vec<Bad> {
+    let mut all = Vec::new();
+    let after_page_or_state = s.pages > 0 || s.state_seen;
+    if after_page_or_state {
+        // page 0 is not above the last
+        all.push(bad(9, next(s, PAGE)));
+    }
+    let of_block = if after_page_or_state { 9 } else if s.blocks == s.b { 14 } else { 17 };
+    if s.d > 0 && (of_block != 17 || s.staged == s.s) {
+        all.push(bad(of_block, next(s, BLOCK)));
+    }
+    if s.state_seen {
+        all.push(bad(9, next(s, STATE)));
+        all.push(bad(10, with(next(s, COMMIT), 8, s.pages + 1)));
+        all.push(bad(10, with(next(s, COMMIT), 10, s.blocks + 1)));
+    } else {
+        all.push(bad(9, next(s, COMMIT)));
+    }
+    all
+}
