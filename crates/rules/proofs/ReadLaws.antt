@@ -19,12 +19,12 @@ use Rattle.staging.proofs.SlotLaws.{array-with-block, slots-with-block, slots-a
 use Rattle.detector.specs.Tick.{reset}
 use Rattle.rules.specs.declared.Standby.{Standby}
 use Rattle.rules.specs.declared.ReadLent.{ReadLent}
-use Rattle.rules.specs.StandbyState.{isReceiving, withPagesNext, withSlotsBlocks, withPendingSeen, withDetector}
+use Rattle.rules.specs.StandbyState.{isReceiving, withPagesNext, withSlotsBlocks, withPendingSeen, withNoTicks}
 use Rattle.rules.specs.Reply.{numberOf, valueOf, usedOf, answerOf}
 use Rattle.rules.specs.Judge.{judged}
 use Rattle.rules.specs.Read.{bytesAt, sealedState, installedState, readState, memoryAfter, stagedPagesAfter, stagedMarksAfter, stagedBlocksAfter, replyAfter, readReply}
 use Rattle.rules.specs.Reached.{StandbyInRange, StandbyReached}
-use Rattle.rules.proofs.StandbyFacts.{standby-tests, standby-tested, standby-facts, in-range-slots, reached-slots, resetCount, reset-in-range, reset-reached}
+use Rattle.rules.proofs.StandbyFacts.{standby-tests, standby-tested, standby-facts, in-range-slots, reached-slots, reset-in-range, reset-reached}
 use Rattle.rules.proofs.ReplyLaws.{answer-found}
 use Rattle.rules.proofs.JudgeLaws.{PageTests, BlockTests, JudgedFacts, judged-cases, judged-facts}
 
@@ -123,7 +123,7 @@ module _ (s : Standby) (h : StandbyReached s) where
       }
 
 -- ---- a fact of the state is kept by a read, where each accepted record keeps it, and so does the count returned to 0
-module _ (P : Standby → Type 0) (resets : (s : Standby) → P s → P (resetCount s)) (s : Standby) (h : P s)
+module _ (P : Standby → Type 0) (resets : (s : Standby) → P s → P (withNoTicks s)) (s : Standby) (h : P s)
     (page : (e p : ℕ) → PageTests s e p → P (withPagesNext s (s .pages + 1) (p + 1)))
     (block : (e n : ℕ) → BlockTests s e n → P (withSlotsBlocks s (withBlock (s .slots) n) (s .blocks + 1)))
     (state : (processor : List ℕ) → length processor ≡ processorBytes → P (withPendingSeen s processor))

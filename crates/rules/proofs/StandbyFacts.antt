@@ -17,7 +17,7 @@ use Rattle.detector.specs.declared.Detector.{Detector}
 use Rattle.detector.specs.Range.{detectorOk}
 use Rattle.detector.specs.Tick.{reset}
 use Rattle.rules.specs.declared.Mode.{Mode}
-use Rattle.rules.specs.StandbyState.{isReceiving, standbyOk, withSlotsBlocks, withDetector, withMode}
+use Rattle.rules.specs.StandbyState.{isReceiving, standbyOk, withSlotsBlocks, withDetector, withNoTicks, withMode}
 use Rattle.rules.specs.Reached.{StandbyInRange, StandbyReached}
 use Rattle.rules.proofs.DetectorFacts.{DetectorFacts, detector-facts, detector-of, reset-facts}
 
@@ -119,16 +119,13 @@ module _ (s : Standby) (d : Detector) (mode : Mode) (ok : detectorOk d (isReceiv
         notDue = r .notDue;
       }
 
--- the count returned to 0
-abbrev pub resetCount : Standby → Standby
-resetCount s = withDetector s (reset (s .detector))
-
+-- no tick counted
 module _ (s : Standby) where
   reset-ok : StandbyInRange s → detectorOk (reset (s .detector)) (isReceiving (s .mode)) ≡ true
   reset-ok r = detector-of _ _ (reset-facts (s .detector) (isReceiving (s .mode)) (standby-facts s (r .inRange) .detector))
 
-  pub reset-in-range : StandbyInRange s → StandbyInRange (resetCount s)
+  pub reset-in-range : StandbyInRange s → StandbyInRange (withNoTicks s)
   reset-in-range r = watched-in-range s (reset (s .detector)) (s .mode) (reset-ok r) r
 
-  pub reset-reached : StandbyReached s → StandbyReached (resetCount s)
+  pub reset-reached : StandbyReached s → StandbyReached (withNoTicks s)
   reset-reached r = watched-reached s (reset (s .detector)) (s .mode) (reset-ok (r .range)) r

@@ -1,6 +1,5 @@
 -- What a read at the standby leaves, by the record that was judged. Assumes nothing.
 use Prim.Native.Nat.{ℕ, _+_, _-_}
-use mathlib.Core.Bool.{Bool, true, false, cond}
 use mathlib.Core.List.{List}
 use lib.ListN.{length}
 use Rattle.lists.specs.Part.{part, put}
@@ -12,26 +11,16 @@ use Rattle.records.specs.Write.{ackRecord}
 use Rattle.marks.specs.Mark.{withMark, cleared}
 use Rattle.pages.specs.Dirty.{installed}
 use Rattle.staging.specs.Slot.{withBlock, withBlockBytes, allDue}
-use Rattle.detector.specs.declared.Detector.{Detector}
-use Rattle.detector.specs.Tick.{reset}
 use Rattle.rules.specs.declared.Standby.{Standby}
 use Rattle.rules.specs.declared.ReadLent.{ReadLent}
 use Rattle.rules.specs.declared.StandbyAnswer.{StandbyAnswer}
-use Rattle.rules.specs.StandbyState.{withPagesNext, withSlotsBlocks, withPendingSeen, withNoRecords, withReceivedSlotsProcessor, withDetector}
+use Rattle.rules.specs.StandbyState.{withPagesNext, withSlotsBlocks, withPendingSeen, withNoRecords, withReceivedSlotsProcessor, withNoTicks}
 use Rattle.rules.specs.Reply.{answerOf}
 use Rattle.rules.specs.Judge.{judged}
 
 -- the bytes field of a record
 abbrev pub bytesAt : Cursor → List ℕ → List ℕ
 bytesAt c bytes = part (c .start) (c .end - c .start) bytes
-
--- "returns to 0 at each accepted record of kinds 1 to 4" (document 02, Job 1): by the record's case, not
--- by its kind's number
-abbrev pub resetsCount : Record → Bool
-resetsCount r = byKind r (λ e p c. true) (λ e n c. true) (λ e c. true) (λ e p b c. true) false
-
-abbrev pub detectorAfter : Record → Detector → Detector
-detectorAfter r d = cond (resetsCount r) (reset d) d
 
 -- a checkpoint is sealed: the next record belongs to the next epoch
 abbrev pub sealedState : Standby → Standby
@@ -41,18 +30,17 @@ sealedState s = withNoRecords s
 abbrev pub installedState : Standby → ℕ → Standby
 installedState s epoch = withReceivedSlotsProcessor s epoch (allDue (s .slots)) (s .pending)
 
--- the state after a record is accepted, but for the detector; any other answer leaves it
-abbrev pub afterRecord : Standby → List ℕ → Record → Standby
-afterRecord s bytes r =
-    byKind r
-    (λ e p c. withPagesNext s (s .pages + 1) (p + 1))
-    (λ e n c. withSlotsBlocks s (withBlock (s .slots) n) (s .blocks + 1))
-    (λ e c. withPendingSeen s (bytesAt c bytes))
-    (λ e p b c. installedState (sealedState s) e)
-    s
-
+-- the state after a record is accepted: the count "returns to 0 at each accepted record of kinds 1 to 4" (document 02,
+-- Job 1); any other answer leaves the state
 abbrev pub readState : Standby → List ℕ → Record → Standby
-readState s bytes r = afterRecord (withDetector s (detectorAfter r (s .detector))) bytes r
+readState s bytes r =
+    let t = withNoTicks s in
+    byKind r
+    (λ e p c. withPagesNext t (t .pages + 1) (p + 1))
+    (λ e n c. withSlotsBlocks t (withBlock (t .slots) n) (t .blocks + 1))
+    (λ e c. withPendingSeen t (bytesAt c bytes))
+    (λ e p b c. installedState (sealedState t) e)
+    s
 
 -- each lent buffer: "A record cut short or refused .. changes nothing"
 abbrev pub memoryAfter : Standby → List ℕ → List ℕ → List ℕ → Record → List ℕ

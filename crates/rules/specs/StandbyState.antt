@@ -8,6 +8,7 @@ use Rattle.marks.specs.Mark.{wordsFor}
 use Rattle.staging.specs.declared.Slots.{Slots}
 use Rattle.staging.specs.Slot.{slotsOk}
 use Rattle.detector.specs.declared.Detector.{Detector}
+use Rattle.detector.specs.Tick.{reset}
 use Rattle.rules.specs.declared.Mode.{Mode}
 use Rattle.rules.specs.declared.Mode.the-variants.{Receiving, TakingOver, Active}
 use Rattle.rules.specs.declared.Standby.{Standby}
@@ -75,6 +76,10 @@ withReceivedSlotsProcessor s received slots processor =
 abbrev pub withDetector : Standby → Detector → Standby
 withDetector s detector =
     record { settings = s .settings; detector = detector; mode = s .mode; received = s .received; slots = s .slots; blocks = s .blocks; pages = s .pages; next = s .next; seen = s .seen; pending = s .pending; processor = s .processor }
+
+-- no tick counted
+abbrev pub withNoTicks : Standby → Standby
+withNoTicks s = withDetector s (reset (s .detector))
 
 abbrev pub withMode : Standby → Mode → Standby
 withMode s mode =

@@ -20,10 +20,10 @@ use Rattle.pages.proofs.InstallLaws.{length-installed}
 use Rattle.staging.specs.SlotList.{slotList, storeAll}
 use Rattle.staging.proofs.ListLaws.{list-all-due, due-all-due}
 use Rattle.rules.specs.declared.Standby.{Standby}
-use Rattle.rules.specs.StandbyState.{isReceiving}
+use Rattle.rules.specs.StandbyState.{isReceiving, withNoTicks}
 use Rattle.rules.specs.Read.{sealedState, installedState}
 use Rattle.rules.specs.World.{StandbyEnd}
-use Rattle.rules.proofs.StandbyFacts.{resetCount, reset-reached}
+use Rattle.rules.proofs.StandbyFacts.{reset-reached}
 use Rattle.rules.proofs.ReadLaws.{commit-reached}
 use Rattle.runs.specs.Plain.{Checkpoint, withCounts}
 use Rattle.runs.specs.Run.{Both}
@@ -65,7 +65,7 @@ acks-more es e =
 
 -- ---- the pair after a COMMIT of an epoch
 abbrev pub commitState : Standby → ℕ → Standby
-commitState s epoch = resetCount (installedState (sealedState s) epoch)
+commitState s epoch = withNoTicks (installedState (sealedState s) epoch)
 
 abbrev pub commitEnd : StandbyEnd → ℕ → StandbySettings → StandbyEnd
 commitEnd e epoch x =

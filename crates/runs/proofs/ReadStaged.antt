@@ -19,10 +19,10 @@ use Rattle.staging.specs.SlotList.{Staged, slotList, storeAll}
 use Rattle.staging.proofs.ListLaws.{list-with-block, due-with-block}
 use Rattle.staging.proofs.FlushLaws.{store-all-append}
 use Rattle.rules.specs.declared.Standby.{Standby}
-use Rattle.rules.specs.StandbyState.{isReceiving, withPagesNext, withSlotsBlocks, withPendingSeen}
+use Rattle.rules.specs.StandbyState.{isReceiving, withPagesNext, withSlotsBlocks, withPendingSeen, withNoTicks}
 use Rattle.rules.specs.World.{StandbyEnd}
 use Rattle.rules.proofs.JudgeLaws.{PageTests, BlockTests}
-use Rattle.rules.proofs.StandbyFacts.{resetCount, reset-reached}
+use Rattle.rules.proofs.StandbyFacts.{reset-reached}
 use Rattle.rules.proofs.ReadLaws.{page-reached, block-reached, state-reached}
 use Rattle.runs.specs.Plain.{Checkpoint}
 use Rattle.runs.specs.Run.{Both}
@@ -31,10 +31,10 @@ use Rattle.runs.proofs.Invariant.{Taker, StandbyKept, Inv}
 use Rattle.runs.proofs.KeptLaws.{standby-m, slots-few, slots-fit}
 use Rattle.runs.proofs.StagedPages.{installed-more}
 
--- the standby after a record that is staged: with this state, but that the count returned to 0
+-- the standby after a record that is staged: this state with no tick counted
 abbrev pub stagedEnd : StandbyEnd → Standby → List ℕ → List ℕ → List ℕ → StandbyEnd
 stagedEnd e s pages marks blocks =
-    record { state = resetCount s; memory = e .memory; disk = e .disk; stagedPages = pages; stagedMarks = marks; stagedBlocks = blocks; area = e .area }
+    record { state = withNoTicks s; memory = e .memory; disk = e .disk; stagedPages = pages; stagedMarks = marks; stagedBlocks = blocks; area = e .area }
 
 -- the pair after it: `used` bytes leave the link
 abbrev pub stagedAfter : Both → StandbyEnd → ℕ → Both

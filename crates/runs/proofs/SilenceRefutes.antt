@@ -11,11 +11,10 @@ use lib.ListN.{replicate}
 use Rattle.records.specs.Kind.{COMMIT}
 use Rattle.rules.specs.declared.Mode.the-variants.{Receiving}
 use Rattle.rules.specs.declared.Standby.{Standby}
-use Rattle.rules.specs.StandbyState.{isTakingOver, withDetector, withMode}
+use Rattle.rules.specs.StandbyState.{isTakingOver, withDetector, withNoTicks, withMode}
 use Rattle.rules.specs.World.{World, Call}
 use Rattle.rules.specs.World as call
 use Rattle.rules.specs.Step.{Stepped, step}
-use Rattle.rules.proofs.StandbyFacts.{resetCount}
 use Rattle.runs.specs.Run.{Both, Steps, runCall, run}
 use Rattle.runs.specs.Silence.{silenceAfter, silenceFrom, HadSilence, receiving, SilenceRight, TakesOverOnlyInSilenceOf}
 use Rattle.runs.proofs.Compute.{allSteps}
@@ -74,7 +73,7 @@ refutes-counting-twice d = tookOverEarly _ d (ticks 2) refl refl
 -- ---- the count returned to 0 at every read, also one cut short
 -- not "each accepted record"
 abbrev pub resetsAlways : World → Call → Stepped → Stepped
-resetsAlways w c s = leaving s (withState (s .next) (resetCount (s .next .standby .state)))
+resetsAlways w c s = leaving s (withState (s .next) (withNoTicks (s .next .standby .state)))
 
 pub refutes-reset-when-cut-short : TakesOverOnlyInSilenceOf (wrongly (insteadOf (call.read 0 []) resetsAlways)) → ⊥
 unfolding allSteps
@@ -94,7 +93,7 @@ refutes-waiting-on d =
 -- ---- one that receives again at the next read
 -- not "a record when not receiving" (13)
 abbrev pub receivesAgain : World → Call → Stepped → Stepped
-receivesAgain w c s = cond (receiving w) s (leaving s (withState w (withMode (resetCount (w .standby .state)) Receiving)))
+receivesAgain w c s = cond (receiving w) s (leaving s (withState w (withMode (withNoTicks (w .standby .state)) Receiving)))
 
 pub refutes-receiving-again : TakesOverOnlyInSilenceOf (wrongly (insteadOf (call.read 0 []) receivesAgain)) → ⊥
 unfolding allSteps

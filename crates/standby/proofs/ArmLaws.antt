@@ -1,6 +1,5 @@
 -- The last arm of each `match` on a record: what the definitions give behind the arms that name a kind. Assumes nothing.
 use mathlib.Core.Path.{_≡_, refl}
-use mathlib.Core.Bool.{false}
 use mathlib.Core.List.{List, [], _∷_}
 use Prim.Native.Nat.{ℕ}
 use types.Run.{OneOf, miss}
@@ -13,7 +12,7 @@ use Rattle.records.specs.declared.Cursor.{Cursor}
 use Rattle.records.proofs.Record.{the-type}
 use Rattle.rules.specs.declared.Standby.{Standby}
 use Rattle.rules.specs.Judge.{recordRefusal}
-use Rattle.rules.specs.Read.{resetsCount, afterRecord, memoryAfter, stagedPagesAfter, stagedMarksAfter, stagedBlocksAfter, replyAfter}
+use Rattle.rules.specs.Read.{readState, memoryAfter, stagedPagesAfter, stagedMarksAfter, stagedBlocksAfter, replyAfter}
 
 -- behind PAGE, BLOCK, STATE and COMMIT
 other-arm : {A : Type 0} (page block : ℕ → ℕ → Cursor → A) (state : ℕ → Cursor → A) (commit : ℕ → ℕ → ℕ → Cursor → A) (rest : A) (r : Record)
@@ -29,10 +28,7 @@ other-arm page block state commit rest (Refused n) k = refl
 pub refusal-arm : (s : Standby) (reply : ℕ) (r : Record) → OneOf (4 ∷ 5 ∷ 6 ∷ []) (tagOf the-type r) → recordRefusal s reply r ≡ otherRefusal r
 refusal-arm s reply r = other-arm _ _ _ _ (otherRefusal r) r
 
-pub count-arm : (r : Record) → OneOf (4 ∷ 5 ∷ 6 ∷ []) (tagOf the-type r) → resetsCount r ≡ false
-count-arm r = other-arm _ _ _ _ false r
-
-pub state-arm : (s : Standby) (bytes : List ℕ) (r : Record) → OneOf (4 ∷ 5 ∷ 6 ∷ []) (tagOf the-type r) → afterRecord s bytes r ≡ s
+pub state-arm : (s : Standby) (bytes : List ℕ) (r : Record) → OneOf (4 ∷ 5 ∷ 6 ∷ []) (tagOf the-type r) → readState s bytes r ≡ s
 state-arm s bytes r = other-arm _ _ _ _ s r
 
 -- behind PAGE, BLOCK and COMMIT

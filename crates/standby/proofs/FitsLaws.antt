@@ -10,10 +10,8 @@ use Rattle.records.specs.declared.Record.{Record}
 use Rattle.records.specs.declared.Record.the-variants.{Page, Block, State, Commit, Ack, Short, Refused}
 use Rattle.records.specs.declared.Reader.the-variants as reader
 use Rattle.records.proofs.ReadLaws.{RecordFacts}
-use Rattle.detector.specs.declared.Detector.{Detector}
 use Rattle.rules.specs.declared.Standby.{Standby}
 use Rattle.rules.specs.declared.ReadLent.{ReadLent}
-use Rattle.rules.specs.StandbyState.{withDetector}
 use Rattle.rules.specs.Judge.{judged}
 use Rattle.rules.specs.Read.{bytesAt}
 use Rattle.rules.proofs.StandbyFacts.{standby-facts}
@@ -70,13 +68,3 @@ module _ (s : Standby) (l : ReadLent) (bytes : List ℕ) where
   judged-fits =
       let f = judged-facts s l bytes in
       (state-fits (judged s l bytes) f, buffers-fit (judged s l bytes) f)
-
--- the detector has no part in it
-pub fits-watched : (s : Standby) (d : Detector) (n : ℕ) (r : Record) → StateFits s n r → StateFits (withDetector s d) n r
-fits-watched s d n (Page e p c) f = f
-fits-watched s d n (Block e b c) f = f
-fits-watched s d n (State e c) f = f
-fits-watched s d n (Commit e p b c) f = f
-fits-watched s d n (Ack e c) f = f
-fits-watched s d n Short f = f
-fits-watched s d n (Refused k) f = f

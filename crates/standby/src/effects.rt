@@ -12,10 +12,9 @@ ghost use Rattle.pages.specs.Dirty.{installed};
 ghost use Rattle.staging.specs.Slot.{withBlock, withBlockBytes};
 ghost use Rattle.rules.specs.StandbyState.{withPagesNext, withSlotsBlocks};
 ghost use Rattle.rules.specs.Reply.{answerOf};
-ghost use Rattle.rules.specs.Read.{bytesAt, resetsCount, detectorAfter, installedState, afterRecord, readState, memoryAfter, stagedPagesAfter, stagedMarksAfter, stagedBlocksAfter, replyAfter, readLent};
+ghost use Rattle.rules.specs.Read.{bytesAt, installedState, readState, memoryAfter, stagedPagesAfter, stagedMarksAfter, stagedBlocksAfter, replyAfter, readLent};
 ghost use Rattle.standby.specs.Fits.{FieldFits, StateFits, BuffersFit};
 use crate::parts;
-use detector::Detector;
 use records::Cursor;
 use records::Record;
 use records::reading::used_of;
@@ -74,65 +73,40 @@ fn installed_state(s: Standby, epoch: u32) -> Standby
     parts::with_received_slots_processor(s, epoch, due, pending)
 }
 
-// The state after a record, but for the detector.
-fn after_record(s: Standby, bytes: &[u8], r: Record) -> Standby
+// The state after a record: the count "returns to 0 at each accepted record of kinds 1 to 4". The detector is replaced in
+// each arm: where it was replaced before the match, a read of a PAGE of 64 bytes took a third longer
+// (docs/BENCHMARKS.md).
+pub(crate) fn read_state(s: Standby, bytes: &[u8], r: Record) -> Standby
     requires { ⌜ StateFits s (length (now bytes)) r ⌝ }
-    ensures { λ n. ⌜ n ≡ afterRecord s (now (bytes .entry)) r ⌝ }
+    ensures { λ n. ⌜ n ≡ readState s (now (bytes .entry)) r ⌝ }
 {
+    let detector = s.detector;
+    let reset = detector::reset(detector);
     match r {
         Record::Page {
             epoch: _,
             page,
             at: _,
-        } => with_page(s, page),
+        } => with_page(parts::with_detector(s, reset), page),
         Record::Block {
             epoch: _,
             block,
             at: _,
-        } => with_block(s, block),
-        Record::State { epoch: _, at } => parts::with_pending_seen(s, processor(bytes, at)),
+        } => with_block(parts::with_detector(s, reset), block),
+        Record::State { epoch: _, at } => {
+            parts::with_pending_seen(parts::with_detector(s, reset), processor(bytes, at))
+        }
         Record::Commit {
             epoch,
             pages: _,
             blocks: _,
             at: _,
-        } => installed_state(parts::with_no_records(s), epoch),
+        } => installed_state(
+            parts::with_no_records(parts::with_detector(s, reset)),
+            epoch,
+        ),
         _ => s,
     }
-}
-
-// "returns to 0 at each accepted record of kinds 1 to 4".
-fn resets_count(r: Record) -> bool
-    ensures { λ b. ⌜ b ≡ resetsCount r ⌝ }
-{
-    match r {
-        Record::Page { .. } => true,
-        Record::Block { .. } => true,
-        Record::State { .. } => true,
-        Record::Commit { .. } => true,
-        _ => false,
-    }
-}
-
-// The detector after a record.
-fn detector_after(r: Record, d: Detector) -> Detector
-    ensures { λ n. ⌜ n ≡ detectorAfter r d ⌝ }
-{
-    if resets_count(r) {
-        return detector::reset(d);
-    }
-    d
-}
-
-// The state after a record. The detector is replaced first: after the record's own effect it makes the read of a PAGE
-// slower (docs/BENCHMARKS.md).
-pub(crate) fn read_state(s: Standby, bytes: &[u8], r: Record) -> Standby
-    requires { ⌜ StateFits s (length (now bytes)) r ⌝ }
-    ensures { λ n. ⌜ n ≡ readState s (now (bytes .entry)) r ⌝ }
-{
-    let d = s.detector;
-    let detector = detector_after(r, d);
-    after_record(parts::with_detector(s, detector), bytes, r)
 }
 
 // What the judged record answers.
