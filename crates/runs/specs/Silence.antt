@@ -16,39 +16,33 @@ use Rattle.runs.specs.Corollaries.{AfterStart}
 
 -- ---- the silence: the standby's ticks since the last record that it accepted, of whichever kind, or since start
 
+-- the standby's read, its tick, and the other calls once
+abbrev pub byCall : Call → Bool → Bool → Bool → Bool
+byCall c read tick rest =
+    elim c [
+      | call.memoryWrite page offset bytes ↦ rest
+      | call.diskWrite block bytes ↦ rest
+      | call.packet bytes ↦ rest
+      | call.checkpoint processor ↦ rest
+      | call.drain n destination ↦ rest
+      | call.ack n ↦ rest
+      | call.take destination ↦ rest
+      | call.primaryTick ↦ rest
+      | call.read n reply ↦ read
+      | call.flush n ↦ rest
+      | call.standbyTick ↦ tick
+      | call.activation ↦ rest
+      | call.activeMemoryWrite page offset bytes ↦ rest
+      | call.activeDiskWrite block bytes ↦ rest
+    ]
+
 -- which call ends it, if it is accepted: the standby's read
 abbrev pub endsSilence : Call → Bool
-endsSilence (call.memoryWrite page offset bytes) = false
-endsSilence (call.diskWrite block bytes) = false
-endsSilence (call.packet bytes) = false
-endsSilence (call.checkpoint processor) = false
-endsSilence (call.drain n destination) = false
-endsSilence (call.ack n) = false
-endsSilence (call.take destination) = false
-endsSilence call.primaryTick = false
-endsSilence (call.read n reply) = true
-endsSilence (call.flush n) = false
-endsSilence call.standbyTick = false
-endsSilence call.activation = false
-endsSilence (call.activeMemoryWrite page offset bytes) = false
-endsSilence (call.activeDiskWrite block bytes) = false
+endsSilence c = byCall c true false false
 
 -- which call adds a tick to it, if it is accepted: the standby's tick
 abbrev pub addsTick : Call → Bool
-addsTick (call.memoryWrite page offset bytes) = false
-addsTick (call.diskWrite block bytes) = false
-addsTick (call.packet bytes) = false
-addsTick (call.checkpoint processor) = false
-addsTick (call.drain n destination) = false
-addsTick (call.ack n) = false
-addsTick (call.take destination) = false
-addsTick call.primaryTick = false
-addsTick (call.read n reply) = false
-addsTick (call.flush n) = false
-addsTick call.standbyTick = true
-addsTick call.activation = false
-addsTick (call.activeMemoryWrite page offset bytes) = false
-addsTick (call.activeDiskWrite block bytes) = false
+addsTick c = byCall c false true false
 
 -- the ticks after a call with this outcome, where there were n before it: a call refused or cut short leaves them
 abbrev pub silenceAfter : ℕ → Call → Outcome → ℕ
