@@ -9,15 +9,13 @@ use native.Mathlib.Omega.{arith}
 use Rattle.lists.proofs.TestLaws.{by-test, not-both, refuted}
 use Rattle.settings.specs.declared.Settings.{Settings}
 use Rattle.settings.proofs.RangeLaws.{settings-facts}
-use Rattle.rules.specs.declared.Standby.{Standby}
-use Rattle.rules.specs.StandbyState.{isReceiving}
 use Rattle.rules.specs.World.{Processor, Call, Buffers, startLent, startNumber}
 use Rattle.rules.specs.Step.{step}
 use Rattle.rules.proofs.StartLaws.{start-accepted}
 use Rattle.runs.specs.Run.{Both, steps, runCall, run, startBoth}
-use Rattle.runs.specs.Cut.{Cut, countedCalls}
-use Rattle.runs.specs.Corollaries.{pairAfter, AfterStart}
-use Rattle.runs.specs.Silence.{silenceAfter, silenceFrom, silence, HadSilence, receiving, SilenceRight, TakesOverOnlyInSilence}
+use Rattle.runs.specs.Cut.{countedCalls}
+use Rattle.runs.specs.Corollaries.{pairAfter}
+use Rattle.runs.specs.Silence.{silenceAfter, silenceFrom, silence, receiving, SilenceRight, TakesOverOnlyInSilence}
 use Rattle.runs.proofs.PlainLaws.{run-append}
 use Rattle.runs.proofs.StartCall.{begun-is}
 use Rattle.runs.proofs.SilenceLaws.{Silent, step-goes}

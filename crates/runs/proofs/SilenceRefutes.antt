@@ -19,7 +19,7 @@ use Rattle.runs.specs.Run.{Both, Steps, runCall, run}
 use Rattle.runs.specs.Silence.{silenceAfter, silenceFrom, HadSilence, receiving, SilenceRight, TakesOverOnlyInSilenceOf}
 use Rattle.runs.proofs.Compute.{allSteps}
 use Rattle.runs.proofs.CutLaws.{noCut, counted-uncut}
-use Rattle.runs.proofs.Small.{small, processorOf, buffers, begun, small-starts, zeros, sent, reads}
+use Rattle.runs.proofs.Small.{small, processorOf, buffers, begun, small-starts, sent, reads}
 use Rattle.runs.proofs.Wrong.{insteadOf, wrongly, acceptsKind, leaving, standbyWith}
 
 -- what the claim says of a list with no cut
