@@ -34,19 +34,25 @@ extern "C" {
  *
  * u is the setting U, the bytes in a page and in a block. bytes points to len readable bytes.
  *
- * The answer is one word, number + 256 * kind + 65536 * used:
+ * The answer is one word, number + 256 * kind + 65536 * count:
  *
- *   number  kind    used
+ *   number  kind    count
  *   1       0       0       U is not a multiple of 64 from 64 to 4096
  *   6       0       0       the header's kind is not 1 to 5
  *   7       0       0       the header's length is not that kind's
- *   0       0       0       cut short: call again with more bytes behind these
- *   0       1 to 5  4 + n   a whole record of that kind, with a body of n bytes
+ *   0       0       1 to 4  cut short in the header: the bytes missing of its 4
+ *   0       0       1 to n  cut short in the body of n bytes: the bytes missing of the record
+ *   0       1 to 5  4 + n   a whole record of that kind, with a body of n bytes: the bytes used
  *
  * They are judged in this order: 1, fewer than the header's 4 bytes (cut short), 6, 7, fewer bytes
  * than the record's (cut short). Bytes behind the record are not looked at. Nor are the body's
  * fields: only the end that reads the record judges its epoch, numbers and counts. With U in its
  * range, U + 10 bytes are never cut short.
+ *
+ * Where cut short, call again once the missing bytes have come behind these: with fewer it is cut
+ * short again, of the rest; with all of them, or more, it is cut short again only if these were
+ * fewer than 4, and then of the body. So a daemon that receives what is missing, and no byte more,
+ * tests each record three times: with no byte, with the header and with the whole record.
  */
 uint64_t record_test(uint64_t u, const uint8_t *bytes, size_t len);
 
@@ -78,16 +84,22 @@ static inline unsigned record_kind(uint64_t word)
     return (unsigned)(word >> 8 & 255);
 }
 
-/* The record's bytes, header and body, or 0 where no whole record is there. */
-static inline size_t record_used(uint64_t word)
-{
-    return (size_t)(word >> 16);
-}
-
 /* Whether more bytes are wanted before the record can be judged. */
 static inline int record_cut_short(uint64_t word)
 {
     return (word & 65535) == 0;
+}
+
+/* The record's bytes, header and body, or 0 where no whole record is there. */
+static inline size_t record_used(uint64_t word)
+{
+    return record_cut_short(word) ? 0 : (size_t)(word >> 16);
+}
+
+/* How many more bytes are wanted: 1 or more where cut short, else 0. */
+static inline size_t record_missing(uint64_t word)
+{
+    return record_cut_short(word) ? (size_t)(word >> 16) : 0;
 }
 
 /*

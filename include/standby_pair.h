@@ -99,19 +99,13 @@ enum {
     NUMBER_NOTHING_FREE = 18,   /* no packet may be handed out */
     NUMBER_LAST_EPOCH = 19,     /* the open epoch is 4294967295 */
     NUMBER_BLOCKS_DUE = 20,     /* blocks are still due at activation */
-    NUMBER_CUT_SHORT = 256      /* ours: the record is not all there; give it with more behind it */
+    NUMBER_CUT_SHORT = 256      /* ours: the record is not all there; answer_missing says how much */
 };
 
 /* 0 where the call is accepted, NUMBER_CUT_SHORT, or why it is refused. */
 static inline unsigned answer_number(uint64_t answer)
 {
     return (unsigned)(answer & 65535);
-}
-
-/* How many bytes the record of standby_read or primary_acknowledge used; 0 in all other answers. */
-static inline size_t answer_used(uint64_t answer)
-{
-    return (size_t)(answer >> 16 & 65535);
 }
 
 /* The call's value; 0 where it is refused or cut short. */
@@ -124,6 +118,18 @@ static inline uint32_t answer_value(uint64_t answer)
 static inline int answer_cut_short(uint64_t answer)
 {
     return answer_number(answer) == NUMBER_CUT_SHORT;
+}
+
+/* How many bytes the record of standby_read or primary_acknowledge used; 0 in all other answers. */
+static inline size_t answer_used(uint64_t answer)
+{
+    return answer_cut_short(answer) ? 0 : (size_t)(answer >> 16 & 65535);
+}
+
+/* How many more bytes are wanted, as record_missing of link.h says it; 0 where not cut short. */
+static inline size_t answer_missing(uint64_t answer)
+{
+    return answer_cut_short(answer) ? (size_t)(answer >> 16 & 65535) : 0;
 }
 
 /* ---- Settings, lengths and limits. ---- */

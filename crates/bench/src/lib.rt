@@ -240,7 +240,7 @@ fn read_at(
     if bytes.len() < at {
         return StandbyAnswer {
             state: s,
-            answer: Answer::Short,
+            answer: Answer::Short { missing: 4 },
         };
     }
     read(s, &bytes[at..], memory, pages, marks, blocks, reply)
@@ -250,7 +250,7 @@ fn read_at(
 fn behind(at: usize, a: Answer) -> usize {
     let n = match a {
         Answer::Accepted { value: _, used } => used,
-        Answer::Short => 0,
+        Answer::Short { missing: _ } => 0,
         Answer::Refused { number: _ } => 0,
     };
     if 65536 < n {

@@ -14,6 +14,8 @@ use Rattle.settings.proofs.RangeLaws.{settings-facts}
 use Rattle.rules.specs.declared.Primary.{Primary}
 use Rattle.rules.specs.declared.Standby.{Standby}
 use Rattle.rules.specs.Start.{started}
+use Rattle.rules.specs.Stream.{ackReply}
+use Rattle.rules.specs.Read.{readLent, readReply}
 use Rattle.rules.specs.PrimaryWrites.{memoryWriteRefusal, memoryWriteReply}
 use Rattle.rules.proofs.ReplyLaws.{pick-cases}
 use Rattle.rules.specs.Choose.{choiceOf, choiceNumber, diskOf}
@@ -22,7 +24,7 @@ use Rattle.rules.specs.declared.Choice.the-variants as choice-of
 use Rattle.rules.specs.World.{World, Processor, Buffers, startLent, startNumber, startWorld}
 use Rattle.rules.specs.World as call
 use Rattle.rules.specs.Step.{step, outcome, atPrimary, atStandby}
-use Rattle.capi.specs.Word.{answerWord, answerNumber, answerUsed, answerValue, Leaves}
+use Rattle.capi.specs.Word.{replyWord, answerNumber, answerUsed, answerValue, Leaves}
 use Rattle.capi.specs.PrimaryWords.{primaryWords, primaryWordsOk, primaryOf}
 use Rattle.capi.specs.StandbyWords.{standbyWords, standbyOf}
 use Rattle.capi.specs.PrimaryCalls.{PrimaryDone, MemoryWriteDone, DiskWriteDone, PacketDone, CheckpointDone, DrainDone, AckDone, TakeDone, PrimaryTickDone}
@@ -31,25 +33,33 @@ use Rattle.capi.specs.PairCalls.{settingsOf, startWordsOk, StartDone, ch
 use Rattle.capi.specs.Joined.{primaryEnd, standbyEnd, withLink, withAcks, toldStep, ackSent}
 use Rattle.capi.proofs.PrimaryWordLaws.{primary-again, primary-words-again}
 use Rattle.capi.proofs.StandbyWordLaws.{standby-words-again}
-use Rattle.capi.proofs.AnswerLaws.{AnswerFits, Parts, answer-parts, memory-write-fits, disk-write-fits, packet-fits, checkpoint-fits, drain-fits, ack-fits, take-fits, primary-tick-fits, read-fits, flush-fits, standby-tick-fits, activation-fits, active-memory-write-fits, active-disk-write-fits, start-fits, choice-fits}
+use Rattle.capi.proofs.AnswerLaws.{ReplyFits, Parts, reply-parts, record-parts, memory-write-fits, disk-write-fits, packet-fits, checkpoint-fits, drain-fits, ack-fits, take-fits, primary-tick-fits, read-fits, flush-fits, standby-tick-fits, activation-fits, active-memory-write-fits, active-disk-write-fits, start-fits, choice-fits}
 
 -- ---- what every call leaves, where it is lent a state
 
 -- the state of the words after it is the next one, and the answer's parts are those of the reply
-pub record Told {S : Type 0} (after next : S) (answer n u v : ℕ) : Type 0 where
+pub record Told {S : Type 0} (after next : S) (answer n u m v : ℕ) : Type 0 where
   pub state : after ≡ next
-  pub parts : Parts answer n u v
+  pub parts : Parts answer n u m v
 
-module _ {n u v answer : ℕ} (fits : AnswerFits n u v) where
-  parts-told : {ok : Bool} → ok ≡ true → answer ≡ cond ok (answerWord n u v) outOfRange → Parts answer n u v
-  parts-told ok told = subst (λ (x : ℕ). Parts x n u v) (sym (told ∙ cond-true _ _ _ ok)) (answer-parts n u v fits)
+module _ {word n u m v answer : ℕ} (parts : Parts word n u m v) where
+  parts-told : {ok : Bool} → ok ≡ true → answer ≡ cond ok word outOfRange → Parts answer n u m v
+  parts-told ok told = subst (λ (x : ℕ). Parts x n u m v) (sym (told ∙ cond-true _ _ _ ok)) parts
 
-  pub primary-told : {ok : Bool} {w w′ : List ℕ} {next : Primary} → ok ≡ true → PrimaryDone ok w next (answerWord n u v) answer w′ → Told (primaryOf w′) next answer n u v
-  primary-told {next = next} ok done =
+  primary-answered : {ok : Bool} {w w′ : List ℕ} {next : Primary} → ok ≡ true → PrimaryDone ok w next word answer w′ → Told (primaryOf w′) next answer n u m v
+  primary-answered {next = next} ok done =
       record { state = ap primaryOf (done .words ∙ cond-true _ _ _ ok) ∙ primary-again next; parts = parts-told ok (done .told) }
 
-  pub standby-told : {ok : Bool} {w w′ : LentStandby} {next : Standby} → ok ≡ true → StandbyDone ok w next (answerWord n u v) answer w′ → Told (standbyIn w′) next answer n u v
-  standby-told ok done = record { state = done .same ok; parts = parts-told ok (done .told) }
+  standby-answered : {ok : Bool} {w w′ : LentStandby} {next : Standby} → ok ≡ true → StandbyDone ok w next word answer w′ → Told (standbyIn w′) next answer n u m v
+  standby-answered ok done = record { state = done .same ok; parts = parts-told ok (done .told) }
+
+-- of a call that reads no record
+module _ {n v answer : ℕ} (fits : ReplyFits n v) where
+  pub primary-told : {ok : Bool} {w w′ : List ℕ} {next : Primary} → ok ≡ true → PrimaryDone ok w next (replyWord n v) answer w′ → Told (primaryOf w′) next answer n 0 0 v
+  primary-told = primary-answered (reply-parts fits)
+
+  pub standby-told : {ok : Bool} {w w′ : LentStandby} {next : Standby} → ok ≡ true → StandbyDone ok w next (replyWord n v) answer w′ → Told (standbyIn w′) next answer n 0 0 v
+  standby-told = standby-answered (reply-parts fits)
 
 -- ---- the primary's calls: the end that a call leaves has the words and the buffers after it
 module _ (κ : World) (w memory disk dirty held stream : List ℕ) (answer : ℕ) (w′ : List ℕ) (ok : primaryWordsOk w ≡ true) where
@@ -100,8 +110,9 @@ module _ (κ : World) (w memory disk dirty held stream : List ℕ) (answer : ℕ
       ≡ toldStep (withAcks (atPrimary κ (primaryEnd w′ memory disk dirty held stream)) (drop (answerUsed answer) (κ .acks))) answer
   unfolding step
   ack-joined n done =
-      let t = primary-told (ack-fits w ok _) ok done in
-      rw (t .state, t .parts .number-is, t .parts .used-is, t .parts .value-is)
+      let bytes = take n (κ .acks) in
+      let t = primary-answered (record-parts (ackReply (primaryOf w) bytes .answer) (ack-fits w ok bytes)) ok done in
+      rw (t .state, t .parts .used-is, t .parts .number-is, t .parts .value-is)
 
   -- the packet is the first bytes of the destination, as many as the value says
   pub take-joined : (destination held′ destination′ : List ℕ) → TakeDone w held destination answer w′ held′ destination′
@@ -128,8 +139,10 @@ module _ (κ : World) (w : LentStandby) (memory disk pages marks blocks area : L
       ≡ toldStep (withAcks (withLink (atStandby κ (standbyEnd w′ memory′ disk pages′ marks′ blocks′ area)) (drop (answerUsed answer) (κ .link))) (κ .acks ++ ackSent answer reply′)) answer
   unfolding step recordLength bodyLength
   read-joined n reply memory′ pages′ marks′ blocks′ reply′ done =
-      let t = standby-told (read-fits (standbyIn w) _ _) ok (done .0) in
-      rw (t .state, t .parts .number-is, t .parts .used-is, t .parts .value-is, done .1, done .2, done .3, done .4, done .5, ok)
+      let l = readLent memory pages marks blocks reply in
+      let bytes = take n (κ .link) in
+      let t = standby-answered (record-parts (readReply (standbyIn w) l bytes .answer) (read-fits (standbyIn w) l bytes)) ok (done .0) in
+      rw (t .state, t .parts .used-is, t .parts .number-is, t .parts .value-is, done .1, done .2, done .3, done .4, done .5, ok)
 
   pub flush-joined : (n : ℕ) (blocks′ disk′ : List ℕ) → FlushDone w blocks disk n answer w′ blocks′ disk′
       → step (atStandby κ (standbyEnd w memory disk pages marks blocks area)) (call.flush n)
@@ -182,7 +195,7 @@ pub start-joined : (settings : List ℕ) (processor : Processor) (b : Buffers) (
       link = [];
       acks = [];
     })
-    × Parts answer (startNumber (settingsOf settings) b) 0 0
+    × Parts answer (startNumber (settingsOf settings) b) 0 0 0
 unfolding startWorld started
 start-joined settings processor b primary standby answer dirty′ memory′ disk′ marks′ area′ primary′ standby′ ok done =
     let fits = start-fits (settingsOf settings) (startLent b) (processor .bytes) in
@@ -206,7 +219,7 @@ pub record ChoiceJoined (c : Choice) (word : ℕ) : Type 0 where
 pub choice-joined : (primary standby : ℕ) (area : List ℕ) → ChoiceJoined (choiceOf primary standby area) (choiceWord (choiceOf primary standby area))
 choice-joined primary standby area =
     let c = choiceOf primary standby area in
-    let t = answer-parts _ _ _ (choice-fits primary standby area) in
+    let t = reply-parts (choice-fits primary standby area) in
     record { number-is = t .number-is; value-is = t .value-is; primary = λ e. first c (sym (t .value-is) ∙ e); standby = λ e. second c (sym (t .value-is) ∙ e) }
   where
     first : (c : Choice) → diskOf c ≡ 1 → c ≡ choice-of.PrimaryDisk

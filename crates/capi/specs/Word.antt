@@ -5,20 +5,31 @@ use mathlib.Core.Bool.{Bool, true, _&&_, cond}
 use mathlib.Core.List.{List, [], _∷_}
 use lib.Dec.{leb, eqb}
 use lib.ListN.{take, drop}
+use Rattle.records.specs.Read.{cutShort}
 use Rattle.rules.specs.declared.Answer.{Answer}
-use Rattle.rules.specs.Reply.{numberOf, valueOf, usedOf}
+use Rattle.rules.specs.declared.Answer.the-variants.{Accepted, Short, Refused}
+use Rattle.rules.specs.Reply.{numberOf, valueOf}
 
--- ---- the answer of a call as one word: the number in the low 16 bits, the bytes used in the next 16, the value above.
+-- ---- the answer of a call as one word: the number in the low 16 bits, a count of bytes in the next 16, the value above.
 -- Each part is taken modulo its width, so that the sum cannot wrap; that nothing is cut off is a law of each call
 abbrev pub answerWord : ℕ → ℕ → ℕ → ℕ
-answerWord number used value = number % 65536 + 65536 * (used % 65536) + 4294967296 * (value % 4294967296)
+answerWord number count value = number % 65536 + 65536 * (count % 65536) + 4294967296 * (value % 4294967296)
 
--- its three parts, as the caller takes them out
+-- its parts, as the caller takes them out: the bytes counted are those missing where it is cut short, else those used
 abbrev pub answerNumber : ℕ → ℕ
 answerNumber word = word % 65536
 
+abbrev pub answerCutShort : ℕ → Bool
+answerCutShort word = eqb (answerNumber word) cutShort
+
+abbrev pub answerCount : ℕ → ℕ
+answerCount word = word / 65536 % 65536
+
 abbrev pub answerUsed : ℕ → ℕ
-answerUsed word = word / 65536 % 65536
+answerUsed word = cond (answerCutShort word) 0 (answerCount word)
+
+abbrev pub answerMissing : ℕ → ℕ
+answerMissing word = cond (answerCutShort word) (answerCount word) 0
 
 abbrev pub answerValue : ℕ → ℕ
 answerValue word = word / 4294967296
@@ -27,9 +38,14 @@ answerValue word = word / 4294967296
 abbrev pub replyWord : ℕ → ℕ → ℕ
 replyWord number value = answerWord number 0 value
 
--- of one that reads a record; cut short has its number, 256
+-- of one that reads a record; cut short has its number, 256, and the bytes missing
+abbrev pub countOf : Answer → ℕ
+countOf (Accepted value used) = used
+countOf (Short missing) = missing
+countOf (Refused number) = 0
+
 abbrev pub recordWord : Answer → ℕ
-recordWord a = answerWord (numberOf a) (usedOf a) (valueOf a)
+recordWord a = answerWord (numberOf a) (countOf a) (valueOf a)
 
 -- ---- a word that fits a field of 32 bits
 abbrev pub most32 : ℕ

@@ -48,10 +48,10 @@ pub(crate) fn flag_word(b: bool) -> u64
     0
 }
 
-fn answer(number: u64, used: u64, value: u64) -> u64
-    ensures { λ r. ⌜ r ≡ answerWord number used value ⌝ }
+fn answer(number: u64, count: u64, value: u64) -> u64
+    ensures { λ r. ⌜ r ≡ answerWord number count value ⌝ }
 {
-    number % 65536 + 65536 * (used % 65536) + 4294967296 * (value % 4294967296)
+    number % 65536 + 65536 * (count % 65536) + 4294967296 * (value % 4294967296)
 }
 
 // The answer of a call that reads no record.
@@ -67,7 +67,7 @@ pub(crate) fn record_word(a: Answer) -> u64
 {
     match a {
         Answer::Accepted { value, used } => answer(0, used as u64, value),
-        Answer::Short => answer(CUT_SHORT, 0, 0),
+        Answer::Short { missing } => answer(CUT_SHORT, missing as u64, 0),
         Answer::Refused { number } => answer(number, 0, 0),
     }
 }

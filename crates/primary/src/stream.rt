@@ -175,7 +175,7 @@ fn answer_of(r: Record) -> Answer
     ensures { λ a. ⌜ a ≡ answerOf r ⌝ }
 {
     match r {
-        Record::Short => Answer::Short,
+        Record::Short { missing } => Answer::Short { missing },
         Record::Refused { number } => Answer::Refused { number },
         _ => Answer::Accepted {
             value: value_of(r),

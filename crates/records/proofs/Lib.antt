@@ -2,5 +2,6 @@
 pub mod FrameLaws
 pub mod ReadLaws
 pub mod MessageLaws
+pub mod MissingLaws
 pub mod WriteLaws
 pub mod AreaLaws

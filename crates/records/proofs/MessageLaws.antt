@@ -15,9 +15,10 @@ use Rattle.lists.proofs.TestLaws.{lt-or-ge}
 use Rattle.lists.proofs.LittleEndianLaws.{length-leBytes, leAt-leBytes, leAt-skip}
 use Rattle.records.specs.declared.Reader.{Reader}
 use Rattle.records.specs.declared.Record.the-variants.{Short}
-use Rattle.records.specs.Kind.{unitOk, PAGE, BLOCK, STATE, COMMIT, ACK, bodyLength, recordLength, isFor}
+use Rattle.records.specs.Kind.{unitOk, PAGE, BLOCK, STATE, COMMIT, ACK, bodyLength, headerLength, recordLength, isFor}
 use Rattle.records.specs.Read.{fieldsOf, readRecord, cursorOf, usedOf}
 use Rattle.records.specs.Write.{frame, unitRecord, stateRecord, commitRecord, epochRecord}
+use Rattle.records.specs.Missing.{missingFrom}
 use Rattle.records.specs.Message.{Message, page, block, state, commit, ack, messageKind, encode, encodeAll, readAs, Fits}
 use Rattle.records.proofs.FrameLaws.{length-frame}
 use Rattle.records.proofs.ReadLaws.{Framed, read-no-header, frame-read, frame-short, epoch-at, field-at}
@@ -115,7 +116,7 @@ message-bytes u (ack e) f rest = refl
 -- ---- reading
 module _ (reader : Reader) (u : ℕ) (v : unitOk u ≡ true) where
   -- where no byte is
-  pub read-none : readRecord reader u [] ≡ Short
+  pub read-none : readRecord reader u [] ≡ Short headerLength
   read-none = read-no-header reader u [] v (omega arith)
 
   module _ (m : Message) (f : Fits u m) (k : isFor reader (messageKind m) ≡ true) where
@@ -127,8 +128,8 @@ module _ (reader : Reader) (u : ℕ) (v : unitOk u ≡ true) where
     read-message rest =
         rw (encode-frame m) (frame-read reader u (messageKind m) (bodyOf m) framed rest ∙ fields-message u m f rest)
 
-    -- any first part of it is cut short
-    pub short-message : (n : ℕ) (rest : List ℕ) → n < length (encode m) → readRecord reader u (take n (encode m ++ rest)) ≡ Short
+    -- any first part of it is cut short, by what is missing of its header or its body
+    pub short-message : (n : ℕ) (rest : List ℕ) → n < length (encode m) → readRecord reader u (take n (encode m ++ rest)) ≡ Short (missingFrom (length (encode m)) n)
     short-message n rest h =
         rw (encode-frame m) (frame-short reader u (messageKind m) (bodyOf m) framed n rest (rw (encode-frame m) at h))
 
@@ -138,7 +139,7 @@ module _ (reader : Reader) (u : ℕ) (v : unitOk u ≡ true) where
         rw (rw e at (take-append-add (encode m) rest (n - length (encode m)))) (read-message (take (n - length (encode m)) rest))
 
     -- any first part of a stream that starts with it is cut short or the message, by where the cut is
-    pub cut-message : (n : ℕ) (rest : List ℕ) → readRecord reader u (take n (encode m ++ rest)) ≡ cond (leb (length (encode m)) n) (readAs u m) Short
+    pub cut-message : (n : ℕ) (rest : List ℕ) → readRecord reader u (take n (encode m ++ rest)) ≡ cond (leb (length (encode m)) n) (readAs u m) (Short (missingFrom (length (encode m)) n))
     cut-message n rest =
         ⊎-elim
         (λ h. rw (lt-leb (length (encode m)) n h) (short-message n rest h))
@@ -146,7 +147,7 @@ module _ (reader : Reader) (u : ℕ) (v : unitOk u ≡ true) where
         (lt-or-ge n (length (encode m)))
 
     pub stream-cut : (ms : List Message) (n : ℕ) (rest : List ℕ)
-        → readRecord reader u (take n (encodeAll (m ∷ ms) ++ rest)) ≡ cond (leb (length (encode m)) n) (readAs u m) Short
+        → readRecord reader u (take n (encodeAll (m ∷ ms) ++ rest)) ≡ cond (leb (length (encode m)) n) (readAs u m) (Short (missingFrom (length (encode m)) n))
     stream-cut ms n rest = rw (append-assoc (encode m) (encodeAll ms) rest) (cut-message n (encodeAll ms ++ rest))
 
 -- the bytes of two lists of messages, one after the other

@@ -3,14 +3,14 @@ use mathlib.Core.Path.{_≡_, refl, sym, ap, subst, _∙_}
 use mathlib.Core.Bool.{Bool, true, false, cond, false≢true}
 use mathlib.Core.Logic.{_⊎_, inl, inr, ⊎-elim}
 use mathlib.Core.List.{List, [], _∷_, _++_, append-assoc}
-use Prim.Native.Nat.{ℕ, zero, suc, _+_, _%_, _^_, _≤_, _<_}
+use Prim.Native.Nat.{ℕ, zero, suc, _+_, _-_, _%_, _^_, _≤_, _<_}
 use native.Mathlib.Omega.{arith}
 use lib.Dec.{leb, eqb}
 use lib.ListN.{length, getD, take, length-append}
 use lib.Seq.{length-take-le}
 use types.Run.{OneOf, miss}
 use denote.Enum.Declared.{tagOf}
-use borrow.Author.Tests.{leb-true, eqb-true, le-leb, lt-leb, eq-eqb, ne-eqb}
+use borrow.Author.Tests.{leb-true, leb-false, eqb-true, le-leb, lt-leb, eq-eqb, ne-eqb}
 use Rattle.lists.specs.Refusal.{within}
 use Rattle.lists.specs.LittleEndian.{leBytes, leAt}
 use Rattle.lists.proofs.TestLaws.{both, lt-or-ge, within-facts, within-of}
@@ -20,10 +20,11 @@ use Rattle.records.specs.declared.Reader.{Reader}
 use Rattle.records.specs.declared.Reader.the-variants.{Test, Standby, Primary}
 use Rattle.records.specs.declared.Record.{Record}
 use Rattle.records.specs.declared.Record.the-variants.{Page, Block, State, Commit, Ack, Short, Refused}
-use Rattle.records.specs.Number.{badKind}
+use Rattle.records.specs.Number.{badKind, badLength}
 use Rattle.records.specs.Kind.{unitOk, PAGE, BLOCK, STATE, COMMIT, ACK, processorBytes, bodyLength, headerLength, recordLength, isFor}
 use Rattle.records.specs.Cases.{onAck, byKind, onFound}
-use Rattle.records.specs.Read.{cursor, fieldsOf, readRecord, cutShort, numberOf, otherRefusal, kindOf, cursorOf, usedOf}
+use Rattle.records.specs.Read.{cursor, fieldsOf, readRecord, cutShort, numberOf, otherRefusal, kindOf, cursorOf, usedOf, missingOf}
+use Rattle.records.specs.Missing.{missingFrom}
 use Rattle.records.specs.Write.{frame}
 use Rattle.records.proofs.Record.{the-type}
 use Rattle.records.proofs.FrameLaws.{length-frame}
@@ -72,6 +73,14 @@ pub record Whole (reader : Reader) (u : ℕ) (s : List ℕ) : Type 0 where
   pub size : leAt 2 s 0 ≡ bodyLength u (leAt 2 s 2)
   pub body : recordLength u (leAt 2 s 2) ≤ length s
 
+-- a record whose body is not all there, once its kind and its length have passed
+pub record BodyCut (reader : Reader) (u : ℕ) (s : List ℕ) : Type 0 where
+  pub unit : unitOk u ≡ true
+  pub header : headerLength ≤ length s
+  pub kind : isFor reader (leAt 2 s 2) ≡ true
+  pub size : leAt 2 s 0 ≡ bodyLength u (leAt 2 s 2)
+  pub body : length s < recordLength u (leAt 2 s 2)
+
 module _ (reader : Reader) (u : ℕ) (s : List ℕ) where
   pub read-unit : unitOk u ≡ false → readRecord reader u s ≡ Refused 1
   unfolding readRecord
@@ -83,8 +92,12 @@ module _ (reader : Reader) (u : ℕ) (s : List ℕ) where
       let h : headerLength ≤ length s = omega (arith, w .body) in
       rw (w .unit, le-leb _ _ h, w .kind, eq-eqb _ _ (w .size), le-leb _ _ (w .body))
 
+  pub read-no-body : BodyCut reader u s → readRecord reader u s ≡ Short (recordLength u (leAt 2 s 2) - length s)
+  unfolding readRecord
+  read-no-body c = rw (c .unit, le-leb _ _ (c .header), c .kind, eq-eqb _ _ (c .size), lt-leb _ _ (c .body))
+
   module _ (v : unitOk u ≡ true) where
-    pub read-no-header : length s < headerLength → readRecord reader u s ≡ Short
+    pub read-no-header : length s < headerLength → readRecord reader u s ≡ Short (headerLength - length s)
     unfolding readRecord
     read-no-header h = rw (v, lt-leb _ _ h)
 
@@ -98,34 +111,42 @@ module _ (reader : Reader) (u : ℕ) (s : List ℕ) where
         unfolding readRecord
         read-length l = rw (v, le-leb _ _ h, k, ne-eqb _ _ l)
 
-        pub read-no-body : leAt 2 s 0 ≡ bodyLength u (leAt 2 s 2) → length s < recordLength u (leAt 2 s 2) → readRecord reader u s ≡ Short
-        unfolding readRecord
-        read-no-body l b = rw (v, le-leb _ _ h, k, eq-eqb _ _ l, lt-leb _ _ b)
-
 -- ---- the ways through the definitions: a fact of what is read is shown at each answer
 pub read-cases : (P : Record → Type 0) (reader : Reader) (u : ℕ) (s : List ℕ)
     → (unitOk u ≡ false → P (Refused 1))
     → (unitOk u ≡ true → isFor reader (leAt 2 s 2) ≡ false → P (Refused 6))
     → (unitOk u ≡ true → isFor reader (leAt 2 s 2) ≡ true → P (Refused 7))
-    → (unitOk u ≡ true → P Short)
+    → (unitOk u ≡ true → length s < headerLength → P (Short (headerLength - length s)))
+    → (BodyCut reader u s → P (Short (recordLength u (leAt 2 s 2) - length s)))
     → (Whole reader u s → P (fieldsOf u (leAt 2 s 2) s))
     → P (readRecord reader u s)
 unfolding readRecord
-read-cases P reader u s r1 r6 r7 sh f =
+read-cases P reader u s r1 r6 r7 sh sb f =
     let k = leAt 2 s 2 in
     go (unitOk u) (leb headerLength (length s)) (isFor reader k) (eqb (leAt 2 s 0) (bodyLength u k)) (leb (recordLength u k) (length s))
-    r1 r6 r7 sh
+    r1 r6 r7
+    (λ v h. sh v (leb-false headerLength (length s) h))
+    (λ v h i l b.
+    sb (record {
+      unit = v;
+      header = leb-true headerLength (length s) h;
+      kind = i;
+      size = eqb-true (leAt 2 s 0) (bodyLength u k) l;
+      body = leb-false (recordLength u k) (length s) b;
+    }))
     (λ v i l b. f (record { unit = v; kind = i; size = eqb-true (leAt 2 s 0) (bodyLength u k) l; body = leb-true (recordLength u k) (length s) b }))
   where
-    go : (v h i l b : Bool) → (v ≡ false → P (Refused 1)) → (v ≡ true → i ≡ false → P (Refused 6)) → (v ≡ true → i ≡ true → P (Refused 7)) → (v ≡ true → P Short)
+    go : (v h i l b : Bool) → (v ≡ false → P (Refused 1)) → (v ≡ true → i ≡ false → P (Refused 6)) → (v ≡ true → i ≡ true → P (Refused 7))
+        → (v ≡ true → h ≡ false → P (Short (headerLength - length s)))
+        → (v ≡ true → h ≡ true → i ≡ true → l ≡ true → b ≡ false → P (Short (recordLength u (leAt 2 s 2) - length s)))
         → (v ≡ true → i ≡ true → l ≡ true → b ≡ true → P (fieldsOf u (leAt 2 s 2) s))
-        → P (cond v (cond h (cond i (cond l (cond b (fieldsOf u (leAt 2 s 2) s) Short) (Refused 7)) (Refused 6)) Short) (Refused 1))
-    go false h i l b r1 r6 r7 sh f = r1 refl
-    go true false i l b r1 r6 r7 sh f = sh refl
-    go true true false l b r1 r6 r7 sh f = r6 refl refl
-    go true true true false b r1 r6 r7 sh f = r7 refl refl
-    go true true true true false r1 r6 r7 sh f = sh refl
-    go true true true true true r1 r6 r7 sh f = f refl refl refl refl
+        → P (cond v (cond h (cond i (cond l (cond b (fieldsOf u (leAt 2 s 2) s) (Short (recordLength u (leAt 2 s 2) - length s))) (Refused 7)) (Refused 6)) (Short (headerLength - length s))) (Refused 1))
+    go false h i l b r1 r6 r7 sh sb f = r1 refl
+    go true false i l b r1 r6 r7 sh sb f = sh refl refl
+    go true true false l b r1 r6 r7 sh sb f = r6 refl refl
+    go true true true false b r1 r6 r7 sh sb f = r7 refl refl
+    go true true true true false r1 r6 r7 sh sb f = sb refl refl refl refl refl
+    go true true true true true r1 r6 r7 sh sb f = f refl refl refl refl
 
 pub fields-cases : (P : Record → Type 0) (u kind : ℕ) (s : List ℕ) → isFor Test kind ≡ true
     → (kind ≡ PAGE → P (Page (leAt 4 s 4) (leAt 2 s 8) (cursor 10 (recordLength u PAGE))))
@@ -172,8 +193,8 @@ module _ (reader : Reader) (u kind : ℕ) (body : List ℕ) (f : Framed reader u
       (record { unit = f .unit; kind = rw kind-at (f .for-reader); size = rw (length-at, kind-at) (sym (f .size)); body = rw kind-at b })
       ∙ ap (λ (k : ℕ). fieldsOf u k s) (kind-at rest)
 
-  -- any first part of it is cut short
-  pub frame-short : (n : ℕ) (rest : List ℕ) → n < length (frame kind body) → readRecord reader u (take n (frame kind body ++ rest)) ≡ Short
+  -- any first part of it is cut short, by what is missing of its header or its body
+  pub frame-short : (n : ℕ) (rest : List ℕ) → n < length (frame kind body) → readRecord reader u (take n (frame kind body ++ rest)) ≡ Short (missingFrom (length (frame kind body)) n)
   unfolding recordLength
   frame-short n rest h =
       let s = frame kind body ++ rest in
@@ -181,12 +202,15 @@ module _ (reader : Reader) (u kind : ℕ) (body : List ℕ) (f : Framed reader u
       let whole : length s ≡ 4 + length body + length rest = simp (length-append, length-frame) in
       let len : length (take n s) ≡ n = length-take-le n s (omega arith) in
       ⊎-elim
-      (λ (c : n < 4). read-no-header reader u (take n s) (f .unit) (omega arith))
+      (λ (c : n < 4). read-no-header reader u (take n s) (f .unit) (omega arith) ∙ ap (λ (m : ℕ). Short (4 - m)) len ∙ sym (ap Short (rw (lt-leb 4 n c))))
       (λ (c : 4 ≤ n).
       let l0 : leAt 2 (take n s) 0 ≡ length body = leAt-take 2 0 n s (omega arith) ∙ length-at rest in
       let l2 : leAt 2 (take n s) 2 ≡ kind = leAt-take 2 2 n s (omega arith) ∙ kind-at rest in
       let b : length (take n s) < recordLength u kind = omega (arith, f .size) in
-      read-no-body reader u (take n s) (f .unit) (omega arith) (rw l2 (f .for-reader)) (rw (l0, l2) (sym (f .size))) (rw l2 b))
+      let m : recordLength u kind - length (take n s) ≡ length (frame kind body) - n = omega (arith, f .size, length-frame kind body) in
+      read-no-body reader u (take n s) (record { unit = f .unit; header = omega arith; kind = rw l2 (f .for-reader); size = rw (l0, l2) (sym (f .size)); body = rw l2 b })
+      ∙ ap (λ (k : ℕ). Short (recordLength u k - length (take n s))) l2
+      ∙ ap Short (m ∙ sym (rw (le-leb 4 n c))))
       (lt-or-ge n 4)
 
 -- the fields of a frame: the epoch, and what follows it
@@ -205,31 +229,34 @@ field-at k kind epoch t rest i =
 
 -- it is of some kind, neither cut short nor refused
 abbrev pub isFound : Record → Bool
-isFound r = onFound r true false (λ n. false)
+isFound r = onFound r true (λ n. false) (λ n. false)
 
-pub on-found {ℓ} : {A : Type ℓ} (found short : A) (refused : ℕ → A) (r : Record) → isFound r ≡ true → onFound r found short refused ≡ found
+pub on-found {ℓ} : {A : Type ℓ} (found : A) (short refused : ℕ → A) (r : Record) → isFound r ≡ true → onFound r found short refused ≡ found
 on-found found short refused (Page e p c) h = refl
 on-found found short refused (Block e n c) h = refl
 on-found found short refused (State e c) h = refl
 on-found found short refused (Commit e p b c) h = refl
 on-found found short refused (Ack e c) h = refl
-on-found found short refused Short h = absurd (false≢true h)
+on-found found short refused (Short n) h = absurd (false≢true h)
 on-found found short refused (Refused n) h = absurd (false≢true h)
 
 pub number-found : (r : Record) → isFound r ≡ true → numberOf r ≡ 0
-number-found = on-found 0 cutShort (λ n. n)
+number-found = on-found 0 (λ n. cutShort) (λ n. n)
 
 pub other-found : (r : Record) → isFound r ≡ true → otherRefusal r ≡ badKind
-other-found = on-found badKind 0 (λ n. n)
+other-found = on-found badKind (λ n. 0) (λ n. n)
+
+pub missing-found : (r : Record) → isFound r ≡ true → missingOf r ≡ 0
+missing-found = on-found 0 (λ n. n) (λ n. 0)
 
 -- a fact of every record is shown of those found, of cut short and of refusals
-pub found-cases : (P : Record → Type 0) → ((r : Record) → isFound r ≡ true → P r) → P Short → ((n : ℕ) → P (Refused n)) → (r : Record) → P r
+pub found-cases : (P : Record → Type 0) → ((r : Record) → isFound r ≡ true → P r) → ((n : ℕ) → P (Short n)) → ((n : ℕ) → P (Refused n)) → (r : Record) → P r
 found-cases P found short refused (Page e p c) = found (Page e p c) refl
 found-cases P found short refused (Block e n c) = found (Block e n c) refl
 found-cases P found short refused (State e c) = found (State e c) refl
 found-cases P found short refused (Commit e p b c) = found (Commit e p b c) refl
 found-cases P found short refused (Ack e c) = found (Ack e c) refl
-found-cases P found short refused Short = short
+found-cases P found short refused (Short n) = short n
 found-cases P found short refused (Refused n) = refused n
 
 -- a fact of what is defined by `onAck` is shown of what an ACK gives, and of the rest
@@ -239,14 +266,14 @@ on-ack P ack rest (Block e n c) f g = g
 on-ack P ack rest (State e c) f g = g
 on-ack P ack rest (Commit e p b c) f g = g
 on-ack P ack rest (Ack e c) f g = f e c refl
-on-ack P ack rest Short f g = g
+on-ack P ack rest (Short n) f g = g
 on-ack P ack rest (Refused n) f g = g
 
 -- the last arm of a `match`: the places in the enum that are left behind the arms for cut short and refused, and
 -- behind the one for an ACK
 pub found-arm : (r : Record) → OneOf (0 ∷ 1 ∷ 2 ∷ 3 ∷ 4 ∷ []) (tagOf the-type r) → isFound r ≡ true
 found-arm = found-cases (λ r. OneOf (0 ∷ 1 ∷ 2 ∷ 3 ∷ 4 ∷ []) (tagOf the-type r) → isFound r ≡ true)
-    (λ r h k. h) (λ k. absurd (miss (0 ∷ 1 ∷ 2 ∷ 3 ∷ 4 ∷ []) 5 tt k)) (λ n k. absurd (miss (0 ∷ 1 ∷ 2 ∷ 3 ∷ 4 ∷ []) 6 tt k))
+    (λ r h k. h) (λ n k. absurd (miss (0 ∷ 1 ∷ 2 ∷ 3 ∷ 4 ∷ []) 5 tt k)) (λ n k. absurd (miss (0 ∷ 1 ∷ 2 ∷ 3 ∷ 4 ∷ []) 6 tt k))
 
 pub ack-arm : {A : Type 0} (ack : ℕ → Cursor → A) (rest : A) (r : Record) → OneOf (0 ∷ 1 ∷ 2 ∷ 3 ∷ 5 ∷ 6 ∷ []) (tagOf the-type r) → onAck r ack rest ≡ rest
 ack-arm ack rest r k =
@@ -273,12 +300,18 @@ sizeOf u r = byKind r (λ e p c. u) (λ e n c. u) (λ e c. processorBytes) (λ e
 abbrev pub RefusedFacts : ℕ → ℕ → Type 0
 RefusedFacts u n = ((n ≡ 1) × (unitOk u ≡ false)) ⊎ ((unitOk u ≡ true) × ((n ≡ 6) ⊎ (n ≡ 7)))
 
+-- where it is cut short, and what is missing: of the header, or of the body
+abbrev pub ShortFacts : Reader → ℕ → List ℕ → ℕ → Type 0
+ShortFacts reader u s n =
+    (unitOk u ≡ true)
+    × (((length s < headerLength) × (n ≡ headerLength - length s)) ⊎ (BodyCut reader u s × (n ≡ recordLength u (leAt 2 s 2) - length s)))
+
 abbrev pub ReadFacts : Reader → ℕ → List ℕ → Record → Type 0
-ReadFacts reader u s r = onFound r (RecordFacts reader u s (kindOf r) (sizeOf u r) (cursorOf r)) (unitOk u ≡ true) (RefusedFacts u)
+ReadFacts reader u s r = onFound r (RecordFacts reader u s (kindOf r) (sizeOf u r) (cursorOf r)) (ShortFacts reader u s) (RefusedFacts u)
 
 pub found-facts : (reader : Reader) (u : ℕ) (s : List ℕ) (r : Record) → isFound r ≡ true → ReadFacts reader u s r
     → RecordFacts reader u s (kindOf r) (sizeOf u r) (cursorOf r)
-found-facts reader u s r h f = subst (λ (X : Type 0). X) (on-found (RecordFacts reader u s (kindOf r) (sizeOf u r) (cursorOf r)) (unitOk u ≡ true) (RefusedFacts u) r h) f
+found-facts reader u s r h f = subst (λ (X : Type 0). X) (on-found (RecordFacts reader u s (kindOf r) (sizeOf u r) (cursorOf r)) (ShortFacts reader u s) (RefusedFacts u) r h) f
 
 pub found-kind : (reader : Reader) (u : ℕ) (s : List ℕ) (r : Record) → isFound r ≡ true → ReadFacts reader u s r → (PAGE ≤ kindOf r) × (kindOf r ≤ ACK)
 found-kind reader u s r h f = within-facts PAGE ACK (kindOf r) (for-test reader (kindOf r) (found-facts reader u s r h f .for-reader))
@@ -293,7 +326,8 @@ read-facts reader u s =
     (λ v. inl (refl, v))
     (λ v k. inr (v, inl refl))
     (λ v k. inr (v, inr refl))
-    (λ v. v)
+    (λ v h. (v, inl (h, refl)))
+    (λ c. (c .unit, inr (c, refl)))
     (λ w. fields-cases (ReadFacts reader u s) u (leAt 2 s 2) s (for-test reader (leAt 2 s 2) (w .kind))
     (λ e. found w e 10 u (omega arith))
     (λ e. found w e 10 u (omega arith))
@@ -313,6 +347,8 @@ pub record ReadRanges (reader : Reader) (s : List ℕ) (r : Record) : Type 0 whe
   pub for-reader : numberOf r ≡ 0 → isFor reader (kindOf r) ≡ true
   pub used : usedOf r ≤ 4106
   pub within : usedOf r ≤ length s
+  pub missing : missingOf r ≤ 4102
+  pub other : otherRefusal r ≤ badLength
 
 pub read-ranges : (reader : Reader) (u : ℕ) (s : List ℕ) → ReadRanges reader s (readRecord reader u s)
 read-ranges reader u s = go (readRecord reader u s) (read-facts reader u s)
@@ -324,12 +360,17 @@ read-ranges reader u s = go (readRecord reader u s) (read-facts reader u s)
     found r h f =
         let g = found-facts reader u s r h f in
         let n = number-found r h in
-        record { number = omega arith; kind = found-kind reader u s r h f .1; for-reader = λ z. g .for-reader; used = used-le g; within = g .inside }
+        record { number = omega arith; kind = found-kind reader u s r h f .1; for-reader = λ z. g .for-reader; used = used-le g; within = g .inside; missing = omega (arith, missing-found r h); other = omega (arith, other-found r h) }
+
+    short : (n : ℕ) → ShortFacts reader u s n → n ≤ 4102
+    short n f =
+        ⊎-elim (λ h. omega arith)
+        (λ c. omega (arith, c .0 .header, record-le u (leAt 2 s 2) (f .0) (for-test reader (leAt 2 s 2) (c .0 .kind)))) (f .1)
 
     go : (r : Record) → ReadFacts reader u s r → ReadRanges reader s r
     go = found-cases (λ r. ReadFacts reader u s r → ReadRanges reader s r) found
-        (λ f. record { number = omega arith; kind = omega arith; for-reader = λ z. absurd (omega arith); used = omega arith; within = omega arith })
-        (λ n f. let h = refused-number u n f in record { number = omega arith; kind = omega arith; for-reader = λ z. absurd (omega arith); used = omega arith; within = omega arith })
+        (λ n f. record { number = omega arith; kind = omega arith; for-reader = λ z. absurd (omega arith); used = omega arith; within = omega arith; missing = short n f; other = omega arith })
+        (λ n f. let h = refused-number u n f in record { number = omega arith; kind = omega arith; for-reader = λ z. absurd (omega arith); used = omega arith; within = omega arith; missing = omega arith; other = omega arith })
 
 -- a record never uses more bytes than there are
 pub read-within : (reader : Reader) (u : ℕ) (s : List ℕ) → usedOf (readRecord reader u s) ≤ length s
@@ -342,7 +383,7 @@ FieldsFit (Block e n c) = (e < 2 ^ 32) × (n < 2 ^ 16)
 FieldsFit (State e c) = e < 2 ^ 32
 FieldsFit (Commit e p b c) = (e < 2 ^ 32) × (p < 2 ^ 16) × (b < 2 ^ 16)
 FieldsFit (Ack e c) = e < 2 ^ 32
-FieldsFit Short = Unit {0}
+FieldsFit (Short n) = Unit {0}
 FieldsFit (Refused n) = Unit {0}
 
 pub read-fits : (reader : Reader) (u : ℕ) (s : List ℕ) → ((j : ℕ) → getD s j 0 < 256) → FieldsFit (readRecord reader u s)
@@ -350,5 +391,5 @@ read-fits reader u s h =
     let e = leAt-lt 4 4 s h in
     let p = leAt-lt 2 8 s h in
     let b = leAt-lt 2 10 s h in
-    read-cases FieldsFit reader u s (λ v. tt) (λ v k. tt) (λ v k. tt) (λ v. tt)
+    read-cases FieldsFit reader u s (λ v. tt) (λ v k. tt) (λ v k. tt) (λ v h. tt) (λ c. tt)
     (λ w. fields-cases FieldsFit u (leAt 2 s 2) s (for-test reader (leAt 2 s 2) (w .kind)) (λ k. (e, p)) (λ k. (e, p)) (λ k. e) (λ k. (e, p, b)) (λ k. e))

@@ -7,26 +7,26 @@ use Rattle.records.specs.declared.Record.the-variants.{Page, Block, Stat
 
 abbrev pub onPage {ℓ} : {A : Type ℓ} → Record → (ℕ → ℕ → Cursor → A) → A → A
 onPage r page rest =
-    elim r [ Page e p c ↦ page e p c | Block e n c ↦ rest | State e c ↦ rest | Commit e p b c ↦ rest | Ack e c ↦ rest | Short ↦ rest | Refused n ↦ rest ]
+    elim r [ Page e p c ↦ page e p c | Block e n c ↦ rest | State e c ↦ rest | Commit e p b c ↦ rest | Ack e c ↦ rest | Short n ↦ rest | Refused n ↦ rest ]
 
 abbrev pub onBlock {ℓ} : {A : Type ℓ} → Record → (ℕ → ℕ → Cursor → A) → A → A
 onBlock r block rest =
-    elim r [ Page e p c ↦ rest | Block e n c ↦ block e n c | State e c ↦ rest | Commit e p b c ↦ rest | Ack e c ↦ rest | Short ↦ rest | Refused n ↦ rest ]
+    elim r [ Page e p c ↦ rest | Block e n c ↦ block e n c | State e c ↦ rest | Commit e p b c ↦ rest | Ack e c ↦ rest | Short n ↦ rest | Refused n ↦ rest ]
 
 abbrev pub onCommit {ℓ} : {A : Type ℓ} → Record → (ℕ → ℕ → ℕ → Cursor → A) → A → A
 onCommit r commit rest =
-    elim r [ Page e p c ↦ rest | Block e n c ↦ rest | State e c ↦ rest | Commit e p b c ↦ commit e p b c | Ack e c ↦ rest | Short ↦ rest | Refused n ↦ rest ]
+    elim r [ Page e p c ↦ rest | Block e n c ↦ rest | State e c ↦ rest | Commit e p b c ↦ commit e p b c | Ack e c ↦ rest | Short n ↦ rest | Refused n ↦ rest ]
 
 abbrev pub onAck {ℓ} : {A : Type ℓ} → Record → (ℕ → Cursor → A) → A → A
 onAck r ack rest =
-    elim r [ Page e p c ↦ rest | Block e n c ↦ rest | State e c ↦ rest | Commit e p b c ↦ rest | Ack e c ↦ ack e c | Short ↦ rest | Refused n ↦ rest ]
+    elim r [ Page e p c ↦ rest | Block e n c ↦ rest | State e c ↦ rest | Commit e p b c ↦ rest | Ack e c ↦ ack e c | Short n ↦ rest | Refused n ↦ rest ]
 
 -- the kinds that go to the standby, 1 to 4 in this order
 abbrev pub byKind {ℓ} : {A : Type ℓ} → Record → (ℕ → ℕ → Cursor → A) → (ℕ → ℕ → Cursor → A) → (ℕ → Cursor → A) → (ℕ → ℕ → ℕ → Cursor → A) → A → A
 byKind r page block state commit rest =
-    elim r [ Page e p c ↦ page e p c | Block e n c ↦ block e n c | State e c ↦ state e c | Commit e p b c ↦ commit e p b c | Ack e c ↦ rest | Short ↦ rest | Refused n ↦ rest ]
+    elim r [ Page e p c ↦ page e p c | Block e n c ↦ block e n c | State e c ↦ state e c | Commit e p b c ↦ commit e p b c | Ack e c ↦ rest | Short n ↦ rest | Refused n ↦ rest ]
 
--- a record of any kind, cut short, or refused with a number
-abbrev pub onFound {ℓ} : {A : Type ℓ} → Record → A → A → (ℕ → A) → A
+-- a record of any kind, cut short with the bytes missing, or refused with a number
+abbrev pub onFound {ℓ} : {A : Type ℓ} → Record → A → (ℕ → A) → (ℕ → A) → A
 onFound r found short refused =
-    elim r [ Page e p c ↦ found | Block e n c ↦ found | State e c ↦ found | Commit e p b c ↦ found | Ack e c ↦ found | Short ↦ short | Refused n ↦ refused n ]
+    elim r [ Page e p c ↦ found | Block e n c ↦ found | State e c ↦ found | Commit e p b c ↦ found | Ack e c ↦ found | Short n ↦ short n | Refused n ↦ refused n ]

@@ -5,3 +5,4 @@ pub mod Read
 pub mod Write
 pub mod Area
 pub mod Message
+pub mod Missing

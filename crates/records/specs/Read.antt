@@ -1,5 +1,5 @@
 -- Reading one record: what stands at the head of some bytes, for a reader. Assumes nothing.
-use Prim.Native.Nat.{ℕ}
+use Prim.Native.Nat.{ℕ, _-_}
 use mathlib.Core.Bool.{cond}
 use mathlib.Core.List.{List}
 use lib.Dec.{leb, eqb}
@@ -27,7 +27,8 @@ fieldsOf u kind s =
     (cond (eqb kind COMMIT) (Commit (leAt 4 s 4) (leAt 2 s 8) (leAt 2 s 10) (cursor 12 end))
     (Ack (leAt 4 s 4) (cursor 8 end)))))
 
--- in this order: 1, header incomplete, 6 for that reader, 7, body incomplete, the record
+-- in this order: 1, header incomplete, 6 for that reader, 7, body incomplete, the record. What is cut short says how much
+-- is missing: "4 less the bytes present for the header, then the rest of the body once kind and length have passed"
 unfoldable pub readRecord : Reader → ℕ → List ℕ → Record
 readRecord reader u s =
     let kind = leAt 2 s 2 in
@@ -35,10 +36,10 @@ readRecord reader u s =
     (cond (leb headerLength (length s))
     (cond (isFor reader kind)
     (cond (eqb (leAt 2 s 0) (bodyLength u kind))
-    (cond (leb (recordLength u kind) (length s)) (fieldsOf u kind s) Short)
+    (cond (leb (recordLength u kind) (length s)) (fieldsOf u kind s) (Short (recordLength u kind - length s)))
     (Refused badLength))
     (Refused badKind))
-    Short)
+    (Short (headerLength - length s)))
     (Refused outOfRange)
 
 -- the number that stands for cut short where one is wanted: none of document 01's
@@ -47,12 +48,12 @@ cutShort = 256
 
 -- the paper's number of each case: 0 is accepted
 abbrev pub numberOf : Record → ℕ
-numberOf r = onFound r 0 cutShort (λ n. n)
+numberOf r = onFound r 0 (λ n. cutShort) (λ n. n)
 
 -- the number of a record of another kind than its reader takes: 6; what is cut short has nothing more to be refused
 -- for, and stays so
 abbrev pub otherRefusal : Record → ℕ
-otherRefusal r = onFound r badKind 0 (λ n. n)
+otherRefusal r = onFound r badKind (λ n. 0) (λ n. n)
 
 -- its kind; 0 where there is no record
 abbrev pub kindOf : Record → ℕ
@@ -61,7 +62,7 @@ kindOf (Block e n c) = BLOCK
 kindOf (State e c) = STATE
 kindOf (Commit e p b c) = COMMIT
 kindOf (Ack e c) = ACK
-kindOf Short = 0
+kindOf (Short n) = 0
 kindOf (Refused n) = 0
 
 -- the value of a read: the kind for kinds 1 to 4, the epoch for an ACK; "Every refusal's value is 0"
@@ -75,9 +76,13 @@ cursorOf (Block e n c) = c
 cursorOf (State e c) = c
 cursorOf (Commit e p b c) = c
 cursorOf (Ack e c) = c
-cursorOf Short = cursor 0 0
+cursorOf (Short n) = cursor 0 0
 cursorOf (Refused n) = cursor 0 0
 
 -- the bytes used; "A record cut short or refused uses 0"
 abbrev pub usedOf : Record → ℕ
 usedOf r = cursorOf r .end
+
+-- "how many more bytes would complete it"; 0 where it is not cut short
+abbrev pub missingOf : Record → ℕ
+missingOf r = onFound r 0 (λ n. n) (λ n. 0)

@@ -43,7 +43,9 @@ pub enum Record {
         epoch: u32,
         at: Cursor,
     },
-    Short,
+    Short {
+        missing: usize,
+    },
     Refused {
         number: u64,
     },

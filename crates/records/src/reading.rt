@@ -137,6 +137,7 @@ fn fields(u: usize, kind: u32, s: &[u8]) -> Record
 }
 
 // What stands at the head of s. In this order: 1, header incomplete, 6 for this reader, 7, body incomplete, the record.
+// What is incomplete says how many bytes are missing of it.
 pub fn read(reader: Reader, u: usize, s: &[u8]) -> Record
     ensures { λ r. ⌜ r ≡ readRecord reader u (now (s .entry)) ⌝ }
 {
@@ -146,7 +147,9 @@ pub fn read(reader: Reader, u: usize, s: &[u8]) -> Record
         };
     }
     if s.len() < HEADER_LENGTH {
-        return Record::Short;
+        return Record::Short {
+            missing: HEADER_LENGTH - s.len(),
+        };
     }
     let length = get2(s, 0) as usize;
     let kind = get2(s, 2);
@@ -162,8 +165,11 @@ pub fn read(reader: Reader, u: usize, s: &[u8]) -> Record
             number: number::BAD_LENGTH,
         };
     }
-    if s.len() < HEADER_LENGTH + n {
-        return Record::Short;
+    let whole = HEADER_LENGTH + n;
+    if s.len() < whole {
+        return Record::Short {
+            missing: whole - s.len(),
+        };
     }
     fields(u, kind, s)
 }
@@ -173,7 +179,7 @@ pub fn number_of(r: Record) -> u64
     ensures { λ n. ⌜ n ≡ numberOf r ⌝ }
 {
     match r {
-        Record::Short => CUT_SHORT,
+        Record::Short { missing: _ } => CUT_SHORT,
         Record::Refused { number } => number,
         _ => 0,
     }
@@ -184,7 +190,7 @@ pub fn other_refusal(r: Record) -> u64
     ensures { λ n. ⌜ n ≡ otherRefusal r ⌝ }
 {
     match r {
-        Record::Short => 0,
+        Record::Short { missing: _ } => 0,
         Record::Refused { number } => number,
         _ => number::BAD_KIND,
     }
@@ -212,7 +218,7 @@ pub fn kind_of(r: Record) -> u64
             at: _,
         } => 4,
         Record::Ack { epoch: _, at: _ } => 5,
-        Record::Short => 0,
+        Record::Short { missing: _ } => 0,
         Record::Refused { number: _ } => 0,
     }
 }
@@ -250,7 +256,7 @@ pub fn used_of(r: Record) -> usize
             at,
         } => at.end,
         Record::Ack { epoch: _, at } => at.end,
-        Record::Short => 0,
+        Record::Short { missing: _ } => 0,
         Record::Refused { number: _ } => 0,
     }
 }

@@ -191,7 +191,7 @@ JudgedFacts s l bytes r =
     (λ e n c. Accepted s l bytes BLOCK (s .settings .u) c (BlockTests s e n))
     (λ e c. Accepted s l bytes STATE processorBytes c (StateTests s e))
     (λ e p b c. Accepted s l bytes COMMIT 0 c (CommitTests s (l .reply) e p b))
-    (onFound r ⊥ (ReadReady s l) (λ n. 0 < n))
+    (onFound r ⊥ (λ n. ReadReady s l) (λ n. 0 < n))
 
 module _ (s : Standby) (l : ReadLent) (bytes : List ℕ) where
   record-facts : ReadReady s l → (r : Record) → ReadFacts reader.Standby (s .settings .u) bytes r → recordRefusal s (l .reply) r ≡ 0 → JudgedFacts s l bytes r
@@ -200,7 +200,7 @@ module _ (s : Standby) (l : ReadLent) (bytes : List ℕ) where
   record-facts ready (State e c) f z = record { ready = ready; tests = state-accepted s e z; field = f }
   record-facts ready (Commit e p b c) f z = record { ready = ready; tests = commit-accepted s (l .reply) e p b z; field = f }
   record-facts ready (Ack e c) f z = absurd (omega arith)
-  record-facts ready Short f z = ready
+  record-facts ready (Short n) f z = ready
   record-facts ready (Refused n) f z = refused-number (s .settings .u) n f .0
 
   -- each answer in its order

@@ -11,6 +11,7 @@ pub mod PrimaryTickLaws
 pub mod StandbyFacts
 pub mod JudgeLaws
 pub mod ReadLaws
+pub mod MissingLaws
 pub mod FlushLaws
 pub mod TakeoverLaws
 pub mod StartLaws

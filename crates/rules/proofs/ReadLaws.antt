@@ -135,7 +135,7 @@ module _ (P : Standby → Type 0) (resets : (s : Standby) → P s → P (withNoT
   record-kept (State e c) f = resets _ (state (bytesAt c bytes) (bytes-length c bytes processorBytes (f .field .span) (f .field .inside)))
   record-kept (Commit e p b c) f = resets _ (commit e)
   record-kept (Ack e c) f = absurd f
-  record-kept Short f = h
+  record-kept (Short n) f = h
   record-kept (Refused n) f = h
 
   read-kept : P (readReply s l bytes .state)
@@ -164,7 +164,7 @@ module _ (s : Standby) (l : ReadLent) (bytes : List ℕ) where
       go (State e c) f z = refl
       go (Commit e p b c) f z = refl
       go (Ack e c) f z = absurd f
-      go Short f z = absurd (omega arith)
+      go (Short n) f z = absurd (omega arith)
       go (Refused n) f z = absurd (omega arith)
 
   -- and only a standby that receives accepts one
@@ -187,7 +187,7 @@ module _ (s : Standby) (l : ReadLent) (bytes : List ℕ) (low : (j : ℕ) → ge
       go (State n c) f k z = let h = f .tests .epoch-next in omega arith
       go (Commit n p b c) f k z = let h = f .tests .epoch-next in omega arith
       go (Ack n c) f k z = f
-      go Short f k z = omega arith
+      go (Short n) f k z = omega arith
       go (Refused n) f k z = omega arith
 
 -- ---- "A record cut short or refused uses 0 and changes nothing"
@@ -202,8 +202,8 @@ pub record NothingRead (s : Standby) (bytes memory pages marks blocks reply : Li
   pub used-zero : usedOf (answerOf r) ≡ 0
 
 module _ (s : Standby) (bytes memory pages marks blocks reply : List ℕ) where
-  nothing-short : NothingRead s bytes memory pages marks blocks reply Short
-  nothing-short = record { state-same = refl; memory-same = refl; pages-same = refl; marks-same = refl; blocks-same = refl; reply-same = refl; value-zero = refl; used-zero = refl }
+  nothing-short : (n : ℕ) → NothingRead s bytes memory pages marks blocks reply (Short n)
+  nothing-short n = record { state-same = refl; memory-same = refl; pages-same = refl; marks-same = refl; blocks-same = refl; reply-same = refl; value-zero = refl; used-zero = refl }
 
   nothing-refused : (n : ℕ) → NothingRead s bytes memory pages marks blocks reply (Refused n)
   nothing-refused n = record { state-same = refl; memory-same = refl; pages-same = refl; marks-same = refl; blocks-same = refl; reply-same = refl; value-zero = refl; used-zero = refl }
@@ -212,4 +212,4 @@ module _ (s : Standby) (bytes memory pages marks blocks reply : List ℕ) where
   pub nothing-read : (r : Record) → (numberOf (answerOf r) ≡ 0 → ⊥) → NothingRead s bytes memory pages marks blocks reply r
   nothing-read =
       found-cases (λ r. (numberOf (answerOf r) ≡ 0 → ⊥) → NothingRead s bytes memory pages marks blocks reply r)
-      (λ r h z. absurd (z (ap numberOf (answer-found r h)))) (λ z. nothing-short) (λ n z. nothing-refused n)
+      (λ r h z. absurd (z (ap numberOf (answer-found r h)))) (λ n z. nothing-short n) (λ n z. nothing-refused n)

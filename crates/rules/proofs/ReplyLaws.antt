@@ -10,13 +10,13 @@ use Rattle.lists.proofs.TestLaws.{eq-or-ne}
 use Rattle.records.specs.declared.Record.{Record}
 use Rattle.records.specs.declared.Record.the-variants.{Refused}
 use Rattle.records.specs.Read.{valueOf as value, usedOf as used}
-use Rattle.records.proofs.ReadLaws.{isFound, on-found, number-found, found-cases}
+use Rattle.records.proofs.ReadLaws.{isFound, on-found, number-found, missing-found, found-cases}
 use Rattle.rules.specs.declared.Primary.{Primary}
 use Rattle.rules.specs.declared.Standby.{Standby}
 use Rattle.rules.specs.declared.Answer.{Answer}
 use Rattle.rules.specs.declared.Answer.the-variants.{Accepted}
 use Rattle.rules.specs.declared.Answer.the-variants as answer-of
-use Rattle.rules.specs.Reply.{primaryReply, standbyReply, numberOf, valueOf, usedOf, unlessRefused, answerOf, Answered}
+use Rattle.rules.specs.Reply.{primaryReply, standbyReply, numberOf, valueOf, usedOf, missingOf, unlessRefused, answerOf, Answered}
 
 -- a fact of what a call leaves is shown of the new where it is accepted, and of the old where it is refused
 pub pick-cases : {A : Type 0} (P : A → Type 0) (number : ℕ) (new old : A) → (number ≡ 0 → P new) → ((number ≡ 0 → ⊥) → P old) → P (pick number new old)
@@ -65,14 +65,16 @@ module _ (number : ℕ) (r : Record) where
 
 -- ---- the answer of a call that reads a record
 pub answer-found : (r : Record) → isFound r ≡ true → answerOf r ≡ Accepted (value r) (used r)
-answer-found r = on-found (Accepted (value r) (used r)) answer-of.Short (λ n. answer-of.Refused n) r
+answer-found r = on-found (Accepted (value r) (used r)) (λ n. answer-of.Short n) (λ n. answer-of.Refused n) r
 
 pub answers : (r : Record) → Answered r (answerOf r)
 answers =
     found-cases (λ r. Answered r (answerOf r))
-    (λ r h. let e = answer-found r h in record { number-is = ap numberOf e ∙ sym (number-found r h); value-is = ap valueOf e; used-is = ap usedOf e })
-    (record { number-is = refl; value-is = refl; used-is = refl })
-    (λ n. record { number-is = refl; value-is = refl; used-is = refl })
+    (λ r h.
+    let e = answer-found r h in
+    record { number-is = ap numberOf e ∙ sym (number-found r h); value-is = ap valueOf e; used-is = ap usedOf e; missing-is = ap missingOf e ∙ sym (missing-found r h) })
+    (λ n. record { number-is = refl; value-is = refl; used-is = refl; missing-is = refl })
+    (λ n. record { number-is = refl; value-is = refl; used-is = refl; missing-is = refl })
 
 -- as the code makes it: r is what was judged
 pub answered : (r judged : Record) (a : Answer) → r ≡ judged → a ≡ answerOf r → Answered judged a
@@ -82,4 +84,4 @@ answered r judged a j e = subst (Answered judged) (sym (e ∙ ap answerOf j)) (a
 pub answer-refused : (r : Record) → (numberOf (answerOf r) ≡ 0 → ⊥) → (valueOf (answerOf r) ≡ 0) × (usedOf (answerOf r) ≡ 0)
 answer-refused =
     found-cases (λ r. (numberOf (answerOf r) ≡ 0 → ⊥) → (valueOf (answerOf r) ≡ 0) × (usedOf (answerOf r) ≡ 0))
-    (λ r h f. absurd (f (ap numberOf (answer-found r h)))) (λ f. (refl, refl)) (λ n f. (refl, refl))
+    (λ r h f. absurd (f (ap numberOf (answer-found r h)))) (λ n f. (refl, refl)) (λ n f. (refl, refl))

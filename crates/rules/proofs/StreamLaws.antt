@@ -49,7 +49,7 @@ pub record AckFacts (p : Primary) (e : ℕ) : Type 0 where
 
 -- a record that is judged is refused, cut short, or an ACK with these facts
 abbrev pub AckJudgedFacts : Primary → Record → Type 0
-AckJudgedFacts p r = onAck r (λ e c. AckFacts p e) (onFound r ⊥ (Unit {0}) (λ n. Unit {0}))
+AckJudgedFacts p r = onAck r (λ e c. AckFacts p e) (onFound r ⊥ (λ n. Unit {0}) (λ n. Unit {0}))
 
 module _ (p : Primary) where
   -- an ACK's own refusal
@@ -65,7 +65,7 @@ module _ (p : Primary) where
   record-facts ok on (State e c) z = absurd (omega arith)
   record-facts ok on (Commit e n b c) z = absurd (omega arith)
   record-facts ok on (Ack e c) z = let f = ack-epochs e c z in record { ok = ok; protects = on; above = f .0; below = f .1 }
-  record-facts ok on Short z = tt
+  record-facts ok on (Short n) z = tt
   record-facts ok on (Refused n) z = tt
 
   module _ (bytes : List ℕ) where

@@ -7,7 +7,7 @@ use Rattle.lists.specs.Refusal.{pick}
 use mathlib.Core.Bool.{cond}
 use lib.Dec.{eqb}
 use Rattle.records.specs.Cases.{onFound}
-use Rattle.records.specs.Read.{cutShort, numberOf as number, valueOf as value, usedOf as used}
+use Rattle.records.specs.Read.{cutShort, numberOf as number, valueOf as value, usedOf as used, missingOf as missing}
 use Rattle.records.specs.declared.Record.{Record}
 use Rattle.records.specs.declared.Record.the-variants as record-of
 use Rattle.rules.specs.declared.Primary.{Primary}
@@ -24,21 +24,26 @@ primaryReply number old new value = record { state = pick number new old; number
 abbrev pub standbyReply : ℕ → Standby → Standby → ℕ → StandbyReply
 standbyReply number old new value = record { state = pick number new old; number = number; value = pick number value 0 }
 
--- the number, the value and the bytes used of an answer
+-- the number, the value, the bytes used and, where it is cut short, the bytes missing of an answer
 abbrev pub numberOf : Answer → ℕ
 numberOf (Accepted value used) = 0
-numberOf Short = cutShort
+numberOf (Short missing) = cutShort
 numberOf (Refused number) = number
 
 abbrev pub valueOf : Answer → ℕ
 valueOf (Accepted value used) = value
-valueOf Short = 0
+valueOf (Short missing) = 0
 valueOf (Refused number) = 0
 
 abbrev pub usedOf : Answer → ℕ
 usedOf (Accepted value used) = used
-usedOf Short = 0
+usedOf (Short missing) = 0
 usedOf (Refused number) = 0
+
+abbrev pub missingOf : Answer → ℕ
+missingOf (Accepted value used) = 0
+missingOf (Short missing) = missing
+missingOf (Refused number) = 0
 
 -- ---- calls that read a record: judged is the record where it is accepted, else cut short or the refusal
 
@@ -48,10 +53,11 @@ unlessRefused number r = cond (eqb number 0) r (record-of.Refused number)
 
 -- what a call answers, by the record that it judged: an accepted one with its value and the bytes that it uses
 abbrev pub answerOf : Record → Answer
-answerOf r = onFound r (Accepted (value r) (used r)) Short (λ n. Refused n)
+answerOf r = onFound r (Accepted (value r) (used r)) (λ n. Short n) (λ n. Refused n)
 
--- an answer says of the record that was judged this paper's number, its value and the bytes that it uses
+-- an answer says of the record that was judged this paper's number, its value, the bytes that it uses and those missing
 pub record Answered (r : Record) (a : Answer) : Type 0 where
   pub number-is : numberOf a ≡ number r
   pub value-is : valueOf a ≡ value r
   pub used-is : usedOf a ≡ used r
+  pub missing-is : missingOf a ≡ missing r

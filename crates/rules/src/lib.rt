@@ -62,7 +62,7 @@ pub struct StandbyReply {
 // What reading a record answers.
 pub enum Answer {
     Accepted { value: u64, used: usize },
-    Short,
+    Short { missing: usize },
     Refused { number: u64 },
 }
 

@@ -44,7 +44,7 @@ module _ (w : World) where
   read-by bytes reply (record-of.State e c) = refl
   read-by bytes reply (record-of.Commit e p b c) = refl
   read-by bytes reply (record-of.Ack e c) = refl
-  read-by bytes reply record-of.Short = refl
+  read-by bytes reply (record-of.Short n) = refl
   read-by bytes reply (record-of.Refused n) = refl
 
   pub read-still : (n : ℕ) (reply : List ℕ) → stillOf (step w (call.read n reply) .next) ≡ stillOf w
@@ -63,7 +63,7 @@ module _ (w : World) where
   ack-by (record-of.State e c) = refl
   ack-by (record-of.Commit e p b c) = refl
   ack-by (record-of.Ack e c) = refl
-  ack-by record-of.Short = refl
+  ack-by (record-of.Short n) = refl
   ack-by (record-of.Refused n) = refl
 
   pub ack-still : (n : ℕ) → stillOf (step w (call.ack n) .next) ≡ stillOf w

@@ -70,10 +70,10 @@ pub data Found (u : ℕ) (refuse : Record → ℕ) (pending : List Message) (unr
   next : (x : Message) (xs : List Message) → Next pending unread rest bytes x xs → number ≡ refuse (readAs u x) → (number ≡ 0 → seen ≡ readAs u x) → Found u refuse pending unread rest bytes number seen
 
 module _ (reader : Reader) (u : ℕ) (refuse : Record → ℕ) (pending : List Message) (unread rest bytes : List ℕ) (number : ℕ) (seen : Record) (is : number ≡ numberOf (answerOf seen))
-    (judged : (r : Record) → readRecord reader u bytes ≡ r → seen ≡ unlessRefused (refuse r) r) (passes : refuse record-of.Short ≡ 0) where
+    (judged : (r : Record) → readRecord reader u bytes ≡ r → seen ≡ unlessRefused (refuse r) r) (passes : (n : ℕ) → refuse (record-of.Short n) ≡ 0) where
   found-by : Reading reader u pending unread rest bytes → Found u refuse pending unread rest bytes number seen
-  found-by (none z) =
-      short (tells reader u bytes .short (ap records.numberOf z)) (is ∙ ap (λ (r : Record). numberOf (answerOf r)) (judged record-of.Short z ∙ unless-accepted (refuse record-of.Short) record-of.Short passes))
+  found-by (none n z) =
+      short (tells reader u bytes .short (ap records.numberOf z)) (is ∙ ap (λ (r : Record). numberOf (answerOf r)) (judged (record-of.Short n) z ∙ unless-accepted (refuse (record-of.Short n)) (record-of.Short n) (passes n)))
   found-by (one x xs q z begins behind) =
       let r = readAs u x in
       let back = read-back u x in
@@ -129,7 +129,7 @@ module _ (g : Settings) (w : World) (k : StandbyKept g (w .standby)) (n : ℕ) (
       let back = sym (standby-u g (w .standby) k) in
       found-by reader.Standby u (recordRefusal s (length reply)) pending (w .link) rest (take n (w .link)) (step w (call.read n reply) .outcome .number) (readSeen w n reply) read-number-is
       (λ r z. judged-number s readLengths (take n (w .link)) (k .reached .range .inRange) lent on r (sym z) (recordRefusal s (length reply) r) refl)
-      refl
+      (λ m. refl)
       (read-next reader.Standby u (subst (λ (v : ℕ). unitOk v ≡ true) back (standby-unit g (w .standby) k)) rest n pending (w .link) (subst (λ (v : ℕ). All (Readable v) pending) back readable) bytes)
 
 -- ---- ACK: the records under way are ACKs, of these epochs
@@ -171,5 +171,5 @@ module _ (w : World) (k : PrimaryReached (w .primary .state)) (n : ℕ) where
       ack-by epochs
       (found-by reader.Primary u (ackRefusal p) ms (w .acks) [] (take n (w .acks)) (step w (call.ack n) .outcome .number) (ackSeen w n) ack-number-is
       (λ r z. ack-number p (take n (w .acks)) (k .inRange) on r (sym z) (ackRefusal p r) refl)
-      refl
+      (λ m. refl)
       (read-next reader.Primary u (shared-unit (primary-facts p (k .inRange) .settings .shared)) [] n ms (w .acks) readable (append-nil (w .acks) ∙ bytes)))

@@ -10,8 +10,9 @@ use lib.Seq.{take-nil, take-append-le, take-append-seam, drop-append-le, drop-ap
 use Rattle.lists.proofs.TestLaws.{lt-or-ge}
 use Rattle.records.specs.declared.Reader.{Reader}
 use Rattle.records.specs.declared.Record.the-variants.{Short}
-use Rattle.records.specs.Kind.{unitOk}
+use Rattle.records.specs.Kind.{unitOk, headerLength}
 use Rattle.records.specs.Read.{readRecord}
+use Rattle.records.specs.Missing.{missingFrom}
 use Rattle.records.specs.Message.{Message, encode, encodeAll, readAs}
 use Rattle.records.proofs.MessageLaws.{read-none, read-message, short-message}
 use Rattle.runs.proofs.Effects.{All, ReadableBy}
@@ -31,25 +32,25 @@ module _ (p q a b : List ℕ) (same : p ++ q ≡ a ++ b) where
 
 -- `bytes` is a first part of the unread bytes; behind these lies `rest`
 pub data Reading (reader : Reader) (u : ℕ) (pending : List Message) (unread rest bytes : List ℕ) : Type 0 where
-  none : readRecord reader u bytes ≡ Short → Reading reader u pending unread rest bytes
+  none : (n : ℕ) → readRecord reader u bytes ≡ Short n → Reading reader u pending unread rest bytes
   one : (x : Message) (xs : List Message) → pending ≡ x ∷ xs → readRecord reader u bytes ≡ readAs u x → bytes ≡ encode x ++ drop (length (encode x)) bytes
       → drop (length (encode x)) unread ++ rest ≡ encodeAll xs → Reading reader u pending unread rest bytes
 
 module _ (reader : Reader) (u : ℕ) (ok : unitOk u ≡ true) (rest : List ℕ) (k : ℕ) where
-  reading-none : (unread : List ℕ) → unread ++ rest ≡ [] → readRecord reader u (take k unread) ≡ Short
+  reading-none : (unread : List ℕ) → unread ++ rest ≡ [] → readRecord reader u (take k unread) ≡ Short headerLength
   reading-none [] h = rw take-nil (read-none reader u ok)
   reading-none (d ∷ ds) h = let z : _≡_ {A = ℕ} 0 1 = cc in absurd (omega arith)
 
   pub read-next : (pending : List Message) (unread : List ℕ) → All (ReadableBy reader u) pending → unread ++ rest ≡ encodeAll pending
       → Reading reader u pending unread rest (take k unread)
-  read-next [] unread f h = none (reading-none unread h)
+  read-next [] unread f h = none headerLength (reading-none unread h)
   read-next (x ∷ xs) unread f h =
       let bytes = take k unread in
       let same : bytes ++ (drop k unread ++ rest) ≡ encode x ++ encodeAll xs
       = sym (append-assoc (take k unread) (drop k unread) rest) ∙ ap (λ (l : List ℕ). l ++ rest) (take-append-drop k unread) ∙ h in
       ⊎-elim
       (λ (l : length bytes < length (encode x)).
-      none
+      none (missingFrom (length (encode x)) (length bytes))
       (ap (readRecord reader u) (part-first bytes (drop k unread ++ rest) (encode x) (encodeAll xs) same)
       ∙ short-message reader u ok x (f .0 .0) (f .0 .1) (length bytes) (encodeAll xs) l))
       (λ (l : length (encode x) ≤ length bytes).

@@ -81,7 +81,7 @@ module _ (w : World) where
   ack-by : (r : Record) → (ackBy w r .outcome .number ≡ 0 → ⊥) → ackBy w r .next ≡ w
   ack-by =
       found-cases (λ r. (ackBy w r .outcome .number ≡ 0 → ⊥) → ackBy w r .next ≡ w)
-      (λ r h ne. absurd (ne (ap numberOf (answer-found r h)))) (λ ne. refl) (λ n ne. refl)
+      (λ r h ne. absurd (ne (ap numberOf (answer-found r h)))) (λ n ne. refl) (λ n ne. refl)
 
   refused-ack : (n : ℕ) → NotAccepted w (call.ack n) → step w (call.ack n) .next ≡ w
   refused-ack n ne = rw (ack-step w n) (ack-by (ackSeen w n) (rw (ack-step w n) at ne))
@@ -89,7 +89,7 @@ module _ (w : World) where
   read-by : (bytes reply : List ℕ) (r : Record) → (readBy w bytes reply r .outcome .number ≡ 0 → ⊥) → readBy w bytes reply r .next ≡ w
   read-by bytes reply =
       found-cases (λ r. (readBy w bytes reply r .outcome .number ≡ 0 → ⊥) → readBy w bytes reply r .next ≡ w)
-      (λ r h ne. absurd (ne (ap numberOf (answer-found r h)))) (λ ne. rw append-nil) (λ n ne. rw (ne-eqb n 0 ne) (rw append-nil))
+      (λ r h ne. absurd (ne (ap numberOf (answer-found r h)))) (λ n ne. rw append-nil) (λ n ne. rw (ne-eqb n 0 ne) (rw append-nil))
 
   refused-read : (n : ℕ) (reply : List ℕ) → NotAccepted w (call.read n reply) → step w (call.read n reply) .next ≡ w
   refused-read n reply ne = rw (read-step w n reply) (read-by (take n (w .link)) reply (readSeen w n reply) (rw (read-step w n reply) at ne))

@@ -1,6 +1,6 @@
 -- The record test on bytes that it does not refuse: cut short exactly where they do not begin with a whole record, else
 -- of the kind that they say, with that kind's length. Assumes nothing.
-use Prim.Native.Nat.{ℕ, _+_}
+use Prim.Native.Nat.{ℕ, _+_, _-_}
 use mathlib.Core.Path.{_≡_, refl, ap}
 use mathlib.Core.Bool.{Bool, true, false, cond, _&&_}
 use mathlib.Core.List.{List}
@@ -25,14 +25,14 @@ pub record Tells (whole : Bool) (kind size body : ℕ) (r : Record) : Type 0 whe
 
 module _ (reader : Reader) (u : ℕ) (s : List ℕ) where
   -- the tests, in their order: b′ is the body's by the length that the record says
-  by-tests : (f : Record) (v h i l b b′ : Bool) → (l ≡ true → (b′ ≡ b) × (leAt 2 s 0 ≡ bodyLength u (leAt 2 s 2))) → (i ≡ true → (numberOf f ≡ 0) × (leAt 2 s 2 ≡ kindOf f))
-      → Tells (h && b′) (leAt 2 s 2) (leAt 2 s 0) (bodyLength u (leAt 2 s 2)) (cond v (cond h (cond i (cond l (cond b f Short) (Refused 7)) (Refused 6)) Short) (Refused 1))
-  by-tests f false h i l b b′ e t = record { short = λ z. absurd (omega arith); found = λ z. absurd (omega arith) }
-  by-tests f true false i l b b′ e t = record { short = λ z. refl; found = λ z. absurd (omega arith) }
-  by-tests f true true false l b b′ e t = record { short = λ z. absurd (omega arith); found = λ z. absurd (omega arith) }
-  by-tests f true true true false b b′ e t = record { short = λ z. absurd (omega arith); found = λ z. absurd (omega arith) }
-  by-tests f true true true true false b′ e t = record { short = λ z. e refl .0; found = λ z. absurd (omega arith) }
-  by-tests f true true true true true b′ e t = record { short = λ z. absurd (omega (arith, t refl .0)); found = λ z. (e refl .0, t refl .1, e refl .1) }
+  by-tests : (f : Record) (missing rest : ℕ) (v h i l b b′ : Bool) → (l ≡ true → (b′ ≡ b) × (leAt 2 s 0 ≡ bodyLength u (leAt 2 s 2))) → (i ≡ true → (numberOf f ≡ 0) × (leAt 2 s 2 ≡ kindOf f))
+      → Tells (h && b′) (leAt 2 s 2) (leAt 2 s 0) (bodyLength u (leAt 2 s 2)) (cond v (cond h (cond i (cond l (cond b f (Short rest)) (Refused 7)) (Refused 6)) (Short missing)) (Refused 1))
+  by-tests f missing rest false h i l b b′ e t = record { short = λ z. absurd (omega arith); found = λ z. absurd (omega arith) }
+  by-tests f missing rest true false i l b b′ e t = record { short = λ z. refl; found = λ z. absurd (omega arith) }
+  by-tests f missing rest true true false l b b′ e t = record { short = λ z. absurd (omega arith); found = λ z. absurd (omega arith) }
+  by-tests f missing rest true true true false b b′ e t = record { short = λ z. absurd (omega arith); found = λ z. absurd (omega arith) }
+  by-tests f missing rest true true true true false b′ e t = record { short = λ z. e refl .0; found = λ z. absurd (omega arith) }
+  by-tests f missing rest true true true true true b′ e t = record { short = λ z. absurd (omega (arith, t refl .0)); found = λ z. (e refl .0, t refl .1, e refl .1) }
 
   fields-tell : isFor reader (leAt 2 s 2) ≡ true → (numberOf (fieldsOf u (leAt 2 s 2) s) ≡ 0) × (leAt 2 s 2 ≡ kindOf (fieldsOf u (leAt 2 s 2) s))
   fields-tell k =
@@ -48,5 +48,5 @@ module _ (reader : Reader) (u : ℕ) (s : List ℕ) where
   unfolding readRecord
   tells =
       let k = leAt 2 s 2 in
-      by-tests (fieldsOf u k s) (unitOk u) (leb headerLength (length s)) (isFor reader k) (eqb (leAt 2 s 0) (bodyLength u k)) (leb (recordLength u k) (length s))
+      by-tests (fieldsOf u k s) (headerLength - length s) (recordLength u k - length s) (unitOk u) (leb headerLength (length s)) (isFor reader k) (eqb (leAt 2 s 0) (bodyLength u k)) (leb (recordLength u k) (length s))
       (leb (headerLength + leAt 2 s 0) (length s)) body-is fields-tell

@@ -113,7 +113,7 @@ module _ (p : Primary) (bytes : List ℕ) where
       inr (answers r .used-is ∙ rw (eqb-true (kindOf r) ACK (g .for-reader)) at (g .used))
 
   used-read : (r : Record) → ReadFacts reader.Primary (p .settings .u) bytes r → Used r
-  used-read = found-cases (λ r. ReadFacts reader.Primary (p .settings .u) bytes r → Used r) used-found (λ f. inl refl) (λ n f. inl refl)
+  used-read = found-cases (λ r. ReadFacts reader.Primary (p .settings .u) bytes r → Used r) used-found (λ n f. inl refl) (λ n f. inl refl)
 
   pub ack-used : (usedOf (ackReply p bytes .answer) ≡ 0) ⊎ (usedOf (ackReply p bytes .answer) ≡ 8)
   unfolding ackReply

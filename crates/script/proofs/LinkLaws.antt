@@ -169,7 +169,7 @@ module _ (s : Standby) (l : ReadLent) (bytes : List ℕ) where
       go (State e c) f = refl
       go (Commit e p b c) f = put-whole reply (ackRecord e) (length-epoch ACK e ∙ sym long)
       go (Ack e c) f = absurd f
-      go Short f = refl
+      go (Short n) f = refl
       go (Refused n) f = rw (and-false (eqb n 0))
 
   abbrev AcksAfter : ℕ → List ℕ → Record → Type 0
@@ -188,7 +188,7 @@ module _ (s : Standby) (l : ReadLent) (bytes : List ℕ) where
       go (State e c) f = sym (append-nil _)
       go (Commit e p b c) f = rw (ack-written (s .settings .u) e reply, f .tests .epoch-next) (acks-next unread (s .received))
       go (Ack e c) f = absurd f
-      go Short f = sym (append-nil _)
+      go (Short n) f = sym (append-nil _)
       go (Refused n) f = rw (and-false (eqb n 0)) (sym (append-nil _))
 
 -- ---- a read at the standby's box

@@ -34,7 +34,7 @@ fn number_of(a: Answer) -> u64
 {
     match a {
         Answer::Accepted { value: _, used: _ } => 0,
-        Answer::Short => CUT_SHORT,
+        Answer::Short { missing: _ } => CUT_SHORT,
         Answer::Refused { number } => number,
     }
 }
@@ -44,7 +44,7 @@ fn value_of(a: Answer) -> u64
 {
     match a {
         Answer::Accepted { value, used: _ } => value,
-        Answer::Short => 0,
+        Answer::Short { missing: _ } => 0,
         Answer::Refused { number: _ } => 0,
     }
 }
@@ -54,7 +54,7 @@ fn used_of(a: Answer) -> usize
 {
     match a {
         Answer::Accepted { value: _, used } => used,
-        Answer::Short => 0,
+        Answer::Short { missing: _ } => 0,
         Answer::Refused { number: _ } => 0,
     }
 }

@@ -22,7 +22,7 @@ other-arm page block state commit rest (Block e n c) k = absurd (miss (4 ∷ 5 �
 other-arm page block state commit rest (State e c) k = absurd (miss (4 ∷ 5 ∷ 6 ∷ []) 2 tt k)
 other-arm page block state commit rest (Commit e p b c) k = absurd (miss (4 ∷ 5 ∷ 6 ∷ []) 3 tt k)
 other-arm page block state commit rest (Ack e c) k = refl
-other-arm page block state commit rest Short k = refl
+other-arm page block state commit rest (Short n) k = refl
 other-arm page block state commit rest (Refused n) k = refl
 
 pub refusal-arm : (s : Standby) (reply : ℕ) (r : Record) → OneOf (4 ∷ 5 ∷ 6 ∷ []) (tagOf the-type r) → recordRefusal s reply r ≡ otherRefusal r
@@ -44,5 +44,5 @@ module _ (s : Standby) (bytes memory pages marks blocks reply : List ℕ) where
   buffers-arm (State e c) k = (refl, (refl, (refl, (refl, refl))))
   buffers-arm (Commit e p b c) k = absurd (miss (2 ∷ 4 ∷ 5 ∷ 6 ∷ []) 3 tt k)
   buffers-arm (Ack e c) k = (refl, (refl, (refl, (refl, refl))))
-  buffers-arm Short k = (refl, (refl, (refl, (refl, refl))))
+  buffers-arm (Short n) k = (refl, (refl, (refl, (refl, refl))))
   buffers-arm (Refused n) k = (refl, (refl, (refl, (refl, refl))))

@@ -44,7 +44,7 @@ module _ (s : Standby) (l : ReadLent) (bytes : List ℕ) where
   state-fits (State e c) f = field-fits (f .field)
   state-fits (Commit e p b c) f = tt
   state-fits (Ack e c) f = tt
-  state-fits Short f = tt
+  state-fits (Short n) f = tt
   state-fits (Refused n) f = tt
 
   buffers-fit : (r : Record) → JudgedFacts s l bytes r → BuffersFit s l (length bytes) r
@@ -60,7 +60,7 @@ module _ (s : Standby) (l : ReadLent) (bytes : List ℕ) where
   buffers-fit (State e c) f = tt
   buffers-fit (Commit e p b c) f = (f .ready .lent .memory-is, f .ready .lent .pages-is, f .tests .room)
   buffers-fit (Ack e c) f = tt
-  buffers-fit Short f = tt
+  buffers-fit (Short n) f = tt
   buffers-fit (Refused n) f = tt
 
   -- exactly what the effects require

@@ -4,7 +4,7 @@ use denote.Ref.{now}
 use borrow.Author.Tests.{not-true, not-false}
 use Rattle.lists.specs.LittleEndian.{leAt}
 use Rattle.records.specs.Kind.{unitOk, bodyLength, recordLength, isFor}
-use Rattle.records.proofs.ReadLaws.{unit-le, for-test, Whole, read-unit, read-no-header, read-kind, read-length, read-no-body, read-whole}
+use Rattle.records.proofs.ReadLaws.{unit-le, for-test, Whole, read-unit, read-no-header, read-kind, read-length, BodyCut, read-no-body, read-whole}
 use borrow.Author.Needs.{needs}
 use Rattle.records.proofs.reading.read.Statement.{statement}
 use Rattle.records.proofs.reading.read.Tie as tie
@@ -18,6 +18,9 @@ returns c = sym (read-unit _ _ _ (sym (c .before .unit-ok .ensures) ∙ not-true
 -- what each place knows, in the definition's own terms, stands before the first answer that needs it
 unit-ok : (c : tie.Else1) → unitOk (c .before .before .before .args .u) ≡ true
 unit-ok c = sym (c .before .unit-ok .ensures) ∙ not-false _ (c .if1 .left)
+
+sub-t13 : tie.Need-sub-t13
+sub-t13 c = search needs
 
 returns-2 : tie.Need-returns-2
 returns-2 c = sym (read-no-header _ _ _ (unit-ok (c .before)) (c .if2 .taken))
@@ -64,8 +67,11 @@ returns-4 c =
     let h = b .before .before .before .before in
     sym (read-length _ _ _ (unit-ok (h .before)) (h .if2 .left) (for-reader (c .before)) (λ e. c .if4 .taken (b .before .before .before .get2 .ensures ∙ e ∙ sym (body-is b))))
 
-add-if5 : tie.Need-add-if5
-add-if5 c = search needs
+add-whole : tie.Need-add-whole
+add-whole c = search needs
+
+sub-t16 : tie.Need-sub-t16
+sub-t16 c = search needs
 
 size-is : (c : tie.Else4) →
     let a = c .before .before .before .before .before .before .before .before .before .before .args in
@@ -74,13 +80,25 @@ size-is c =
     let b = c .before .before in
     sym (b .before .before .before .get2 .ensures) ∙ c .if4 .left ∙ body-is b
 
-returns-5 : tie.Need-returns-5
+body-cut : (c : tie.Then5) →
+    let a = c .before .before .before .before .before .before .before .before .before .before .before .args in
+    BodyCut (a .reader) (a .u) (now (a .s))
 unfolding recordLength
-returns-5 c =
+body-cut c =
     let d = c .before in
     let b = d .before .before in
     let h = b .before .before .before .before in
-    sym (read-no-body _ _ _ (unit-ok (h .before)) (h .if2 .left) (for-reader (d .before)) (size-is d) (rw (← body-is b) (c .if5 .taken)))
+    record {
+      unit = unit-ok (h .before);
+      header = h .if2 .left;
+      kind = for-reader (d .before);
+      size = size-is d;
+      body = rw (← body-is b) (c .if5 .taken);
+    }
+
+returns-5 : tie.Need-returns-5
+unfolding recordLength
+returns-5 c = rw (body-is (c .before .before .before)) (sym (read-no-body _ _ _ (body-cut c)))
 
 whole : (c : tie.Else5) →
     let a = c .before .before .before .before .before .before .before .before .before .before .before .args in
@@ -110,6 +128,7 @@ read-spec =
     (tie.spec
     unit-ok-requires
     returns
+    sub-t13
     returns-2
     get2-requires
     cast-length
@@ -118,7 +137,8 @@ read-spec =
     body-length-requires
     returns-3
     returns-4
-    add-if5
+    add-whole
+    sub-t16
     returns-5
     fields-requires
     returns-6)

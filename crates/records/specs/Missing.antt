@@ -1,0 +1,28 @@
+-- How much is missing (document 02, Job 2): what is claimed of the number that a reader tells of bytes cut short. The
+-- reader is a parameter, since the record test, its word for C and the calls above it claim the same. Assumes nothing.
+use Prim.Native.Nat.{ℕ, _+_, _-_, _≤_, _<_}
+use mathlib.Core.Path.{_≡_}
+use mathlib.Core.Bool.{cond}
+use mathlib.Core.List.{List, _++_}
+use lib.Dec.{leb}
+use lib.ListN.{length}
+use Rattle.lists.specs.LittleEndian.{leAt}
+use Rattle.records.specs.Kind.{headerLength}
+
+-- of a record of so many bytes of which the first n are there: the rest of its header, then of the whole
+abbrev pub missingFrom : (whole n : ℕ) → ℕ
+missingFrom whole n = cond (leb headerLength n) (whole - n) (headerLength - n)
+
+-- cut s n: the reader answers of the bytes s that they are cut short, and that n are missing
+pub record MissingRight (cut : List ℕ → ℕ → Type 0) : Type 0 where
+  -- "4 less the bytes present for the header"
+  pub header : (s : List ℕ) (n : ℕ) → cut s n → length s < headerLength → length s + n ≡ headerLength
+  -- "then the rest of the body": the header's length says how long it is
+  pub body : (s : List ℕ) (n : ℕ) → cut s n → headerLength ≤ length s → length s + n ≡ headerLength + leAt 2 s 0
+  -- at least one byte is missing
+  pub some : (s : List ℕ) (n : ℕ) → cut s n → 0 < n
+  -- "Given that many further bytes, the test is never short again at the same stage", nor given more: only by having
+  -- passed from the header to the body
+  pub enough : (s t : List ℕ) (n m : ℕ) → cut s n → n ≤ length t → cut (s ++ t) m → (length s < headerLength) × (headerLength ≤ length (s ++ t))
+  -- given fewer it is short of exactly the rest: nothing less would do
+  pub exact : (s t : List ℕ) (n : ℕ) → cut s n → length t < n → cut (s ++ t) (n - length t)
