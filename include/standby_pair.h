@@ -99,7 +99,7 @@ enum {
     NUMBER_NOTHING_FREE = 18,   /* no packet may be handed out */
     NUMBER_LAST_EPOCH = 19,     /* the open epoch is 4294967295 */
     NUMBER_BLOCKS_DUE = 20,     /* blocks are still due at activation */
-    NUMBER_CUT_SHORT = 256      /* ours: the record is not all there; answer_missing says how much */
+    NUMBER_CUT_SHORT = 256      /* ours: the record is not all there: answer_missing tells more */
 };
 
 /* 0 where the call is accepted, NUMBER_CUT_SHORT, or why it is refused. */
@@ -126,7 +126,7 @@ static inline size_t answer_used(uint64_t answer)
     return answer_cut_short(answer) ? 0 : (size_t)(answer >> 16 & 65535);
 }
 
-/* How many more bytes are wanted, as record_missing of link.h says it; 0 where not cut short. */
+/* How many more bytes are wanted, counted as record_missing of link.h does; 0 if not cut short. */
 static inline size_t answer_missing(uint64_t answer)
 {
     return answer_cut_short(answer) ? (size_t)(answer >> 16 & 65535) : 0;

@@ -21,8 +21,8 @@ pub record MissingRight (cut : List ℕ → ℕ → Type 0) : Type 0 where
   pub body : (s : List ℕ) (n : ℕ) → cut s n → headerLength ≤ length s → length s + n ≡ headerLength + leAt 2 s 0
   -- at least one byte is missing
   pub some : (s : List ℕ) (n : ℕ) → cut s n → 0 < n
-  -- "Given that many further bytes, the test is never short again at the same stage", nor given more: only by having
-  -- passed from the header to the body
+  -- "Given that many further bytes, ..": with these or more behind them they are cut short again only by having passed
+  -- from the header to the body
   pub enough : (s t : List ℕ) (n m : ℕ) → cut s n → n ≤ length t → cut (s ++ t) m → (length s < headerLength) × (headerLength ≤ length (s ++ t))
-  -- given fewer it is short of exactly the rest: nothing less would do
+  -- with fewer behind them exactly the rest is missing: nothing less would do
   pub exact : (s t : List ℕ) (n : ℕ) → cut s n → length t < n → cut (s ++ t) (n - length t)

@@ -1,5 +1,6 @@
 use mathlib.Core.Path.{_≡_, sym, _∙_}
 use mathlib.Core.Bool.{true}
+use native.Mathlib.Omega.{arith}
 use denote.Ref.{now}
 use borrow.Author.Tests.{not-true, not-false}
 use Rattle.lists.specs.LittleEndian.{leAt}
@@ -71,7 +72,7 @@ add-whole : tie.Need-add-whole
 add-whole c = search needs
 
 sub-t16 : tie.Need-sub-t16
-sub-t16 c = search needs
+sub-t16 c = omega arith
 
 size-is : (c : tie.Else4) →
     let a = c .before .before .before .before .before .before .before .before .before .before .args in
@@ -93,7 +94,7 @@ body-cut c =
       header = h .if2 .left;
       kind = for-reader (d .before);
       size = size-is d;
-      body = rw (← body-is b) (c .if5 .taken);
+      body = omega (arith, body-is b, c .if5 .taken);
     }
 
 returns-5 : tie.Need-returns-5
