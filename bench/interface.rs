@@ -46,9 +46,11 @@ pub fn standby_words(s: &model::Standby) -> Standby {
     Standby { words, pending: s.staged_cpu, processor: s.kept_cpu }
 }
 
-/// The three parts of an answer.
+/// The parts of an answer.
 pub fn answered(word: u64) -> model::Reply {
-    model::Reply { number: word & 65535, value: word >> 32, used: word >> 16 & 65535 }
+    let (number, count) = (word & 65535, word >> 16 & 65535);
+    let (used, missing) = if number == model::CUT_SHORT { (0, count) } else { (count, 0) };
+    model::Reply { number, value: word >> 32, used, missing }
 }
 
 pub fn packet(state: &mut PrimaryWords, held: &mut [u8], bytes: &[u8]) -> model::Reply {

@@ -3,17 +3,23 @@ use crate::capi::*;
 use crate::items::{code, Item::*};
 use crate::lent::Lent;
 
+const CUT_SHORT: u64 = 256;
+
 /// The fields of an answer's word.
 #[derive(Clone, Copy, PartialEq, Debug)]
 pub struct Answer {
     pub number: u64,
     pub used: u64,
+    pub missing: u64,
     pub value: u64,
 }
 
 impl Answer {
+    /// The 16 bits between number and value are the bytes missing where the record is cut short, else the bytes used.
     pub fn of(word: u64) -> Answer {
-        Answer { number: word & 0xffff, used: word >> 16 & 0xffff, value: word >> 32 }
+        let (number, count, value) = (word & 0xffff, word >> 16 & 0xffff, word >> 32);
+        let (used, missing) = if number == CUT_SHORT { (0, count) } else { (count, 0) };
+        Answer { number, used, missing, value }
     }
 }
 

@@ -23,6 +23,7 @@ pub fn compare(which: usize, l: &Lent, answer: Answer, reply: &Reply, wanted: &V
 pub fn compare_answer(answer: Answer, reply: &Reply) -> Check {
     same_number("number", answer.number, reply.number)?;
     same_number("used", answer.used, reply.used)?;
+    same_number("missing", answer.missing, reply.missing)?;
     same_number("value", answer.value, reply.value)
 }
 

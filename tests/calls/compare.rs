@@ -18,6 +18,8 @@ mod large;
 mod lent;
 mod lines;
 mod marks;
+mod missing;
+mod missing_cases;
 mod model;
 mod names;
 mod no_state;
@@ -68,7 +70,8 @@ const CUTS: &str = "runs cut at every place";
 const LINES: &str = "lines through the program";
 const MARKS: &str = "marks about the ends of words";
 const SILENCE: &str = "records that come slower than T ticks";
-const ON_TOP: [&str; 5] = [LARGE, CUTS, LINES, MARKS, SILENCE];
+const PARTS: &str = "records that come in parts";
+const ON_TOP: [&str; 6] = [LARGE, CUTS, LINES, MARKS, SILENCE, PARTS];
 
 fn until(sink: &mut Sink, end: u64, mut one: impl FnMut(&mut Sink)) {
     while sink.calls < end {
@@ -215,7 +218,8 @@ fn main() {
             CUTS => cut_runs(&r, sink, calls, seed),
             LINES => demanded(lines::run(&r, sink, &program)),
             MARKS => demanded(marks::run(&r, sink)),
-            _ => demanded(silence::run(&r, sink)),
+            SILENCE => demanded(silence::run(&r, sink)),
+            _ => demanded(missing::run(&r, sink)),
         });
     }
     // that every number comes is a test of all kinds together

@@ -56,6 +56,7 @@ pub enum Item {
     Number,
     Value,
     Used,
+    Missing,
     /// The disk that the choice hands back.
     Chosen,
 }
@@ -86,7 +87,7 @@ impl Item {
             Marks | StandbyMarks => Sort::Words,
             Cpu | Pending | Kept => Sort::Processor,
             Place | Offset | N => Sort::Given,
-            Number | Value | Used | Chosen => Sort::Answered,
+            Number | Value | Used | Missing | Chosen => Sort::Answered,
             _ => Sort::Bytes,
         }
     }
@@ -131,10 +132,10 @@ pub const OUTPUT: [&[Item]; code::ALL] = [
     &[Number, Value, Primary, Held],
     &[Number, Value, Primary, Memory, Marks, Stream],
     &[Number, Value, Primary, Stream, Out],
-    &[Number, Value, Used, Primary],
+    &[Number, Value, Used, Missing, Primary],
     &[Number, Value, Primary, Held, Out],
     &[Number, Value, Primary],
-    &[Number, Value, Used, Standby, Pending, Kept, StandbyMemory, Pages, StandbyMarks, Blocks, Out],
+    &[Number, Value, Used, Missing, Standby, Pending, Kept, StandbyMemory, Pages, StandbyMarks, Blocks, Out],
     &[Number, Value, Standby, Pending, Kept, Blocks, StandbyDisk],
     &[Number, Value, Standby, Pending, Kept, StandbyMarks],
     &[Number, Value, Standby, Pending, Kept, Area],

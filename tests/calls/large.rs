@@ -217,8 +217,7 @@ impl Pair<'_> {
             let whole = 4 + u16::from_le_bytes([link[at], link[at + 1]]) as usize;
             let end = (at + whole).min(link.len());
             if self.r.percent(2) {
-                let short = self.r.range(at as u64, end as u64 - 1) as usize;
-                self.read(&link[at..short])?;
+                self.read_first_part(&link[at..end])?;
             }
             let (reply, out) = self.read(&link[at..end])?;
             if reply.number == 17 {
@@ -231,6 +230,15 @@ impl Pair<'_> {
             ack = if reply.value == 4 { out[..8].to_vec() } else { ack };
         }
         Ok(ack)
+    }
+
+    /// A first part of a record is cut short; what is missing ends where its header or the record itself does.
+    fn read_first_part(&mut self, record: &[u8]) -> Check {
+        let length = self.r.below(record.len() as u64);
+        let (reply, _) = self.read(&record[..length as usize])?;
+        demand(reply.number == CUT_SHORT && reply.used == 0, "a first part of a record is not cut short")?;
+        let end = if length < 4 { 4 } else { record.len() as u64 };
+        demand(length + reply.missing == end, "what is missing is not the rest")
     }
 
     fn read(&mut self, data: &[u8]) -> Result<(Reply, Vec<u8>), String> {

@@ -1,8 +1,9 @@
 //! A second writing of the two ends, start and the disk choice, made from document 01 and the jobs of
 //! document 02 that have landed alone.
 //!
-//! Every call works in place on the state and on the lent buffers and answers with a number, a value and
-//! the bytes used. A refused call changes nothing. Nothing here is shared with the verified program.
+//! Every call works in place on the state and on the lent buffers and answers with a number, a value, the
+//! bytes used and the bytes missing. A refused call changes nothing, nor does one that is cut short. Nothing
+//! here is shared with the verified program.
 #![allow(dead_code)] // a program may use only some of the calls
 
 /// The number that stands for a record cut short.
@@ -82,6 +83,8 @@ pub struct Reply {
     pub number: u64,
     pub value: u64,
     pub used: u64,
+    /// How many more bytes would complete the header or the record that is cut short; 0 in every other answer.
+    pub missing: u64,
 }
 
 /// Every buffer of both ends, as start takes them.
@@ -100,11 +103,15 @@ pub struct Lent<'a> {
 }
 
 fn accepted(value: u64) -> Reply {
-    Reply { number: 0, value, used: 0 }
+    Reply { number: 0, value, used: 0, missing: 0 }
 }
 
 fn refused(number: u64) -> Reply {
-    Reply { number, value: 0, used: 0 }
+    Reply { number, value: 0, used: 0, missing: 0 }
+}
+
+fn cut_short(missing: u64) -> Reply {
+    Reply { missing, ..refused(CUT_SHORT) }
 }
 
 impl Primary {

@@ -127,10 +127,11 @@ pub fn ack(p: &mut Primary, data: &[u8]) -> Reply {
         Record::Ack { epoch } => {
             p.acknowledged = epoch;
             p.count = 0;
-            Reply { number: 0, value: epoch as u64, used: 8 }
+            Reply { used: 8, ..accepted(epoch as u64) }
         }
+        Record::CutShort { missing } => cut_short(missing),
         Record::Refused(number) => refused(number),
-        _ => refused(CUT_SHORT),
+        _ => refused(6),
     }
 }
 

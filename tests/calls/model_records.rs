@@ -9,7 +9,7 @@ pub const ACTIVATION: u64 = 6;
 
 /// What stands at the head of some bytes.
 pub enum Record<'a> {
-    CutShort,
+    CutShort { missing: u64 },
     Refused(u64),
     Page { epoch: u32, page: u64, bytes: &'a [u8] },
     Block { epoch: u32, block: u64, bytes: &'a [u8] },
@@ -39,7 +39,8 @@ fn body_length(kind: u64, u: u64) -> u64 {
 /// Reads one record of the kinds from `first` to `last`. The order: header incomplete, 6, 7, body incomplete.
 pub fn read_record(bytes: &[u8], u: u64, first: u64, last: u64) -> Record<'_> {
     if bytes.len() < 4 {
-        return Record::CutShort;
+        // document 02, Job 2: "4 less the bytes present for the header"
+        return Record::CutShort { missing: 4 - bytes.len() as u64 };
     }
     let (length, kind) = (get_16(bytes, 0), get_16(bytes, 2));
     if kind < first || kind > last {
@@ -50,7 +51,8 @@ pub fn read_record(bytes: &[u8], u: u64, first: u64, last: u64) -> Record<'_> {
     }
     let end = 4 + length as usize;
     if bytes.len() < end {
-        return Record::CutShort;
+        // "then the rest of the body once kind and length have passed"
+        return Record::CutShort { missing: (end - bytes.len()) as u64 };
     }
     let epoch = get_32(bytes, 4);
     match kind {

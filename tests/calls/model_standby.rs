@@ -24,18 +24,19 @@ pub fn read(s: &mut Standby, lent: &mut Staging, data: &[u8], reply: &mut [u8]) 
         return refused(13);
     }
     let answer = match read_record(data, s.u, PAGE, COMMIT) {
+        Record::CutShort { missing } => return cut_short(missing),
         Record::Refused(number) => Err(number),
         Record::Page { epoch, page, bytes } => read_page(s, lent, epoch, page, bytes),
         Record::Block { epoch, block, bytes } => read_block(s, lent, epoch, block, bytes),
         Record::State { epoch, cpu } => read_state(s, epoch, cpu),
         Record::Commit { epoch, pages, blocks } => read_commit(s, lent, epoch, (pages, blocks), reply),
-        _ => Err(CUT_SHORT),
+        Record::Ack { .. } => Err(6),
     };
     match answer {
         Ok((kind, used)) => {
             // document 02, Job 1: "at each accepted record of kinds 1 to 4"
             s.count = 0;
-            Reply { number: 0, value: kind, used }
+            Reply { used, ..accepted(kind) }
         }
         Err(number) => refused(number),
     }

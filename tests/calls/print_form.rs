@@ -80,6 +80,7 @@ impl<W: Write> Output<W> {
             Item::Number => self.number(answer.number),
             Item::Value => self.number(answer.value),
             Item::Used => self.number(answer.used),
+            Item::Missing => self.number(answer.missing),
             _ => return self.bytes(chosen(l, answer)),
         }
         Ok(())
@@ -137,7 +138,7 @@ pub fn input_line(which: usize, l: &Lent) -> Vec<u8> {
     let mut line = Vec::new();
     let mut output = Output::new(&mut line);
     output.number(which as u64);
-    let none = Answer { number: 0, used: 0, value: 0 };
+    let none = Answer { number: 0, used: 0, missing: 0, value: 0 };
     // A vector takes every byte, so that printing into it cannot fail.
     let printed = crate::items::INPUT[which].iter().try_for_each(|&item| output.item(item, l, none));
     printed.and_then(|()| output.end_line()).and_then(|()| output.flush()).expect("a vector takes every byte");

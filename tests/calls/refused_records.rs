@@ -38,21 +38,27 @@ impl Refusals {
     }
 }
 
-/// A read that is not accepted: its number, the bytes given and the reply buffer's length.
-struct Bad {
-    number: u64,
-    data: Vec<u8>,
-    reply: usize,
+/// A read that is not accepted: its number, the bytes missing, the bytes given and the reply buffer's length.
+pub struct Bad {
+    pub number: u64,
+    missing: u64,
+    pub data: Vec<u8>,
+    pub reply: usize,
 }
 
 fn bad(number: u64, data: Vec<u8>) -> Bad {
-    Bad { number, data, reply: 8 }
+    Bad { number, missing: 0, data, reply: 8 }
+}
+
+/// The first bytes of a record, and how many it then lacks of its header or of its body.
+fn cut(record: &[u8], length: usize, missing: usize) -> Bad {
+    Bad { missing: missing as u64, ..bad(CUT_SHORT, record[..length].to_vec()) }
 }
 
 /// Every refusal at this place, each in a copy: the count stays, so that the next tick, the T-th, takes over.
 pub fn try_all(sink: &mut Sink, both: &Both, refusals: &mut Refusals) -> Check {
     let s = &both.world.standby;
-    for bad in by_header(s).into_iter().chain(by_field(s)).chain(by_order(s)) {
+    for bad in by_header(s).into_iter().chain(cut_short(s)).chain(whole(s)) {
         let mut both = both.clone();
         refused(sink, &mut both, bad, refusals)?;
         last_tick(sink, both)?;
@@ -83,12 +89,15 @@ pub fn not_receiving(sink: &mut Sink, both: &mut Both, refusals: &mut Refusals) 
 
 /// A read that is not accepted changes nothing of the standby, and so not its count.
 fn refused(sink: &mut Sink, both: &mut Both, bad: Bad, refusals: &mut Refusals) -> Check {
-    let Bad { number, data, reply } = bad;
+    let Bad { number, missing, data, reply } = bad;
     refusals.note(number, &data);
     let before = both.world.standby.clone();
     let reply = both.call(sink, code::READ, Args { data, out: vec![0; reply], ..Args::none() })?;
     if reply.number != number {
         return Err(format!("a read gave {}, not {number}", reply.number));
+    }
+    if reply.missing != missing {
+        return Err(format!("a read that gave {number} is missing {}, not {missing}", reply.missing));
     }
     demand(both.world.standby.count == before.count, "a record that is not accepted changes the count")?;
     demand(both.world.standby == before && reply.used == 0, "a record that is not accepted changes the standby")
@@ -100,7 +109,7 @@ fn last_tick(sink: &mut Sink, mut both: Both) -> Check {
 }
 
 /// A record of this kind and of the next epoch. Its page or block is 0, its counts are those received.
-fn next(s: &Standby, kind: u64) -> Vec<u8> {
+pub fn next(s: &Standby, kind: u64) -> Vec<u8> {
     let epoch = s.received + 1;
     match kind {
         PAGE | BLOCK => record(s.u + 6, kind, epoch, &[vec![0; 2], vec![7; s.u as usize]].concat()),
@@ -110,28 +119,41 @@ fn next(s: &Standby, kind: u64) -> Vec<u8> {
 }
 
 /// The record with another number in these two bytes.
-fn with(mut data: Vec<u8>, at: usize, number: u64) -> Vec<u8> {
+pub fn with(mut data: Vec<u8>, at: usize, number: u64) -> Vec<u8> {
     data[at..at + 2].copy_from_slice(&(number as u16).to_le_bytes());
     data
 }
 
-/// 6, 7 and cut short, of every kind.
-fn by_header(s: &Standby) -> Vec<Bad> {
+/// 6 and 7, of every kind.
+pub fn by_header(s: &Standby) -> Vec<Bad> {
     let mut all = Vec::new();
     for kind in PAGE..=COMMIT {
         let good = next(s, kind);
-        let (length, body) = (good.len(), good.len() as u64 - 4);
+        let body = good.len() as u64 - 4;
         all.extend([0, 5, 6, 7, kind + 256].map(|other| bad(6, with(good.clone(), 2, other))));
         all.extend([body - 1, body + 1].map(|other| bad(7, with(good.clone(), 0, other))));
-        all.extend([0, 3, 4, length - 1].map(|short| bad(CUT_SHORT, good[..short].to_vec())));
     }
     all
+}
+
+/// Cut short in the header and in the body, of every kind.
+fn cut_short(s: &Standby) -> Vec<Bad> {
+    let cuts = |record: Vec<u8>| {
+        let length = record.len();
+        [cut(&record, 0, 4), cut(&record, 3, 1), cut(&record, 4, length - 4), cut(&record, length - 1, 1)]
+    };
+    (PAGE..=COMMIT).flat_map(|kind| cuts(next(s, kind))).collect()
+}
+
+/// Whole records with a right header.
+pub fn whole(s: &Standby) -> impl Iterator<Item = Bad> {
+    by_field(s).into_iter().chain(by_order(s))
 }
 
 /// 2 of a PAGE and a BLOCK, 5 of a COMMIT, 8 of every kind.
 fn by_field(s: &Standby) -> Vec<Bad> {
     let mut all = vec![bad(2, with(next(s, PAGE), 8, s.m)), bad(2, with(next(s, BLOCK), 8, s.d))];
-    all.extend([0, 7].map(|reply| Bad { number: 5, data: next(s, COMMIT), reply }));
+    all.extend([0, 7].map(|reply| Bad { reply, ..bad(5, next(s, COMMIT)) }));
     // at D 0 every BLOCK gives 2, which comes before 8
     for kind in (PAGE..=COMMIT).filter(|&kind| kind != BLOCK || s.d > 0) {
         let received = s.received as u64;

@@ -86,7 +86,7 @@ fn most_patience(r: &Random, sink: &mut Sink) -> Check {
 }
 
 /// Guest writes of B blocks and of some pages, among them the first and the last, and a checkpoint.
-fn checkpoint(r: &Random, sink: &mut Sink, both: &mut Both) -> Check {
+pub fn checkpoint(r: &Random, sink: &mut Sink, both: &mut Both) -> Check {
     let Primary { u, m, d, b, .. } = both.world.primary;
     for _ in 0..if d > 0 { b } else { 0 } {
         accepted(sink, both, code::DISK_WRITE, Args { place: r.below(d), data: r.bytes(u), ..Args::none() })?;
@@ -98,7 +98,7 @@ fn checkpoint(r: &Random, sink: &mut Sink, both: &mut Both) -> Check {
     accepted(sink, both, code::CHECKPOINT, Args { cpu: r.cpu(), ..Args::none() }).map(|_| ())
 }
 
-fn drain(sink: &mut Sink, both: &mut Both, n: u64) -> Check {
+pub fn drain(sink: &mut Sink, both: &mut Both, n: u64) -> Check {
     let out = vec![0; both.world.primary.waiting as usize];
     accepted(sink, both, code::DRAIN, Args { n, out, ..Args::none() }).map(|_| ())
 }

@@ -77,7 +77,7 @@ impl Sink {
         change(&mut self.before);
         self.lent.copy(which, &self.before);
         let answer = call(which, &mut self.lent);
-        let reply = Reply { number: 1, value: 0, used: 0 };
+        let reply = Reply { number: 1, value: 0, used: 0, missing: 0 };
         let check = compare_answer(answer, &reply).and_then(|()| compare_lent(which, &self.lent, &self.before));
         self.end_at_difference(which, check);
         self.note_text(which, answer);

@@ -2,7 +2,7 @@
 use crate::items::code;
 use crate::model::*;
 
-#[derive(Clone)]
+#[derive(Clone, PartialEq)]
 pub struct World {
     pub primary: Primary,
     pub standby: Standby,
@@ -74,7 +74,7 @@ pub fn run(which: usize, w: &mut World, a: &mut Args) -> Reply {
         _ => {
             let (number, chosen) = disk_choice(&w.disk, &w.standby_disk, &w.area);
             a.out = chosen.to_vec();
-            Reply { number, value: chosen_number(number, &w.area), used: 0 }
+            Reply { number, value: chosen_number(number, &w.area), used: 0, missing: 0 }
         }
     }
 }
@@ -105,7 +105,7 @@ fn run_start(w: &mut World, a: &Args) -> Reply {
     let (number, primary, standby) = start(&a.settings, &a.cpu, &mut lent);
     w.primary = primary;
     w.standby = standby;
-    Reply { number, value: 0, used: 0 }
+    Reply { number, value: 0, used: 0, missing: 0 }
 }
 
 /// What a call moves over the link: drained bytes, bytes used, ACKs written.

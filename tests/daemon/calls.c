@@ -1,7 +1,7 @@
 /*
  * Both headers in one program, which is C99 and C++ at once: the constants against what
  * tests/calls/FORM.md says, and every call once, at settings that are all different, with the words
- * of the states read by their names.
+ * of the states read by their names; the calls that read a record also with its first bytes only.
  *
  * A failing check is printed; the last line is 'N passed, M failed'.
  */
@@ -87,19 +87,53 @@ static void check_answer(const char *what, uint64_t answer, unsigned number, uin
     check(what, answer_number(answer), number);
     check(what, answer_value(answer), value);
     check(what, (uint64_t)answer_cut_short(answer), number == NUMBER_CUT_SHORT);
+    check(what, answer_missing(answer) != 0, number == NUMBER_CUT_SHORT);
 }
 
+/* A call that is cut short, and a record test: no byte is used, and so many are missing. */
+static void check_cut_short(const char *what, uint64_t answer, uint64_t missing)
+{
+    check_answer(what, answer, NUMBER_CUT_SHORT, 0);
+    check(what, answer_missing(answer), missing);
+    check(what, answer_used(answer), 0);
+}
+
+static void check_word_cut_short(const char *what, uint64_t word, uint64_t missing)
+{
+    check(what, (uint64_t)record_cut_short(word), 1);
+    check(what, record_missing(word), missing);
+    check(what, record_used(word), 0);
+}
+
+/* What the headers read from given words, each as its table says it. */
 static void accessors(void)
 {
-    uint64_t answer = 0xfedcba9876543210;
+    uint64_t answer = 0xfedcba9876543210, short_answer = 0xfedcba9876540100;
+    uint64_t page = UINT64_C(74) << 16 | 1 << 8;
 
     CHECK(answer_number(answer), 0x3210);
     CHECK(answer_used(answer), 0x7654);
+    CHECK(answer_missing(answer), 0);
     CHECK(answer_value(answer), 0xfedcba98);
-    check_answer("cut short", 256, NUMBER_CUT_SHORT, 0);
-    CHECK(record_number(UINT64_C(74) << 16 | 1 << 8), 0);
-    CHECK(record_kind(UINT64_C(74) << 16 | 1 << 8), RECORD_PAGE);
-    CHECK(record_used(UINT64_C(74) << 16 | 1 << 8), 74);
+    CHECK(answer_number(short_answer), NUMBER_CUT_SHORT);
+    CHECK(answer_used(short_answer), 0);
+    CHECK(answer_missing(short_answer), 0x7654);
+    CHECK(answer_value(short_answer), 0xfedcba98);
+    check_cut_short("cut short, 1 missing", 256 + 65536, 1);
+    check_cut_short("cut short, 4 missing", 256 + 65536 * 4, 4);
+    check_cut_short("cut short, 4102 missing", 256 + 65536 * 4102, 4102);
+    CHECK(answer_missing(UINT64_C(1) << 32 | 74 << 16), 0);
+    CHECK(answer_missing(NUMBER_BAD_LENGTH) + answer_used(NUMBER_BAD_LENGTH), 0);
+
+    CHECK(record_number(page), 0);
+    CHECK(record_kind(page), RECORD_PAGE);
+    CHECK(record_used(page), 74);
+    CHECK(record_missing(page), 0);
+    CHECK((uint64_t)record_cut_short(page), 0);
+    check_word_cut_short("a word of cut short, 1 missing", 65536, 1);
+    check_word_cut_short("a word of cut short, 4102 missing", 65536 * 4102, 4102);
+    CHECK(record_missing(RECORD_BAD_KIND) + record_used(RECORD_BAD_KIND), 0);
+    CHECK((uint64_t)record_cut_short(RECORD_BAD_KIND), 0);
 }
 
 static uint64_t start(const uint64_t *words, size_t count)
@@ -205,24 +239,88 @@ static void first_epoch(void)
     CHECK(p.state[PRIMARY_WAITING], 0);
 }
 
-static uint64_t read_at(size_t at, size_t length)
+static uint64_t read_bytes(const uint8_t *from, size_t length)
 {
     return standby_read(LENT(s.state), s.pending, s.processor, LENT(s.memory),
-                        LENT(s.staged_pages), LENT(s.staged_marks), LENT(s.staged_blocks),
-                        link_bytes + at, length, LENT(reply));
+                        LENT(s.staged_pages), LENT(s.staged_marks), LENT(s.staged_blocks), from,
+                        length, LENT(reply));
+}
+
+static uint64_t read_at(size_t at, size_t length)
+{
+    return read_bytes(link_bytes + at, length);
+}
+
+/* Only the first bytes of a record have come: so many are missing, and nothing is changed. */
+static void read_part(size_t at, size_t length, size_t missing)
+{
+    static uint8_t before[sizeof s];
+
+    memcpy(before, &s, sizeof s);
+    memset(reply, 0xee, sizeof reply);
+    check_cut_short("read of a part", read_at(at, length), missing);
+    CHECK(memcmp(before, &s, sizeof s) == 0 && all_are(reply, sizeof reply, 0xee), 1);
+    check_word_cut_short("test of a part", record_test(U, link_bytes + at, length), missing);
+}
+
+/* The first bytes of a record, at several places in its header and in its body. */
+static void read_parts(size_t at, size_t length)
+{
+    read_part(at, 0, 4);
+    read_part(at, 1, 3);
+    read_part(at, 2, 2);
+    read_part(at, 3, 1);
+    read_part(at, 4, length - 4);
+    read_part(at, 5, length - 5);
+    read_part(at, length / 2, length - length / 2);
+    read_part(at, length - 1, 1);
 }
 
 /* One record of the link: framed by the record test, read, and so many bytes. */
 static size_t read_one(size_t at, unsigned kind, size_t length)
 {
     uint64_t word = record_test(U, link_bytes + at, sizeof link_bytes - at);
-    uint64_t answer = read_at(at, record_used(word));
+    uint64_t answer;
 
     CHECK(record_kind(word), kind);
     CHECK(record_used(word), length);
+    CHECK(record_missing(word), 0);
+    read_parts(at, length);
+    answer = read_at(at, record_used(word));
     check_answer("read", answer, 0, kind);
     CHECK(answer_used(answer), length);
     return at + length;
+}
+
+/* One record of which no byte more than is missing is received: three calls. */
+static size_t read_by_missing(size_t at, size_t length)
+{
+    size_t part = 0;
+    uint64_t answer = 0;
+
+    for (unsigned call = 1; call <= 3; call++) {
+        answer = read_at(at, part);
+        check("one of three reads", answer_number(answer), call == 3 ? 0 : NUMBER_CUT_SHORT);
+        CHECK(record_missing(record_test(U, link_bytes + at, part)), answer_missing(answer));
+        part += answer_missing(answer);
+    }
+    CHECK(answer_used(answer), length);
+    return at + answer_used(answer);
+}
+
+/* The whole checkpoint so; then the standby is put back as it was. */
+static void received_by_missing(void)
+{
+    static uint8_t before[sizeof s];
+    size_t at = 0;
+
+    memcpy(before, &s, sizeof s);
+    at = read_by_missing(at, U + 10);
+    at = read_by_missing(at, U + 10);
+    at = read_by_missing(at, STATE_RECORD);
+    read_by_missing(at, COMMIT_RECORD);
+    CHECK(s.state[STANDBY_RECEIVED], 1);
+    memcpy(&s, before, sizeof s);
 }
 
 static void records(void)
@@ -230,8 +328,6 @@ static void records(void)
     static const uint8_t ack1[] = {4, 0, 5, 0, 1, 0, 0, 0}; /* E3 */
     size_t at = 0;
 
-    check_answer("a record less a byte", read_at(0, U + 9), NUMBER_CUT_SHORT, 0);
-    CHECK(record_cut_short(record_test(U, link_bytes, U + 9)), 1);
     at = read_one(at, RECORD_BLOCK, U + 10);
     CHECK(s.state[STANDBY_STAGED], 1);
     CHECK(s.state[STANDBY_SLOTS], 4);
@@ -248,6 +344,34 @@ static void records(void)
     CHECK(all_are(s.processor, 64, 8), 1);
     CHECK(memcmp(p.memory, s.memory, sizeof p.memory) == 0, 1);
     CHECK(memcmp(reply, ack1, sizeof ack1) == 0, 1);
+}
+
+/* The first bytes of an ACK: so many are missing, and the primary is not changed. */
+static void acknowledge_parts(void)
+{
+    static const size_t missing[ACK_RECORD] = {4, 3, 2, 1, 4, 3, 2, 1};
+    static uint64_t before[PRIMARY_WORDS];
+
+    memcpy(before, p.state, sizeof before);
+    for (size_t length = 0; length < ACK_RECORD; length++) {
+        check_cut_short("part of an ACK", primary_acknowledge(LENT(p.state), reply, length),
+                        missing[length]);
+        check_word_cut_short("test of it", record_test(U, reply, length), missing[length]);
+    }
+    CHECK(memcmp(before, p.state, sizeof before) == 0, 1);
+}
+
+/* A header that the record test passes is cut short only where its kind is for that end. */
+static void headers_of_the_other_end(void)
+{
+    static const uint8_t ack_header[] = {4, 0, 5, 0};
+
+    check_word_cut_short("a BLOCK's header", record_test(U, link_bytes, 4), U + 6);
+    check_answer("a BLOCK's header at the primary",
+                 primary_acknowledge(LENT(p.state), link_bytes, 4), NUMBER_BAD_KIND, 0);
+    check_word_cut_short("an ACK's header", record_test(U, LENT(ack_header)), 4);
+    check_answer("an ACK's header at the standby", read_bytes(LENT(ack_header)), NUMBER_BAD_KIND,
+                 0);
 }
 
 static void acknowledged(void)
@@ -349,7 +473,10 @@ int main(void)
     refused_starts();
     accepted_start();
     first_epoch();
+    received_by_missing();
     records();
+    acknowledge_parts();
+    headers_of_the_other_end();
     acknowledged();
     takeover();
     active();

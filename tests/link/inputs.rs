@@ -34,6 +34,9 @@ impl Numbers {
 /// Room for the longest record, with as much behind it.
 pub const ROOM: usize = 10_000;
 
+/// The most bytes that are missing, and some more.
+const BEHIND: usize = 4_200;
+
 /// An input under construction. It is a window of a room that is used again and again, so behind
 /// a window that ends early lies the rest of the record, or what earlier inputs left there.
 pub struct Input {
@@ -82,6 +85,14 @@ impl Input {
         self.set(3, (kind >> 8) as u8);
     }
 
+    /// Other bytes behind the window, taken from anywhere in the pool.
+    pub fn replace_behind(&mut self, from: usize) {
+        let end = self.start + self.len;
+        let count = BEHIND.min(ROOM - end);
+        let from = from % (self.pool.len() - count);
+        self.room[end..end + count].copy_from_slice(&self.pool[from..from + count]);
+    }
+
     /// A valid record of this U and kind, its body taken from anywhere in the pool.
     pub fn record(&mut self, u: u64, kind: u16, from: usize) {
         let body = body(u, kind).expect("a kind of the link") as usize;
@@ -96,14 +107,16 @@ impl Input {
 }
 
 /// Every place to cut a record, and every short tail.
-pub fn sweep_cuts(tally: &mut Tally, input: &mut Input) {
+pub fn sweep_cuts(tally: &mut Tally, n: &mut Numbers, input: &mut Input) {
     for u in SIZES {
         for kind in 1..=5 {
             input.record(u, kind, 0);
             let whole = input.len;
             for len in 0..=whole + 80 {
+                input.record(u, kind, 0);
                 input.len = len;
                 tally.compare(u, input.bytes());
+                tally.grow(n, input);
             }
         }
     }

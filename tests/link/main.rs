@@ -1,5 +1,5 @@
 //! Compares `record_test` and `disk_choice` of liblink.a with implementations of its own, on many
-//! inputs.
+//! inputs, and `record_test` with itself where more bytes come behind an input.
 //!
 //! The inputs are sweeps over whole ranges, then `ROUNDS` and `CHOICES` made by a generator. Its
 //! seed is printed, and may be given as the first argument. Every difference fails the run, and so does a class of
@@ -8,10 +8,12 @@
 mod choices;
 mod inputs;
 mod library;
+mod missing;
 mod rules;
 
 use choices::compare_choices;
 use inputs::{Input, Numbers, generate, sweep_cuts, sweep_headers, sweep_sizes};
+use missing::STAGES;
 use rules::{CLASSES, answer};
 use std::env;
 use std::process;
@@ -65,7 +67,8 @@ const OUTSIDE: [u64; 28] = [
 struct Tally {
     inputs: u64,
     differences: u64,
-    classes: [u64; 9],
+    classes: [u64; 10],
+    stages: [u64; 3],
 }
 
 impl Tally {
@@ -74,27 +77,58 @@ impl Tally {
         let theirs = library::word(u, bytes);
         self.inputs += 1;
         self.classes[ours.class()] += 1;
-        if ours.word() != theirs {
-            self.differences += 1;
-            if self.differences <= PRINTED {
-                let hex: Vec<String> = bytes.iter().map(|b| format!("{b:02x}")).collect();
-                println!(
-                    "DIFFERENCE: U {u}, {} bytes: {}",
-                    bytes.len(),
-                    hex.join(" ")
-                );
-                println!("  wanted {}", decoded(ours.word()));
-                println!("  got {}", decoded(theirs));
+        if ours.word() != theirs && self.prints(u, bytes) {
+            println!("  wanted {}", decoded(ours.word()));
+            println!("  got {}", decoded(theirs));
+        }
+    }
+
+    /// Checks the input with more bytes behind it.
+    fn grow(&mut self, n: &mut Numbers, input: &mut Input) {
+        match missing::check(n, input) {
+            Ok(stage) => self.stages[stage] += 1,
+            Err(what) => {
+                if self.prints(input.u, input.bytes()) {
+                    println!("  with more bytes behind these: {what}");
+                }
             }
         }
     }
+
+    /// Counts a difference, and prints its input if it is one of the first.
+    fn prints(&mut self, u: u64, bytes: &[u8]) -> bool {
+        self.differences += 1;
+        if self.differences > PRINTED {
+            return false;
+        }
+        let hex: Vec<String> = bytes.iter().map(|b| format!("{b:02x}")).collect();
+        println!(
+            "DIFFERENCE: U {u}, {} bytes: {}",
+            bytes.len(),
+            hex.join(" ")
+        );
+        true
+    }
 }
 
+/// Prints how often each of these came. Whether each did.
+fn all_came(names: &[&str], counts: &[u64]) -> bool {
+    for (name, count) in names.iter().zip(counts) {
+        println!("{count:>10}  {name}");
+        if *count == 0 {
+            println!("FAILED: this never came");
+        }
+    }
+    !counts.contains(&0)
+}
+
+/// The upper part counts the bytes missing where the lower 16 bits are 0, else those used.
 fn decoded(word: u64) -> String {
     format!(
-        "word {word}: number {}, kind {}, used {}",
+        "word {word}: number {}, kind {}, {} {}",
         word % 256,
         word / 256 % 256,
+        if word % 65_536 == 0 { "missing" } else { "used" },
         word / 65_536
     )
 }
@@ -122,27 +156,25 @@ fn main() {
     let mut tally = Tally {
         inputs: 0,
         differences: 0,
-        classes: [0; 9],
+        classes: [0; 10],
+        stages: [0; 3],
     };
 
-    sweep_cuts(&mut tally, &mut input);
+    sweep_cuts(&mut tally, &mut numbers, &mut input);
     sweep_headers(&mut tally, &mut input);
     sweep_sizes(&mut tally, &mut input);
     let swept = tally.inputs;
     for _ in 0..ROUNDS {
         generate(&mut numbers, &mut input);
         tally.compare(input.u, input.bytes());
+        tally.grow(&mut numbers, &mut input);
     }
 
     println!("{} inputs: {swept} swept, {ROUNDS} generated", tally.inputs);
     let mut good = tally.differences == 0;
-    for (name, count) in CLASSES.iter().zip(tally.classes) {
-        println!("{count:>10}  {name}");
-        if count == 0 {
-            println!("FAILED: this answer never came");
-            good = false;
-        }
-    }
+    good &= all_came(&CLASSES, &tally.classes);
+    println!("inputs with more bytes behind them:");
+    good &= all_came(&STAGES, &tally.stages);
     if tally.differences != 0 {
         println!(
             "FAILED: {} differences, of which {PRINTED} at most are printed",

@@ -4,15 +4,17 @@
 #[derive(Clone, Copy)]
 pub enum Answer {
     OutOfRange,
-    CutShort,
+    HeaderCutShort { missing: u64 },
+    BodyCutShort { missing: u64 },
     NoKind,
     WrongLength,
     Record { kind: u16, used: u64 },
 }
 
-pub const CLASSES: [&str; 9] = [
+pub const CLASSES: [&str; 10] = [
     "1, U out of range",
-    "cut short",
+    "cut short in the header",
+    "cut short in the body",
     "6, kind not 1 to 5",
     "7, length not the kind's",
     "kind 1, PAGE",
@@ -26,7 +28,9 @@ impl Answer {
     pub fn word(self) -> u64 {
         match self {
             Answer::OutOfRange => 1,
-            Answer::CutShort => 0,
+            Answer::HeaderCutShort { missing } | Answer::BodyCutShort { missing } => {
+                65_536 * missing
+            }
             Answer::NoKind => 6,
             Answer::WrongLength => 7,
             Answer::Record { kind, used } => 256 * u64::from(kind) + 65_536 * used,
@@ -37,10 +41,11 @@ impl Answer {
     pub fn class(self) -> usize {
         match self {
             Answer::OutOfRange => 0,
-            Answer::CutShort => 1,
-            Answer::NoKind => 2,
-            Answer::WrongLength => 3,
-            Answer::Record { kind, .. } => 3 + usize::from(kind),
+            Answer::HeaderCutShort { .. } => 1,
+            Answer::BodyCutShort { .. } => 2,
+            Answer::NoKind => 3,
+            Answer::WrongLength => 4,
+            Answer::Record { kind, .. } => 4 + usize::from(kind),
         }
     }
 }
@@ -62,7 +67,10 @@ pub fn answer(u: u64, bytes: &[u8]) -> Answer {
         return Answer::OutOfRange;
     }
     let &[l0, l1, k0, k1, ref rest @ ..] = bytes else {
-        return Answer::CutShort;
+        // "4 less the bytes present for the header"
+        return Answer::HeaderCutShort {
+            missing: 4 - bytes.len() as u64,
+        };
     };
     let kind = u16::from_le_bytes([k0, k1]);
     let Some(body) = body(u, kind) else {
@@ -71,8 +79,12 @@ pub fn answer(u: u64, bytes: &[u8]) -> Answer {
     if u64::from(u16::from_le_bytes([l0, l1])) != body {
         return Answer::WrongLength;
     }
-    if (rest.len() as u64) < body {
-        return Answer::CutShort;
+    let present = rest.len() as u64;
+    if present < body {
+        // "then the rest of the body once kind and length have passed"
+        return Answer::BodyCutShort {
+            missing: body - present,
+        };
     }
     Answer::Record {
         kind,
