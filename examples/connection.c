@@ -42,37 +42,49 @@ int is_due(int64_t *last, int64_t interval)
     return 1;
 }
 
-void wait_until(int64_t due, const struct connection *c, int other)
+int has_record(const struct connection *c)
 {
-    int events = (c->in_length < sizeof c->in ? POLLIN : 0) | (c->out_length > 0 ? POLLOUT : 0);
+    return c->in_length > 0 && c->missing == 0;
+}
+
+void wait_until(int64_t due, struct connection *c, int other)
+{
+    int events = (has_record(c) ? 0 : POLLIN) | (c->out_length > 0 ? POLLOUT : 0);
     struct pollfd fds[] = {{c->fd, (short)events, 0}, {other, POLLOUT, 0}};
     int64_t now = milliseconds();
 
     if (poll(fds, 2, due > now ? (int)(due - now) : 0) < 0 && errno != EINTR)
         die("poll");
+    c->has_bytes = (fds[0].revents & ~POLLOUT) != 0; /* or their end, or an error */
 }
 
-void receive(struct connection *c)
+int receive(struct connection *c)
 {
-    size_t space = sizeof c->in - c->in_length;
     ssize_t n;
 
-    if (c->fd < 0 || space == 0)
-        return;
-    n = recv(c->fd, c->in + c->in_length, space, MSG_DONTWAIT);
-    if (n > 0)
-        c->in_length += (size_t)n;
-    else if (n == 0 || !try_later())
-        drop(c);
+    if (c->fd >= 0 && c->missing > 0 && c->has_bytes) {
+        n = recv(c->fd, c->in + c->in_length, c->missing, MSG_DONTWAIT);
+        c->has_bytes = n == (ssize_t)c->missing;
+        if (n > 0) {
+            c->in_length += (size_t)n;
+            c->missing -= (size_t)n;
+        } else if (n == 0 || !try_later()) {
+            drop(c);
+        }
+    }
+    return c->fd >= 0 && c->missing == 0;
 }
 
 void transmit(struct connection *c)
 {
+    size_t length = c->out_length;
     ssize_t n;
 
-    if (c->fd < 0 || c->out_length == 0)
+    if (c->fd < 0 || length == 0)
         return;
-    n = send(c->fd, c->out, c->out_length, MSG_NOSIGNAL | MSG_DONTWAIT);
+    if (c->most_sent > 0 && length > c->most_sent)
+        length = c->most_sent;
+    n = send(c->fd, c->out, length, MSG_NOSIGNAL | MSG_DONTWAIT);
     if (n >= 0) {
         c->out_length -= (size_t)n;
         memmove(c->out, c->out + n, c->out_length);
@@ -81,18 +93,12 @@ void transmit(struct connection *c)
     }
 }
 
-void consume(struct connection *c, size_t used)
-{
-    c->in_length -= used;
-    memmove(c->in, c->in + used, c->in_length);
-}
-
 void drop(struct connection *c)
 {
     if (c->fd >= 0)
         close(c->fd);
     c->fd = -1;
-    c->in_length = c->out_length = 0;
+    c->in_length = c->out_length = c->missing = 0;
 }
 
 int send_packet(int fd, const uint8_t *packet, size_t length)

@@ -18,27 +18,36 @@ int64_t milliseconds(void);
  */
 int is_due(int64_t *last, int64_t interval);
 
-/* One end of a link: bytes that have come and are not used yet, and bytes that are not sent yet. */
+/* One end of a link: what has come of one record and is not read yet, and what is not sent yet. */
 struct connection {
     int fd; /* below 0 once the connection is dropped */
     size_t in_length, out_length;
-    uint8_t in[8192], out[4096]; /* in: more than the longest record, U + 10 bytes */
+    size_t missing;   /* bytes of the record still to come, by its last test; 0 before the first */
+    int has_bytes;    /* by poll(2), until fewer came than were missing */
+    size_t most_sent; /* at a time; 0: as many as the socket takes */
+    uint8_t in[4106], out[4096]; /* in: the longest record, U + 10 bytes with U 4096 */
 };
 
-/*
- * Sleeps until the time has come, or until the connection has bytes, where there is space for them,
- * or can send, where some are left, or until the other socket can send (one below 0 never can).
- */
-void wait_until(int64_t due, const struct connection *c, int other);
+/* Whether a whole record is there, tested and not read yet. */
+int has_record(const struct connection *c);
 
-/* Takes in what has come. At the end of the bytes, or at an error, the connection is dropped. */
-void receive(struct connection *c);
+/*
+ * Sleeps until the time has come, or the connection has bytes (not while a whole record is there),
+ * or it can send (only where some are left), or the other socket can send (one below 0 never can).
+ *
+ * poll(2) is for this sleep alone, and says whether there is something to receive. Whether a record
+ * is tested again is not its matter: only when all the bytes have come that were missing.
+ */
+void wait_until(int64_t due, struct connection *c, int other);
+
+/*
+ * Takes in what has come of the missing bytes, and no byte behind them. Returns whether none is
+ * missing any more. At the end of the bytes, or at an error, the connection is dropped.
+ */
+int receive(struct connection *c);
 
 /* Sends what the socket takes now; the rest stays for the next time. */
 void transmit(struct connection *c);
-
-/* Removes the first bytes that have come. */
-void consume(struct connection *c, size_t used);
 
 /* Closes the connection. No byte is left in it. */
 void drop(struct connection *c);

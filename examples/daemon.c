@@ -109,17 +109,18 @@ static void send_stream(struct primary *p)
     transmit(k);
 }
 
+/* The loop ends: each closed epoch has at most one ACK, and any other is refused. */
 static void read_acks(struct primary *p)
 {
     struct connection *k = &p->link;
 
-    while (k->fd >= 0) {
+    while (receive(k)) {
         uint64_t answer = primary_acknowledge(LENT(p->state), k->in, k->in_length);
-        if (answer_cut_short(answer))
-            return;
+        trial_acknowledge(answer);
+        k->missing = answer_missing(answer);
         if (answer_number(answer) == NUMBER_ACCEPTED)
-            consume(k, answer_used(answer));
-        else
+            k->in_length = 0; /* the ACK was all that had come */
+        else if (!answer_cut_short(answer))
             drop(k);
     }
 }
@@ -151,7 +152,6 @@ void run_primary(struct primary *p)
     while (!p->state[PRIMARY_ALONE]) {
         wait_until(guest + GUEST_MS, /* the guest's time comes first */
                    &p->link, p->packet_length > 0 ? p->network : -1);
-        receive(&p->link);
         read_acks(p);
         release_packets(p);
         if (is_due(&guest, GUEST_MS))
@@ -173,8 +173,21 @@ static uint32_t flush(struct standby *s, size_t blocks)
                                   LENT(s->staged_blocks), LENT(s->disk), blocks), "flush");
 }
 
-/* Reads the record of this many bytes, after a flush if its block finds no slot. */
-static uint64_t read_record(struct standby *s, size_t length)
+/* Receives what is missing of a record until it is whole. Returns 0 where some has not come yet. */
+static int receive_record(struct connection *k)
+{
+    while (!has_record(k) && receive(k)) {
+        uint64_t word = record_test(U, k->in, k->in_length);
+        trial_test();
+        k->missing = record_missing(word);
+        if (record_number(word) != 0) /* where the next record begins is not known any more */
+            drop(k);
+    }
+    return has_record(k);
+}
+
+/* Reads the record that has come, after a flush if its block finds no slot. */
+static uint64_t read_record(struct standby *s)
 {
     struct connection *k = &s->link;
     uint64_t answer;
@@ -182,41 +195,38 @@ static uint64_t read_record(struct standby *s, size_t length)
     do
         answer = standby_read(LENT(s->state), s->pending, s->processor, LENT(s->memory),
                               LENT(s->staged_pages), LENT(s->staged_marks),
-                              LENT(s->staged_blocks), k->in, length, k->out + k->out_length,
-                              sizeof k->out - k->out_length);
+                              LENT(s->staged_blocks), k->in, k->in_length,
+                              k->out + k->out_length, sizeof k->out - k->out_length);
     while (answer_number(answer) == NUMBER_SLOTS_FULL && flush(s, 1) > 0);
     return answer;
 }
 
 /* An ACK must find space behind those not sent yet: without it no record is read. */
-static int has_ack_space(struct connection *k)
+static int has_ack_space(const struct connection *k)
 {
-    if (sizeof k->out - k->out_length < ACK_RECORD)
-        transmit(k);
     return sizeof k->out - k->out_length >= ACK_RECORD;
 }
 
+/*
+ * Reads up to a COMMIT at most, B + M + 2 records: then its ACK is sent, and flushes and ticks have
+ * their turn, however fast records come.
+ */
 static void read_records(struct standby *s)
 {
     struct connection *k = &s->link;
+    uint32_t kind = 0;
 
-    while (has_ack_space(k) && k->fd >= 0) {
-        uint64_t word = record_test(U, k->in, k->in_length), answer;
-        if (record_cut_short(word))
-            return;
-        if (record_number(word) != 0) { /* where the next record begins is not known any more */
-            drop(k);
-            return;
-        }
-        answer = read_record(s, record_used(word));
+    while (kind != RECORD_COMMIT && receive_record(k) && has_ack_space(k)) {
+        uint64_t answer = read_record(s);
         if (answer_number(answer) != NUMBER_ACCEPTED) {
             drop(k);
             return;
         }
-        consume(k, answer_used(answer));
-        if (answer_value(answer) == RECORD_COMMIT)
+        kind = answer_value(answer);
+        k->in_length = 0; /* the record was all that had come */
+        if (kind == RECORD_COMMIT)
             k->out_length += ACK_RECORD;
-        trial_record(s, answer_value(answer));
+        trial_record(s, kind);
     }
 }
 
@@ -238,9 +248,8 @@ uint32_t run_standby(struct standby *s)
     while (s->state[STANDBY_MODE] == MODE_RECEIVING) {
         int64_t tick_ms = s->link.fd >= 0 ? STANDBY_TICK_MS : LINK_DOWN_TICK_MS;
         wait_until(tick + tick_ms, &s->link, -1);
-        receive(&s->link);
+        transmit(&s->link); /* before reading, which may wait for space for an ACK */
         read_records(s);
-        transmit(&s->link);
         if (is_due(&disk, FLUSH_MS))
             flush(s, 1);
         if (is_due(&tick, tick_ms))

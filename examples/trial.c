@@ -4,14 +4,17 @@
  * The parent process is the standby's box; the primary's box and the far side of the network are
  * its children. At the place that the command line says the primary is killed; the standby takes
  * over, and its memory, disk and processor state are compared with what the guest had at that
- * checkpoint. Every packet that had left must have been sent before that checkpoint.
+ * checkpoint. Every packet that had left must have been sent before that checkpoint. And no record
+ * may have been tested before the bytes had come that were missing at its last test.
  *
- *     daemon N         kills the primary after the standby has read N records
- *     daemon N KIND    the same after N records of a KIND: page, block, state or commit
- *     daemon N stop    stops it after N records: the link stays open, and nothing more comes
- *     daemon random    kills it after a random number of records
+ *     daemon N           kills the primary after the standby has read N records
+ *     daemon N KIND      the same after N records of a KIND: page, block, state or commit
+ *     daemon N stop      stops it after N records: the link stays open, and nothing more comes
+ *     daemon random      kills it after a random number of records
+ *     daemon .. pieces   any of these, and both ends send a few bytes at a time
  *
- * Exit status: 0 all is equal, 1 something differs, 2 the program could not do its work.
+ * Exit status: 0 all is equal, 1 something differs or was tested too early, 2 the program could not
+ * do its work.
  */
 
 #define _GNU_SOURCE
@@ -34,14 +37,18 @@ enum {
     STEPS_AFTER = 200,    /* the guest's steps at the standby after the takeover */
     MOST_RANDOM = 2000,   /* records before a kill at random */
     MOST_PLACE = 1000000, /* records before a kill at all */
-    EPOCHS_KEPT = 65536   /* above the checkpoints that the stream and the socket can hold */
+    EPOCHS_KEPT = 65536,  /* above the checkpoints that the stream and the socket can hold */
+    PIECE = 3,            /* bytes sent at a time: every header and every ACK is cut */
+    MOST_TESTS = 3        /* of a record: with no byte, with its header, whole */
 };
 
 /* The place of the loss: after how many records of which kind, 0 is any; and by which signal. */
 static unsigned place, place_kind;
 static int place_signal = SIGKILL;
+static size_t most_sent; /* at a time, 0 is any number */
 
 static unsigned records[RECORD_COMMIT + 1]; /* read so far: of each kind, and at 0 all of them */
+static unsigned tests;                      /* of these, and of the one that is not read yet */
 static int lost;                            /* whether the place was reached */
 static pid_t primary_process, network_process;
 
@@ -50,6 +57,7 @@ static struct {
     uint64_t steps_at[EPOCHS_KEPT]; /* the guest's at each checkpoint */
     uint64_t packet_steps;          /* its steps up to the last packet that left */
     unsigned packets;
+    unsigned acks, ack_tests;       /* as records and tests, at the primary */
 } *shared;
 
 /* Whether the command line says a place. */
@@ -59,6 +67,10 @@ static int read_place(int argc, char **argv)
     unsigned long number;
     char *end;
 
+    if (argc > 2 && strcmp(argv[argc - 1], "pieces") == 0) {
+        most_sent = PIECE;
+        argc--;
+    }
     if (argc == 2 && strcmp(argv[1], "random") == 0) {
         srand((unsigned)getpid() ^ (unsigned)milliseconds());
         place = (unsigned)rand() % (MOST_RANDOM + 1);
@@ -139,12 +151,14 @@ static void start_processes(struct primary *p, struct standby *s)
         close(link[1]);
         p->network = network[0];
         p->link.fd = link[0];
+        p->link.most_sent = most_sent;
         run_primary(p);
         exit(0);
     }
     close(network[0]);
     close(link[0]);
     s->link.fd = link[1];
+    s->link.most_sent = most_sent;
 }
 
 /* ---- The loss of the primary. ---- */
@@ -152,6 +166,18 @@ static void start_processes(struct primary *p, struct standby *s)
 void trial_checkpoint(uint64_t epoch, uint64_t steps)
 {
     shared->steps_at[epoch % EPOCHS_KEPT] = steps;
+}
+
+void trial_acknowledge(uint64_t answer)
+{
+    shared->ack_tests++;
+    if (answer_number(answer) == NUMBER_ACCEPTED)
+        shared->acks++;
+}
+
+void trial_test(void)
+{
+    tests++;
 }
 
 /* A box that loses its power takes what is on the link with it; one that stops does not. */
@@ -202,6 +228,15 @@ static int has_checkpoint(const struct primary *p, const struct standby *s, uint
     return good;
 }
 
+/* Whether there were at most three tests of each record, the one under way included. */
+static int few_tests(const char *what, unsigned read, unsigned tested)
+{
+    if (tested <= MOST_TESTS * (read + 1))
+        return 1;
+    printf("%u tests of %u %s: some before the missing bytes had come\n", tested, read, what);
+    return 0;
+}
+
 /* The guest goes on from the processor state taken over; nothing holds its packets any more. */
 static uint64_t run_guest_at_standby(struct standby *s)
 {
@@ -228,7 +263,8 @@ int main(int argc, char **argv)
     uint32_t epoch;
 
     if (!read_place(argc, argv)) {
-        fprintf(stderr, "usage: daemon N [page | block | state | commit | stop], daemon random\n");
+        fprintf(stderr, "usage: daemon N [page | block | state | commit | stop] [pieces], "
+                        "daemon random [pieces]\n");
         return 2;
     }
     start_pair(&primary, &standby);
@@ -236,10 +272,12 @@ int main(int argc, char **argv)
     if (place == 0)
         lose_primary(&standby);
     epoch = run_standby(&standby);
-    printf("%u records read: %u blocks, %u pages, %u states, %u commits\n", records[0],
-           records[RECORD_BLOCK], records[RECORD_PAGE], records[RECORD_STATE],
+    printf("%u records read in %u tests: %u blocks, %u pages, %u states, %u commits\n",
+           records[0], tests, records[RECORD_BLOCK], records[RECORD_PAGE], records[RECORD_STATE],
            records[RECORD_COMMIT]);
     if (end_of(network_process) != 0 || !has_checkpoint(&primary, &standby, epoch) ||
+        !few_tests("records", records[0], tests) ||
+        !few_tests("ACKs", shared->acks, shared->ack_tests) ||
         !images_equal(run_guest_at_standby(&standby), standby.memory, standby.disk))
         return 1;
     printf("took over checkpoint %u: memory, disk and processor state equal; "
