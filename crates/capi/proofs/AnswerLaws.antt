@@ -214,6 +214,7 @@ module _ (s : Standby) where
   standby-tick-fits marks = reply-fits (standbyTickTests s marks) 0 refl (λ z. omega arith)
 
 -- ---- calls that read a record
+
 -- a record with its own refusal, behind the tests of the state and of its mode: the answer fits where that of an
 -- accepted record does
 judged-fits : (a b : Bool) (n : ℕ) (r : Record) → n < cutShort → (n ≡ 0 → AnsweredFits (answerOf r))

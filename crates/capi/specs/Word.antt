@@ -10,8 +10,9 @@ use Rattle.rules.specs.declared.Answer.{Answer}
 use Rattle.rules.specs.declared.Answer.the-variants.{Accepted, Short, Refused}
 use Rattle.rules.specs.Reply.{numberOf, valueOf}
 
--- ---- the answer of a call as one word: the number in the low 16 bits, a count of bytes in the next 16, the value above.
--- Each part is taken modulo its width, so that the sum cannot wrap; that nothing is cut off is a law of each call
+-- ---- the answer of a call as one word: the number in the low 16 bits, a count of bytes in the next 16, above them the
+-- value. Each part is taken modulo its width, so that the sum cannot wrap; that nothing is cut off is a law of each
+-- call
 abbrev pub answerWord : ℕ → ℕ → ℕ → ℕ
 answerWord number count value = number % 65536 + 65536 * (count % 65536) + 4294967296 * (value % 4294967296)
 
@@ -33,6 +34,10 @@ answerMissing word = cond (answerCutShort word) (answerCount word) 0
 
 abbrev pub answerValue : ℕ → ℕ
 answerValue word = word / 4294967296
+
+-- it says that the record is cut short, and that so many bytes are missing
+abbrev pub SaysMissing : (word n : ℕ) → Type 0
+SaysMissing word n = (answerCutShort word ≡ true) × (answerMissing word ≡ n)
 
 -- of a call that reads no record
 abbrev pub replyWord : ℕ → ℕ → ℕ

@@ -22,7 +22,7 @@ use Rattle.records.specs.Number.{outOfRange}
 use Rattle.rules.specs.declared.Choice.{Choice}
 use Rattle.rules.specs.declared.Choice.the-variants as choice-of
 use Rattle.rules.specs.Choose.{areaChoice, choiceOf}
-use Rattle.link.specs.Word.{wordOf, testWord, testNumber, testKind, testCutShort, testUsed, testMissing, choiceWord}
+use Rattle.link.specs.Word.{wordOf, testWord, testNumber, testKind, testCutShort, testUsed, testMissing, SaysMissing, choiceWord}
 
 -- what is not cut short has its number, kind and bytes used
 pub word-told : (r : Record) → ((n : ℕ) → r ≡ Short n → ⊥) → testWord r ≡ wordOf r
@@ -91,10 +91,9 @@ module _ (u : ℕ) (s : List ℕ) where
           (λ n word p z. absurd (false≢true (sym (p .short) ∙ z)))
 
 -- what is claimed of the bytes missing, of the word that the daemon gets
-pub test-missing : (u : ℕ) → MissingRight (λ s n. let word = testWord (readRecord Test u s) in (testCutShort word ≡ true) × (testMissing word ≡ n))
+pub test-missing : (u : ℕ) → MissingRight Test u (λ s n. SaysMissing (testWord (readRecord Test u s)) n)
 test-missing u =
-    missing-as (λ s n. readRecord Test u s ≡ Short n)
-    (λ s n. let word = testWord (readRecord Test u s) in (testCutShort word ≡ true) × (testMissing word ≡ n))
+    missing-as Test u (λ s n. readRecord Test u s ≡ Short n) (λ s n. SaysMissing (testWord (readRecord Test u s)) n)
     (λ s n c. word-only-short u s (c .0) ∙ ap Short (c .1))
     (λ s n e. let p = word-parts u s in (p .short ∙ ap (λ (r : Record). onFound r false (λ m. true) (λ m. false)) e, p .missing ∙ ap missingOf e))
     (record-missing Test u)

@@ -1,6 +1,7 @@
 -- The answers of the record test and of the disk choice, each as one number. Assumes nothing.
 use Prim.Native.Nat.{ℕ, _+_, _*_, _/_, _%_}
-use mathlib.Core.Bool.{Bool, cond}
+use mathlib.Core.Path.{_≡_}
+use mathlib.Core.Bool.{Bool, true, cond}
 use lib.Dec.{eqb}
 use Rattle.records.specs.declared.Record.{Record}
 use Rattle.records.specs.Cases.{onFound}
@@ -32,6 +33,10 @@ testUsed word = cond (testCutShort word) 0 (word / 65536)
 
 abbrev pub testMissing : ℕ → ℕ
 testMissing word = cond (testCutShort word) (word / 65536) 0
+
+-- it says that the record is cut short, and that so many bytes are missing
+abbrev pub SaysMissing : (word n : ℕ) → Type 0
+SaysMissing word n = (testCutShort word ≡ true) × (testMissing word ≡ n)
 
 -- the number in the low 8 bits, the disk above them
 abbrev pub choiceWord : Choice → ℕ

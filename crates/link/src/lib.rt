@@ -14,7 +14,8 @@ use records::reading::read;
 use records::reading::used_of;
 use rules::Choice;
 
-// The record test: number + 256 * kind + 65,536 * used, where the low 16 bits are 0 only for cut short.
+// The record test: number + 256 * kind + 65,536 * used. Cut short, and nothing else, has low 16 bits of 0: it is 65,536
+// * the bytes missing.
 #[no_mangle]
 pub extern "C" fn record_test(u: u64, bytes: &[u8]) -> u64
     ensures { λ r. ⌜ r ≡ testWord (readRecord Test u (now (bytes .entry))) ⌝ }

@@ -12,7 +12,7 @@ use Rattle.lists.proofs.LittleEndianLaws.{leAt-take}
 use Rattle.records.specs.declared.Reader.{Reader}
 use Rattle.records.specs.declared.Record.{Record}
 use Rattle.records.specs.declared.Record.the-variants.{Short}
-use Rattle.records.specs.Kind.{bodyLength, headerLength, recordLength, isFor}
+use Rattle.records.specs.Kind.{unitOk, bodyLength, headerLength, recordLength, isFor}
 use Rattle.records.specs.Read.{fieldsOf, readRecord, usedOf}
 use Rattle.records.specs.Missing.{MissingRight}
 use Rattle.records.proofs.ReadLaws.{for-test, Whole, BodyCut, read-whole, read-no-header, read-no-body, fields-cases, isFound, ShortFacts, read-facts}
@@ -21,6 +21,12 @@ module _ (reader : Reader) (u : ℕ) where
   module _ (s : List ℕ) (n : ℕ) (e : readRecord reader u s ≡ Short n) where
     short-facts : ShortFacts reader u s n
     short-facts = rw e at (read-facts reader u s)
+
+    missing-range : unitOk u ≡ true
+    missing-range = short-facts .0
+
+    missing-passed : headerLength ≤ length s → (isFor reader (leAt 2 s 2) ≡ true) × (leAt 2 s 0 ≡ bodyLength u (leAt 2 s 2))
+    missing-passed h = ⊎-elim (λ a. absurd (omega arith)) (λ c. (c .0 .kind, c .0 .size)) (short-facts .1)
 
     missing-header : length s < headerLength → length s + n ≡ headerLength
     missing-header h = ⊎-elim (λ a. omega arith) (λ c. absurd (omega (arith, c .0 .header))) (short-facts .1)
@@ -87,10 +93,12 @@ module _ (reader : Reader) (u : ℕ) where
         (short-facts s n e .1)
 
 -- of the record test, and of each reader
-pub record-missing : (reader : Reader) (u : ℕ) → MissingRight (λ s n. readRecord reader u s ≡ Short n)
+pub record-missing : (reader : Reader) (u : ℕ) → MissingRight reader u (λ s n. readRecord reader u s ≡ Short n)
 record-missing reader u =
     record {
+      range = missing-range reader u;
       header = missing-header reader u;
+      passed = missing-passed reader u;
       body = missing-body reader u;
       some = missing-some reader u;
       enough = λ s t n m e. missing-enough reader u s t n e m;
@@ -98,25 +106,30 @@ record-missing reader u =
     }
 
 -- ---- of a reader that answers the same
+module _ (reader : Reader) (u : ℕ) where
+  -- where something holds besides that does not depend on the bytes
+  pub missing-where : (P : Type 0) (cut : List ℕ → ℕ → Type 0) → MissingRight reader u cut → MissingRight reader u (λ s n. P × cut s n)
+  missing-where P cut f =
+      record {
+        range = λ s n c. f .range s n (c .1);
+        header = λ s n c. f .header s n (c .1);
+        passed = λ s n c. f .passed s n (c .1);
+        body = λ s n c. f .body s n (c .1);
+        some = λ s n c. f .some s n (c .1);
+        enough = λ s t n m c long d. f .enough s t n m (c .1) long (d .1);
+        exact = λ s t n c few. (c .0, f .exact s t n (c .1) few);
+      }
 
--- where something holds besides that does not depend on the bytes
-pub missing-where : (P : Type 0) (cut : List ℕ → ℕ → Type 0) → MissingRight cut → MissingRight (λ s n. P × cut s n)
-missing-where P cut f =
-    record {
-      header = λ s n c. f .header s n (c .1);
-      body = λ s n c. f .body s n (c .1);
-      some = λ s n c. f .some s n (c .1);
-      enough = λ s t n m c long d. f .enough s t n m (c .1) long (d .1);
-      exact = λ s t n c few. (c .0, f .exact s t n (c .1) few);
-    }
-
--- in other terms
-pub missing-as : (cut other : List ℕ → ℕ → Type 0) → ((s : List ℕ) (n : ℕ) → other s n → cut s n) → ((s : List ℕ) (n : ℕ) → cut s n → other s n) → MissingRight cut → MissingRight other
-missing-as cut other to from f =
-    record {
-      header = λ s n c. f .header s n (to s n c);
-      body = λ s n c. f .body s n (to s n c);
-      some = λ s n c. f .some s n (to s n c);
-      enough = λ s t n m c long d. f .enough s t n m (to s n c) long (to (s ++ t) m d);
-      exact = λ s t n c few. from (s ++ t) (n - length t) (f .exact s t n (to s n c) few);
-    }
+  -- in other terms
+  pub missing-as : (cut other : List ℕ → ℕ → Type 0) → ((s : List ℕ) (n : ℕ) → other s n → cut s n) → ((s : List ℕ) (n : ℕ) → cut s n → other s n)
+      → MissingRight reader u cut → MissingRight reader u other
+  missing-as cut other to from f =
+      record {
+        range = λ s n c. f .range s n (to s n c);
+        header = λ s n c. f .header s n (to s n c);
+        passed = λ s n c. f .passed s n (to s n c);
+        body = λ s n c. f .body s n (to s n c);
+        some = λ s n c. f .some s n (to s n c);
+        enough = λ s t n m c long d. f .enough s t n m (to s n c) long (to (s ++ t) m d);
+        exact = λ s t n c few. from (s ++ t) (n - length t) (f .exact s t n (to s n c) few);
+      }

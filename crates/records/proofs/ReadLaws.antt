@@ -53,6 +53,12 @@ kind-cases P p1 p2 p3 p4 p5 kind h = let f = within-facts PAGE ACK kind h in go 
     go (suc (suc (suc (suc (suc zero))))) a b = p5
     go (suc (suc (suc (suc (suc (suc k)))))) a b = absurd (omega arith)
 
+-- the kind that is none of the first four
+pub other-ack : (kind : ℕ) → isFor Test kind ≡ true → (kind ≡ PAGE → ⊥) → (kind ≡ BLOCK → ⊥) → (kind ≡ STATE → ⊥) → (kind ≡ COMMIT → ⊥) → kind ≡ ACK
+other-ack =
+    kind-cases (λ (k : ℕ). (k ≡ PAGE → ⊥) → (k ≡ BLOCK → ⊥) → (k ≡ STATE → ⊥) → (k ≡ COMMIT → ⊥) → k ≡ ACK)
+    (λ p b s c. absurd (p refl)) (λ p b s c. absurd (b refl)) (λ p b s c. absurd (s refl)) (λ p b s c. absurd (c refl)) (λ p b s c. refl)
+
 -- each kind has an epoch, and none is longer than a PAGE of the largest U
 pub record-ge : (u kind : ℕ) → isFor Test kind ≡ true → 8 ≤ recordLength u kind
 unfolding recordLength bodyLength

@@ -27,8 +27,8 @@ fieldsOf u kind s =
     (cond (eqb kind COMMIT) (Commit (leAt 4 s 4) (leAt 2 s 8) (leAt 2 s 10) (cursor 12 end))
     (Ack (leAt 4 s 4) (cursor 8 end)))))
 
--- in this order: 1, header incomplete, 6 for that reader, 7, body incomplete, the record. What is incomplete is cut short
--- by what is missing of it: "4 less the bytes present for the header", "then the rest of the body"
+-- in this order: 1, header incomplete, 6 for that reader, 7, body incomplete, the record. What is incomplete is cut
+-- short by what is missing of it: "4 less the bytes present for the header", "then the rest of the body"
 unfoldable pub readRecord : Reader → ℕ → List ℕ → Record
 readRecord reader u s =
     let kind = leAt 2 s 2 in

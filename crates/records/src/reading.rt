@@ -7,7 +7,6 @@ ghost use Rattle.lists.specs.Refusal.{within};
 ghost use Rattle.records.specs.Kind.{unitOk, bodyLength, recordLength, isFor};
 ghost use Rattle.records.specs.Read.{fieldsOf, readRecord, numberOf, otherRefusal, kindOf, valueOf, usedOf};
 use crate::ACK;
-use crate::ACTIVATION;
 use crate::BLOCK;
 use crate::COMMIT;
 use crate::COMMIT_BODY;
@@ -71,19 +70,18 @@ pub fn is_for(reader: Reader, kind: u32) -> bool
     }
 }
 
-// The length of the body of a kind, 0 for what is no kind.
+// The length of the body of a kind that the record test passes.
 fn body_length(u: usize, kind: u32) -> usize
-    requires { ⌜ u ≤ 4096 ⌝ }
+    requires { ⌜ (u ≤ 4096) × (isFor Reader.Test kind ≡ true) ⌝ }
     ensures { λ r. ⌜ r ≡ bodyLength u kind ⌝ }
 {
+    let unit = u + UNIT_BODY;
     match kind {
-        PAGE => u + UNIT_BODY,
-        BLOCK => u + UNIT_BODY,
+        PAGE => unit,
+        BLOCK => unit,
         STATE => STATE_BODY,
         COMMIT => COMMIT_BODY,
-        ACK => EPOCH_BODY,
-        ACTIVATION => EPOCH_BODY,
-        _ => 0,
+        _ => EPOCH_BODY,
     }
 }
 
@@ -93,13 +91,14 @@ fn fields(u: usize, kind: u32, s: &[u8]) -> Record
     ensures { λ r. ⌜ r ≡ fieldsOf u kind (now (s .entry)) ⌝ }
 {
     let epoch = get4(s, 4);
+    let unit_end = u + UNIT_RECORD;
     match kind {
         PAGE => Record::Page {
             epoch,
             page: get2(s, 8) as usize,
             at: Cursor {
                 start: UNIT_RECORD,
-                end: u + UNIT_RECORD,
+                end: unit_end,
             },
         },
         BLOCK => Record::Block {
@@ -107,7 +106,7 @@ fn fields(u: usize, kind: u32, s: &[u8]) -> Record
             block: get2(s, 8) as usize,
             at: Cursor {
                 start: UNIT_RECORD,
-                end: u + UNIT_RECORD,
+                end: unit_end,
             },
         },
         STATE => Record::State {
@@ -153,13 +152,12 @@ pub fn read(reader: Reader, u: usize, s: &[u8]) -> Record
     }
     let length = get2(s, 0) as usize;
     let kind = get2(s, 2);
-    let for_reader = is_for(reader, kind);
-    let n = body_length(u, kind);
-    if !for_reader {
+    if !is_for(reader, kind) {
         return Record::Refused {
             number: number::BAD_KIND,
         };
     }
+    let n = body_length(u, kind);
     if length != n {
         return Record::Refused {
             number: number::BAD_LENGTH,

@@ -34,18 +34,18 @@ answer-short n =
     (λ r h e. let a = answer-found r h in cc) (λ m e. cc) (λ m e. cc)
 
 -- a call that reads a record behind a test of its state and one of its mode, with a refusal of its own
-module _ (for : Reader) (u : ℕ) (inRange onDuty : Bool) (refuse : Record → ℕ) (passes : (n : ℕ) → refuse (record-of.Short n) ≡ 0) where
+module _ (for : Reader) (u : ℕ) (inRange inMode : Bool) (refuse : Record → ℕ) (passes : (n : ℕ) → refuse (record-of.Short n) ≡ 0) where
   abbrev answered : List ℕ → Answer
   answered bytes =
       let r = readRecord for u bytes in
-      answerOf (cond inRange (cond onDuty (unlessRefused (refuse r) r) (record-of.Refused wrongMode)) (record-of.Refused outOfRange))
+      answerOf (cond inRange (cond inMode (unlessRefused (refuse r) r) (record-of.Refused wrongMode)) (record-of.Refused outOfRange))
 
   abbrev Cut : List ℕ → ℕ → Type 0
-  Cut bytes n = ((inRange ≡ true) × (onDuty ≡ true)) × (readRecord for u bytes ≡ record-of.Short n)
+  Cut bytes n = ((inRange ≡ true) × (inMode ≡ true)) × (readRecord for u bytes ≡ record-of.Short n)
 
-  call-missing : MissingRight (λ bytes n. answered bytes ≡ Short n)
-  call-missing = missing-as Cut (λ bytes n. answered bytes ≡ Short n) to from
-      (missing-where ((inRange ≡ true) × (onDuty ≡ true)) (λ bytes n. readRecord for u bytes ≡ record-of.Short n) (record-missing for u))
+  call-missing : MissingRight for u (λ bytes n. answered bytes ≡ Short n)
+  call-missing = missing-as for u Cut (λ bytes n. answered bytes ≡ Short n) to from
+      (missing-where for u ((inRange ≡ true) × (inMode ≡ true)) (λ bytes n. readRecord for u bytes ≡ record-of.Short n) (record-missing for u))
     where
       by : (a b : Bool) (k n : ℕ) (r : Record)
           → answerOf (cond a (cond b (unlessRefused k r) (record-of.Refused wrongMode)) (record-of.Refused outOfRange)) ≡ Short n
@@ -56,17 +56,17 @@ module _ (for : Reader) (u : ℕ) (inRange onDuty : Bool) (refuse : Record → �
           ((refl, refl), unless-cases k r (λ (x : Record). answerOf x ≡ Short n → r ≡ record-of.Short n) (λ z. answer-short n r) (λ z q. cc) e)
 
       to : (bytes : List ℕ) (n : ℕ) → answered bytes ≡ Short n → Cut bytes n
-      to bytes n = by inRange onDuty (refuse (readRecord for u bytes)) n (readRecord for u bytes)
+      to bytes n = by inRange inMode (refuse (readRecord for u bytes)) n (readRecord for u bytes)
 
       from : (bytes : List ℕ) (n : ℕ) → Cut bytes n → answered bytes ≡ Short n
       from bytes n c = rw (c .0 .0, c .0 .1, c .1, passes n)
 
 -- the standby's read
-pub read-missing : (s : Standby) (l : ReadLent) → MissingRight (λ bytes n. readReply s l bytes .answer ≡ Short n)
+pub read-missing : (s : Standby) (l : ReadLent) → MissingRight reader.Standby (s .settings .u) (λ bytes n. readReply s l bytes .answer ≡ Short n)
 unfolding readReply judged
 read-missing s l = call-missing reader.Standby (s .settings .u) (standbyOk s && readLentOk s l) (isReceiving (s .mode)) (recordRefusal s (l .reply)) (λ n. refl)
 
 -- the primary's ACK
-pub ack-missing : (p : Primary) → MissingRight (λ bytes n. ackReply p bytes .answer ≡ Short n)
+pub ack-missing : (p : Primary) → MissingRight reader.Primary (p .settings .u) (λ bytes n. ackReply p bytes .answer ≡ Short n)
 unfolding ackReply ackJudged
 ack-missing p = call-missing reader.Primary (p .settings .u) (primaryOk p) (protected p) (ackRefusal p) (λ n. refl)

@@ -51,7 +51,8 @@ missingOf (Refused number) = 0
 abbrev pub unlessRefused : ℕ → Record → Record
 unlessRefused number r = cond (eqb number 0) r (record-of.Refused number)
 
--- what a call answers, by the record that it judged: an accepted one with its value and the bytes that it uses
+-- what a call answers, by the record that it judged: an accepted one with its value and the bytes that it uses, cut
+-- short with the bytes missing, a refusal with its number
 abbrev pub answerOf : Record → Answer
 answerOf r = onFound r (Accepted (value r) (used r)) (λ n. Short n) (λ n. Refused n)
 

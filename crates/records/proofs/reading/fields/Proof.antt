@@ -1,20 +1,12 @@
-use mathlib.Core.Path.{_≡_, refl}
-use mathlib.Core.Bool.{true}
-use Prim.Native.Nat.{ℕ, _+_}
+use mathlib.Core.Path.{_≡_}
+use Prim.Native.Nat.{_+_}
 use native.Mathlib.Omega.{arith}
-use Rattle.records.specs.Kind.{PAGE, BLOCK, STATE, COMMIT, ACK, bodyLength, recordLength, isFor}
-use Rattle.records.specs.declared.Reader.the-variants.{Test}
+use Rattle.records.specs.Kind.{PAGE, BLOCK, bodyLength, recordLength}
 use Rattle.records.specs.Read.{fieldsOf}
-use Rattle.records.proofs.ReadLaws.{kind-cases, record-ge}
+use Rattle.records.proofs.ReadLaws.{other-ack, record-ge}
 use borrow.Author.Needs.{needs}
 use Rattle.records.proofs.reading.fields.Statement.{statement}
 use Rattle.records.proofs.reading.fields.Tie as tie
-
--- the kind that is none of the first four
-other-ack : (kind : ℕ) → isFor Test kind ≡ true → (kind ≡ PAGE → ⊥) → (kind ≡ BLOCK → ⊥) → (kind ≡ STATE → ⊥) → (kind ≡ COMMIT → ⊥) → kind ≡ ACK
-other-ack =
-    kind-cases (λ (k : ℕ). (k ≡ PAGE → ⊥) → (k ≡ BLOCK → ⊥) → (k ≡ STATE → ⊥) → (k ≡ COMMIT → ⊥) → k ≡ ACK)
-    (λ p b s c. absurd (p refl)) (λ p b s c. absurd (b refl)) (λ p b s c. absurd (s refl)) (λ p b s c. absurd (c refl)) (λ p b s c. refl)
 
 get4-requires : tie.Need-get4-requires
 get4-requires c κs =
@@ -22,17 +14,17 @@ get4-requires c κs =
     let h = record-ge (s .args .u) (s .args .kind) (s .pre .1) in
     omega arith
 
+add-unit-end : tie.Need-add-unit-end
+add-unit-end c = search needs
+
 get2-requires : tie.Need-get2-requires
 unfolding recordLength bodyLength
 get2-requires c κs =
     let h = rw (c .match .keys1) at (c .before .before .before .pre .2) in
     omega arith
 
-cast-t7 : tie.Need-cast-t7
-cast-t7 c = search needs
-
-add-t8 : tie.Need-add-t8
-add-t8 c = search needs
+cast-t8 : tie.Need-cast-t8
+cast-t8 c = search needs
 
 get2-requires-2 : tie.Need-get2-requires-2
 unfolding recordLength bodyLength
@@ -43,17 +35,14 @@ get2-requires-2 c κs =
 cast-t11 : tie.Need-cast-t11
 cast-t11 c = search needs
 
-add-t12 : tie.Need-add-t12
-add-t12 c = search needs
-
 get2-requires-3 : tie.Need-get2-requires-3
 unfolding recordLength bodyLength
 get2-requires-3 c κs =
     let h = rw (c .match .keys4) at (c .before .before .before .pre .2) in
     omega arith
 
-cast-t16 : tie.Need-cast-t16
-cast-t16 c = search needs
+cast-t15 : tie.Need-cast-t15
+cast-t15 c = search needs
 
 get2-requires-4 : tie.Need-get2-requires-4
 unfolding recordLength bodyLength
@@ -61,8 +50,8 @@ get2-requires-4 c κs =
     let h = rw (c .before .match .keys4) at (c .before .before .before .before .pre .2) in
     omega arith
 
-cast-t18 : tie.Need-cast-t18
-cast-t18 c = search needs
+cast-t17 : tie.Need-cast-t17
+cast-t17 c = search needs
 
 returns : tie.Need-returns
 unfolding fieldsOf recordLength bodyLength
@@ -96,16 +85,15 @@ fields-spec =
     tie.close
     (tie.spec
     get4-requires
+    add-unit-end
     get2-requires
-    cast-t7
-    add-t8
+    cast-t8
     get2-requires-2
     cast-t11
-    add-t12
     get2-requires-3
-    cast-t16
+    cast-t15
     get2-requires-4
-    cast-t18
+    cast-t17
     returns
     returns-2
     returns-3
