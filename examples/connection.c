@@ -58,13 +58,20 @@ void wait_until(int64_t due, struct connection *c, int other)
     c->has_bytes = (fds[0].revents & ~POLLOUT) != 0; /* or their end, or an error */
 }
 
+/* So many of these bytes as may be moved at a time. */
+static size_t at_a_time(const struct connection *c, size_t length)
+{
+    return c->most_moved > 0 && length > c->most_moved ? c->most_moved : length;
+}
+
 int receive(struct connection *c)
 {
+    size_t length = at_a_time(c, c->missing);
     ssize_t n;
 
-    if (c->fd >= 0 && c->missing > 0 && c->has_bytes) {
-        n = recv(c->fd, c->in + c->in_length, c->missing, MSG_DONTWAIT);
-        c->has_bytes = n == (ssize_t)c->missing;
+    if (c->fd >= 0 && length > 0 && c->has_bytes) {
+        n = recv(c->fd, c->in + c->in_length, length, MSG_DONTWAIT);
+        c->has_bytes = n == (ssize_t)length;
         if (n > 0) {
             c->in_length += (size_t)n;
             c->missing -= (size_t)n;
@@ -77,13 +84,11 @@ int receive(struct connection *c)
 
 void transmit(struct connection *c)
 {
-    size_t length = c->out_length;
+    size_t length = at_a_time(c, c->out_length);
     ssize_t n;
 
     if (c->fd < 0 || length == 0)
         return;
-    if (c->most_sent > 0 && length > c->most_sent)
-        length = c->most_sent;
     n = send(c->fd, c->out, length, MSG_NOSIGNAL | MSG_DONTWAIT);
     if (n >= 0) {
         c->out_length -= (size_t)n;

@@ -22,9 +22,9 @@ int is_due(int64_t *last, int64_t interval);
 struct connection {
     int fd; /* below 0 once the connection is dropped */
     size_t in_length, out_length;
-    size_t missing;   /* bytes of the record still to come, by its last test; 0 before the first */
-    int has_bytes;    /* by poll(2), until fewer came than were missing */
-    size_t most_sent; /* at a time; 0: as many as the socket takes */
+    size_t missing; /* bytes of the record still to come, by its last test; 0 before the first */
+    int has_bytes;  /* by poll(2), until fewer come than are asked for */
+    size_t most_moved; /* bytes sent or received at a time; 0: as many as the socket takes */
     uint8_t in[4106], out[4096]; /* in: the longest record, U + 10 bytes with U 4096 */
 };
 
@@ -35,8 +35,8 @@ int has_record(const struct connection *c);
  * Sleeps until the time has come, or the connection has bytes (not while a whole record is there),
  * or it can send (only where some are left), or the other socket can send (one below 0 never can).
  *
- * poll(2) is for this sleep alone, and says whether there is something to receive. Whether a record
- * is tested again is not its matter: only when all the bytes have come that were missing.
+ * poll(2) ends this sleep and says whether there is something to receive. A record is tested again
+ * only when all the bytes have come that were missing.
  */
 void wait_until(int64_t due, struct connection *c, int other);
 

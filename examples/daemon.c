@@ -248,7 +248,7 @@ uint32_t run_standby(struct standby *s)
     while (s->state[STANDBY_MODE] == MODE_RECEIVING) {
         int64_t tick_ms = s->link.fd >= 0 ? STANDBY_TICK_MS : LINK_DOWN_TICK_MS;
         wait_until(tick + tick_ms, &s->link, -1);
-        transmit(&s->link); /* before reading, which may wait for space for an ACK */
+        transmit(&s->link); /* first: a record is left unread until there is space for its ACK */
         read_records(s);
         if (is_due(&disk, FLUSH_MS))
             flush(s, 1);

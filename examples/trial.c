@@ -38,17 +38,22 @@ enum {
     MOST_RANDOM = 2000,   /* records before a kill at random */
     MOST_PLACE = 1000000, /* records before a kill at all */
     EPOCHS_KEPT = 65536,  /* above the checkpoints that the stream and the socket can hold */
-    PIECE = 3,            /* bytes sent at a time: every header and every ACK is cut */
+    PIECE = 3,            /* bytes moved at a time: every header and every ACK is cut */
     MOST_TESTS = 3        /* of a record: with no byte, with its header, whole */
 };
 
 /* The place of the loss: after how many records of which kind, 0 is any; and by which signal. */
 static unsigned place, place_kind;
 static int place_signal = SIGKILL;
-static size_t most_sent; /* at a time, 0 is any number */
+static size_t most_moved; /* at a time, 0 is any number */
+
+/* How often records were tested: all together, the one under way, and the one tested most. */
+struct tests {
+    unsigned all, now, most;
+};
 
 static unsigned records[RECORD_COMMIT + 1]; /* read so far: of each kind, and at 0 all of them */
-static unsigned tests;                      /* of these, and of the one that is not read yet */
+static struct tests tests;                  /* of these, and of the one that is not read yet */
 static int lost;                            /* whether the place was reached */
 static pid_t primary_process, network_process;
 
@@ -57,7 +62,7 @@ static struct {
     uint64_t steps_at[EPOCHS_KEPT]; /* the guest's at each checkpoint */
     uint64_t packet_steps;          /* its steps up to the last packet that left */
     unsigned packets;
-    unsigned acks, ack_tests;       /* as records and tests, at the primary */
+    struct tests ack_tests;         /* at the primary, where each is a call of an end */
 } *shared;
 
 /* Whether the command line says a place. */
@@ -68,7 +73,7 @@ static int read_place(int argc, char **argv)
     char *end;
 
     if (argc > 2 && strcmp(argv[argc - 1], "pieces") == 0) {
-        most_sent = PIECE;
+        most_moved = PIECE;
         argc--;
     }
     if (argc == 2 && strcmp(argv[1], "random") == 0) {
@@ -151,14 +156,14 @@ static void start_processes(struct primary *p, struct standby *s)
         close(link[1]);
         p->network = network[0];
         p->link.fd = link[0];
-        p->link.most_sent = most_sent;
+        p->link.most_moved = most_moved;
         run_primary(p);
         exit(0);
     }
     close(network[0]);
     close(link[0]);
     s->link.fd = link[1];
-    s->link.most_sent = most_sent;
+    s->link.most_moved = most_moved;
 }
 
 /* ---- The loss of the primary. ---- */
@@ -168,16 +173,24 @@ void trial_checkpoint(uint64_t epoch, uint64_t steps)
     shared->steps_at[epoch % EPOCHS_KEPT] = steps;
 }
 
+static void count_test(struct tests *t)
+{
+    t->all++;
+    t->now++;
+    if (t->now > t->most)
+        t->most = t->now;
+}
+
 void trial_acknowledge(uint64_t answer)
 {
-    shared->ack_tests++;
+    count_test(&shared->ack_tests);
     if (answer_number(answer) == NUMBER_ACCEPTED)
-        shared->acks++;
+        shared->ack_tests.now = 0;
 }
 
 void trial_test(void)
 {
-    tests++;
+    count_test(&tests);
 }
 
 /* A box that loses its power takes what is on the link with it; one that stops does not. */
@@ -194,6 +207,7 @@ void trial_record(struct standby *s, unsigned kind)
 {
     records[0]++;
     records[kind]++;
+    tests.now = 0;
     if (!lost && records[place_kind] == place)
         lose_primary(s);
 }
@@ -229,11 +243,11 @@ static int has_checkpoint(const struct primary *p, const struct standby *s, uint
 }
 
 /* Whether there were at most three tests of each record, the one under way included. */
-static int few_tests(const char *what, unsigned read, unsigned tested)
+static int few_tests(const char *what, const struct tests *t)
 {
-    if (tested <= MOST_TESTS * (read + 1))
+    if (t->most <= MOST_TESTS)
         return 1;
-    printf("%u tests of %u %s: some before the missing bytes had come\n", tested, read, what);
+    printf("%u tests of one %s: some before the missing bytes had come\n", t->most, what);
     return 0;
 }
 
@@ -273,11 +287,10 @@ int main(int argc, char **argv)
         lose_primary(&standby);
     epoch = run_standby(&standby);
     printf("%u records read in %u tests: %u blocks, %u pages, %u states, %u commits\n",
-           records[0], tests, records[RECORD_BLOCK], records[RECORD_PAGE], records[RECORD_STATE],
-           records[RECORD_COMMIT]);
+           records[0], tests.all, records[RECORD_BLOCK], records[RECORD_PAGE],
+           records[RECORD_STATE], records[RECORD_COMMIT]);
     if (end_of(network_process) != 0 || !has_checkpoint(&primary, &standby, epoch) ||
-        !few_tests("records", records[0], tests) ||
-        !few_tests("ACKs", shared->acks, shared->ack_tests) ||
+        !few_tests("record", &tests) || !few_tests("ACK", &shared->ack_tests) ||
         !images_equal(run_guest_at_standby(&standby), standby.memory, standby.disk))
         return 1;
     printf("took over checkpoint %u: memory, disk and processor state equal; "

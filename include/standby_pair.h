@@ -99,7 +99,7 @@ enum {
     NUMBER_NOTHING_FREE = 18,   /* no packet may be handed out */
     NUMBER_LAST_EPOCH = 19,     /* the open epoch is 4294967295 */
     NUMBER_BLOCKS_DUE = 20,     /* blocks are still due at activation */
-    NUMBER_CUT_SHORT = 256      /* ours: the record is not all there: answer_missing tells more */
+    NUMBER_CUT_SHORT = 256      /* ours: some of the record is missing, see answer_missing */
 };
 
 /* 0 where the call is accepted, NUMBER_CUT_SHORT, or why it is refused. */
@@ -304,7 +304,7 @@ uint64_t primary_drain(uint64_t *state, size_t state_len, uint8_t *stream, size_
  * ACK: reads one ACK at the head of bytes, which acknowledges all epochs up to its own. Bytes
  * behind it are not looked at.
  * Gives 1 13, cut short (of its header), 6 7, cut short (of its body), 11. Value: its epoch; used:
- * ACK_RECORD. Changes: state.
+ * ACK_RECORD; missing: 1 to 4 bytes. Changes: state.
  */
 uint64_t primary_acknowledge(uint64_t *state, size_t state_len, const uint8_t *bytes,
                              size_t bytes_len);
@@ -341,7 +341,7 @@ uint64_t primary_tick(uint64_t *state, size_t state_len);
  * back: only then is the checkpoint received.
  * Gives 1 13, cut short (of its header), 6 7, cut short (of its body), 2, 5 (COMMIT only), 8 9 10
  * 14 17. After 17, flush and give the same record again. Value: the record's kind, RECORD_PAGE to
- * RECORD_COMMIT; used: its bytes.
+ * RECORD_COMMIT; used: its bytes; missing: 1 to 4 bytes of a header, or 1 to U + 6 of a body.
  * Changes: state; by a PAGE staged_pages and staged_marks, by a BLOCK staged_blocks, by a STATE
  * pending, by a COMMIT processor, memory, staged_marks and reply.
  */

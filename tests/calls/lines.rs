@@ -54,8 +54,9 @@ fn every_code(text: &Text) -> Check {
     Ok(())
 }
 
-/// Lines with answers that an earlier program of the same form gave, or worked out by hand where a record is cut short:
-/// the order of the items is in one table for both programs here, and a mistake in it would be seen by nothing else.
+/// Lines with answers that an earlier program of the same form gave, or worked out by hand where a record is cut short
+/// or refused: the order of the items is in one table for both programs here, and a mistake in it would be seen by
+/// nothing else.
 fn examples(program: &str) -> Check {
     let (lines, answers) = (include_bytes!("examples.in"), include_bytes!("examples.out"));
     same(lines, answers, &printed(program, &[lines])?)

@@ -14,7 +14,7 @@ use std::collections::{BTreeMap, BTreeSet};
 
 const HEADER: usize = 4;
 const SIZES: [u64; 5] = [64, 128, 192, 1_024, 4_096];
-/// What stands behind a record: the head of the next one.
+/// What stands behind a record: the next one.
 const FOLLOWING: [u8; 12] = [8, 0, 4, 0, 8, 0, 0, 0, 0, 0, 0, 0];
 
 #[derive(Default)]

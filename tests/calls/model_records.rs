@@ -51,7 +51,7 @@ pub fn read_record(bytes: &[u8], u: u64, first: u64, last: u64) -> Record<'_> {
     }
     let end = 4 + length as usize;
     if bytes.len() < end {
-        // "then the rest of the body once kind and length have passed"
+        // "then the rest of the body"
         return Record::CutShort { missing: (end - bytes.len()) as u64 };
     }
     let epoch = get_32(bytes, 4);

@@ -105,7 +105,7 @@ static void check_word_cut_short(const char *what, uint64_t word, uint64_t missi
     check(what, record_used(word), 0);
 }
 
-/* What the headers read from given words, each as its table says it. */
+/* What the headers read from given words. */
 static void accessors(void)
 {
     uint64_t answer = 0xfedcba9876543210, short_answer = 0xfedcba9876540100;

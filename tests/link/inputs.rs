@@ -116,7 +116,7 @@ pub fn sweep_cuts(tally: &mut Tally, n: &mut Numbers, input: &mut Input) {
                 input.record(u, kind, 0);
                 input.len = len;
                 tally.compare(u, input.bytes());
-                tally.grow(n, input);
+                tally.compare_more(n, input);
             }
         }
     }

@@ -84,7 +84,7 @@ impl Tally {
     }
 
     /// Checks the input with more bytes behind it.
-    fn grow(&mut self, n: &mut Numbers, input: &mut Input) {
+    fn compare_more(&mut self, n: &mut Numbers, input: &mut Input) {
         match missing::check(n, input) {
             Ok(stage) => self.stages[stage] += 1,
             Err(what) => {
@@ -167,7 +167,7 @@ fn main() {
     for _ in 0..ROUNDS {
         generate(&mut numbers, &mut input);
         tally.compare(input.u, input.bytes());
-        tally.grow(&mut numbers, &mut input);
+        tally.compare_more(&mut numbers, &mut input);
     }
 
     println!("{} inputs: {swept} swept, {ROUNDS} generated", tally.inputs);

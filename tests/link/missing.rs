@@ -14,7 +14,7 @@ pub const STAGES: [&str; 3] = [
 /// The word of so many bytes from the input's start on.
 fn word(input: &Input, len: usize) -> u64 {
     let first = &input.room[input.start..];
-    library::word(input.u, &first[..len])
+    library::word(input.u, &first[..len.min(first.len())])
 }
 
 /// How many bytes are missing, where these are cut short.

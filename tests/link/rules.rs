@@ -67,7 +67,7 @@ pub fn answer(u: u64, bytes: &[u8]) -> Answer {
         return Answer::OutOfRange;
     }
     let &[l0, l1, k0, k1, ref rest @ ..] = bytes else {
-        // "4 less the bytes present for the header"
+        // document 02, Job 2: "4 less the bytes present for the header"
         return Answer::HeaderCutShort {
             missing: 4 - bytes.len() as u64,
         };
@@ -81,7 +81,7 @@ pub fn answer(u: u64, bytes: &[u8]) -> Answer {
     }
     let present = rest.len() as u64;
     if present < body {
-        // "then the rest of the body once kind and length have passed"
+        // "then the rest of the body"
         return Answer::BodyCutShort {
             missing: body - present,
         };
