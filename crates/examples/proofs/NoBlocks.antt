@@ -14,7 +14,7 @@ use Rattle.records.specs.declared.Reader.the-variants as reader
 use Rattle.records.specs.Kind.{unitOk, BLOCK, bodyLength, recordLength}
 use Rattle.records.specs.Read.{cursor, fieldsOf, readRecord}
 use Rattle.records.specs.Write.{unitRecord, blockRecord}
-use Rattle.records.proofs.ReadLaws.{frame-read}
+use Rattle.records.proofs.FramedLaws.{frame-read}
 use Rattle.settings.proofs.RangeLaws.{shared-unit}
 use Rattle.rules.specs.declared.Standby.{Standby}
 use Rattle.rules.specs.PrimaryState.{diskLength as primaryDiskLength}

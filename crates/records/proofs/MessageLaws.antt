@@ -21,7 +21,8 @@ use Rattle.records.specs.Write.{frame, unitRecord, stateRecord, commitRe
 use Rattle.records.specs.Missing.{missingFrom}
 use Rattle.records.specs.Message.{Message, page, block, state, commit, ack, messageKind, encode, encodeAll, readAs, Fits}
 use Rattle.records.proofs.FrameLaws.{length-frame}
-use Rattle.records.proofs.ReadLaws.{Framed, read-no-header, frame-read, frame-short, epoch-at, field-at}
+use Rattle.records.proofs.ReadLaws.{read-no-header}
+use Rattle.records.proofs.FramedLaws.{Framed, frame-read, frame-short, epoch-at, field-at}
 
 -- ---- every message is a frame of its kind: its epoch, and what follows it
 abbrev epochOf : Message → ℕ
