@@ -44,7 +44,7 @@ use Rattle.rules.specs.Packets.{packetTests, packetRefusal, packetReply, takeTe
 use Rattle.rules.specs.Checkpoint.{checkpointTests, checkpointRefusal, checkpointReply}
 use Rattle.rules.specs.Stream.{drainTests, drainCount, drainRefusal, drainReply, ackTests, ackRefusal, ackJudged, ackReply}
 use Rattle.rules.specs.PrimaryTick.{primaryTickTests, primaryTickRefusal, primaryTickReply}
-use Rattle.rules.specs.Judge.{readLentOk, pageTests, pageRefusal, blockTests, blockRefusal, stateTests, stateRefusal, commitTests, commitRefusal, recordRefusal, judged}
+use Rattle.rules.specs.Judge.{readerOf, readLentOk, pageTests, pageRefusal, blockTests, blockRefusal, stateTests, stateRefusal, commitTests, commitRefusal, recordRefusal, judged}
 use Rattle.rules.specs.Read.{readReply}
 use Rattle.rules.specs.Flush.{flushTests, flushRefusal, flushReply}
 use Rattle.rules.specs.Takeover.{standbyTickTests, standbyTickRefusal, standbyTickReply, activationTests, activationRefusal, activationReply, activeWriteTests, activeMemoryWriteRefusal, activeMemoryWriteReply, activeDiskWriteRefusal, activeDiskWriteReply}
@@ -223,7 +223,7 @@ judged-fits false b n r low taken = omega arith
 judged-fits true false n r low taken = omega arith
 judged-fits true true n r low taken = unless-cases n r (λ x. AnsweredFits (answerOf x)) taken (λ z. low)
 
--- the record that is read has a kind of 1 to 5 as its value, but for an ACK
+-- the record that is read has its kind as its value, but for an ACK
 found-fits : (for : Reader) (u : ℕ) (s : List ℕ) → ((e : ℕ) (c : Cursor) → readRecord for u s ≡ Ack e c → e < 4294967296)
     → AnsweredFits (answerOf (readRecord for u s))
 found-fits for u s f = go (readRecord for u s) (read-ranges for u s) f
@@ -249,10 +249,10 @@ ack-fits w ok bytes =
 module _ (s : Standby) (reply : ℕ) where
   record-below : (r : Record) → otherRefusal r ≤ badLength → recordRefusal s reply r < cutShort
   unfolding pageRefusal blockRefusal stateRefusal commitRefusal
-  record-below (Page e p c) h = refusal-below (pageTests s e p) refl
+  record-below (Page w e p c) h = refusal-below (pageTests s e p) refl
   record-below (Block e n c) h = refusal-below (blockTests s e n) refl
   record-below (State e c) h = refusal-below (stateTests s e) refl
-  record-below (Commit e p b c) h = refusal-below (commitTests s reply e p b) refl
+  record-below (Commit w e p b c) h = refusal-below (commitTests s reply e p b) refl
   record-below (Ack e c) h = omega arith
   record-below (Short n) h = omega arith
   record-below (Refused n) h = omega arith
@@ -261,10 +261,10 @@ module _ (s : Standby) (reply : ℕ) where
 pub read-fits : (s : Standby) (l : ReadLent) (bytes : List ℕ) → AnsweredFits (readReply s l bytes .answer)
 unfolding readReply judged
 read-fits s l bytes =
-    let r = readRecord reader.Standby (s .settings .u) bytes in
+    let r = readRecord (readerOf s) (s .settings .u) bytes in
     judged-fits (standbyOk s && readLentOk s l) (isReceiving (s .mode)) (recordRefusal s (l .reply) r) r
-    (record-below s (l .reply) r (read-ranges reader.Standby (s .settings .u) bytes .other))
-    (λ z. found-fits reader.Standby (s .settings .u) bytes (λ e c q. absurd (other e c (rw q at z))))
+    (record-below s (l .reply) r (read-ranges (readerOf s) (s .settings .u) bytes .other))
+    (λ z. found-fits (readerOf s) (s .settings .u) bytes (λ e c q. absurd (other e c (rw q at z))))
   where
     other : (e : ℕ) (c : Cursor) → recordRefusal s (l .reply) (Ack e c) ≡ 0 → ⊥
     other e c z = omega arith

@@ -19,6 +19,7 @@ use Rattle.rules.specs.declared.Answer.the-variants.{Accepted, Short, Refused}
 use Rattle.rules.specs.declared.ReadLent.{ReadLent}
 use Rattle.rules.specs.Reply.{numberOf, missingOf}
 use Rattle.rules.specs.Stream.{ackReply}
+use Rattle.rules.specs.Judge.{readerOf}
 use Rattle.rules.specs.Read.{readReply}
 use Rattle.rules.proofs.MissingLaws.{read-missing, ack-missing}
 use Rattle.capi.specs.Word.{answerNumber, recordWord, SaysMissing}
@@ -65,5 +66,5 @@ pub acknowledge-missing : (w : List ℕ)
 acknowledge-missing w = says-missing reader.Primary (primaryOf w .settings .u) (primaryWordsOk w) (λ bytes. ackReply (primaryOf w) bytes .answer) (ack-fits w) (ack-missing (primaryOf w))
 
 pub read-word-missing : (w : LentStandby) (l : ReadLent)
-    → MissingRight reader.Standby (standbyIn w .settings .u) (λ bytes n. SaysMissing (cond (isStandby w) (recordWord (readReply (standbyIn w) l bytes .answer)) outOfRange) n)
-read-word-missing w l = says-missing reader.Standby (standbyIn w .settings .u) (isStandby w) (λ bytes. readReply (standbyIn w) l bytes .answer) (λ e. read-fits (standbyIn w) l) (read-missing (standbyIn w) l)
+    → MissingRight (readerOf (standbyIn w)) (standbyIn w .settings .u) (λ bytes n. SaysMissing (cond (isStandby w) (recordWord (readReply (standbyIn w) l bytes .answer)) outOfRange) n)
+read-word-missing w l = says-missing (readerOf (standbyIn w)) (standbyIn w .settings .u) (isStandby w) (λ bytes. readReply (standbyIn w) l bytes .answer) (λ e. read-fits (standbyIn w) l) (read-missing (standbyIn w) l)

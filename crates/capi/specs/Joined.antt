@@ -4,7 +4,7 @@ use mathlib.Core.Bool.{cond, _&&_}
 use mathlib.Core.List.{List, []}
 use lib.Dec.{eqb}
 use lib.ListN.{take}
-use Rattle.records.specs.Kind.{COMMIT}
+use Rattle.records.specs.Kind.{isCommit}
 use Rattle.rules.specs.World.{World, PrimaryEnd, StandbyEnd}
 use Rattle.rules.specs.Step.{Stepped, stepped}
 use Rattle.capi.specs.Word.{answerNumber, answerValue}
@@ -40,4 +40,4 @@ toldStep κ answer = stepped κ (answerNumber answer) (answerValue answer)
 
 -- what a host sends back of a read: the first 8 bytes of the reply where a COMMIT was accepted, else nothing
 abbrev pub ackSent : (answer : ℕ) (reply : List ℕ) → List ℕ
-ackSent answer reply = cond (eqb (answerNumber answer) 0 && eqb (answerValue answer) COMMIT) (take 8 reply) []
+ackSent answer reply = cond (eqb (answerNumber answer) 0 && isCommit (answerValue answer)) (take 8 reply) []

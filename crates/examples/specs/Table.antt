@@ -1,7 +1,7 @@
 -- The worked examples E1 to E10 of document 01, as one table about the definitions. Assumes nothing.
 use Prim.Native.Nat.{ℕ}
 use mathlib.Core.Path.{_≡_}
-use mathlib.Core.Bool.{true}
+use mathlib.Core.Bool.{true, false}
 use mathlib.Core.List.{List, [], _∷_, _++_}
 use lib.ListN.{length}
 use Rattle.records.specs.declared.Record.the-variants as record-of
@@ -62,7 +62,7 @@ pub record Examples : Type 0 where
   -- "ACK 1"
   pub E3 : ackRecord 1 ≡ 0x04 ∷ 0x00 ∷ 0x05 ∷ 0x00 ∷ 0x01 ∷ 0x00 ∷ 0x00 ∷ 0x00 ∷ []
   -- "COMMIT epoch 2, 3 pages, 1 block"
-  pub E4 : commitRecord 2 3 1 ≡ 0x08 ∷ 0x00 ∷ 0x04 ∷ 0x00 ∷ 0x02 ∷ 0x00 ∷ 0x00 ∷ 0x00 ∷ 0x03 ∷ 0x00 ∷ 0x01 ∷ 0x00 ∷ []
+  pub E4 : commitRecord false 2 3 1 ≡ 0x08 ∷ 0x00 ∷ 0x04 ∷ 0x00 ∷ 0x02 ∷ 0x00 ∷ 0x00 ∷ 0x00 ∷ 0x03 ∷ 0x00 ∷ 0x01 ∷ 0x00 ∷ []
   -- "activation at 0"
   pub E5 : activationRecord 0 ≡ 0x04 ∷ 0x00 ∷ 0x06 ∷ 0x00 ∷ 0x00 ∷ 0x00 ∷ 0x00 ∷ 0x00 ∷ []
   -- "with L 65,536, U 4,096 starts, 4,160 gives 1", the second whatever is lent

@@ -1,6 +1,6 @@
 -- The dirty pages of a checkpoint as messages, for statements about whole streams. Assumes nothing.
 use Prim.Native.Nat.{ℕ}
-use mathlib.Core.Bool.{cond}
+use mathlib.Core.Bool.{Bool, cond}
 use mathlib.Core.List.{List, [], _∷_}
 use Rattle.lists.specs.Page.{page, gather}
 use Rattle.records.specs.Message.{Message, Fits}
@@ -16,6 +16,6 @@ unfoldable pub dirtyMessages : List ℕ → List ℕ → ℕ → ℕ → ℕ →
 dirtyMessages memory dirty u epoch m = gather (dirtyMessage memory dirty u epoch) m
 
 -- every message of a list fits its fields
-abbrev pub AllFit : ℕ → List Message → Type 0
-AllFit u [] = Unit {0}
-AllFit u (x ∷ xs) = Fits u x × AllFit u xs
+abbrev pub AllFit : ℕ → (wide : Bool) → List Message → Type 0
+AllFit u wide [] = Unit {0}
+AllFit u wide (x ∷ xs) = Fits u wide x × AllFit u wide xs

@@ -5,19 +5,27 @@ ghost use Prim.Native.Nat.{_+_, _*_, _^_, _<_, _≤_};
 ghost use lib.ListN.{length};
 ghost use Rattle.lists.specs.Part.{put, PutDone};
 ghost use Rattle.lists.specs.Page.{page, withPage};
-ghost use Rattle.records.specs.Kind.{PAGE, recordLength};
+ghost use Rattle.records.specs.Kind.{pageKind, numberWidth, recordLength};
 ghost use Rattle.records.specs.Write.{pageRecord};
 ghost use Rattle.marks.specs.Mark.{countMarks};
 ghost use Rattle.pages.specs.Dirty.{dirtyRecords, installed};
 ghost use Rattle.pages.specs.Write.{insidePage, written};
 
 // The PAGE record of page p into out from at on; the position behind it.
-fn write_one(out: &mut [u8], at: usize, memory: &[u8], u: usize, epoch: u32, p: usize) -> usize
-    requires { ⌜ (at + recordLength u PAGE ≤ length (now out)) × (p * u + u ≤ length (now memory)) × (p < 2 ^ 16) × (u + 6 < 2 ^ 16) ⌝ }
-    ensures { λ r. ⌜ PutDone (pageRecord epoch p (page u (now (memory .entry)) p)) (now (out .entry)) at (now (out .exit)) r ⌝ }
+fn write_one(
+    out: &mut [u8],
+    at: usize,
+    memory: &[u8],
+    wide: bool,
+    u: usize,
+    epoch: u32,
+    p: usize,
+) -> usize
+    requires { ⌜ (at + recordLength u (pageKind wide) ≤ length (now out)) × (p * u + u ≤ length (now memory)) × (p < 256 ^ numberWidth wide) × (u ≤ 4096) ⌝ }
+    ensures { λ r. ⌜ PutDone (pageRecord wide epoch p (page u (now (memory .entry)) p)) (now (out .entry)) at (now (out .exit)) r ⌝ }
 {
     let body = lists::part_of(memory, p * u, u);
-    let n = records::writing::write_page(&mut out[at..], epoch, p, body);
+    let n = records::writing::write_page(&mut out[at..], wide, epoch, p, body);
     at + n
 }
 
@@ -26,17 +34,18 @@ pub fn write_dirty(
     out: &mut [u8],
     memory: &[u8],
     dirty: &[u64],
+    wide: bool,
     u: usize,
     epoch: u32,
     m: usize,
 ) -> usize
-    requires { ⌜ (length (now memory) ≡ m * u) × (m ≤ 2 ^ 16) × (u + 6 < 2 ^ 16) × (countMarks (now dirty) m * recordLength u PAGE ≤ length (now out)) ⌝ }
-    ensures { λ r. ⌜ (now (out .exit) ≡ put (now (out .entry)) 0 (dirtyRecords (now (memory .entry)) (now (dirty .entry)) u epoch m)) × (r ≡ countMarks (now (dirty .entry)) m * recordLength u PAGE) ⌝ }
+    requires { ⌜ (length (now memory) ≡ m * u) × (m ≤ 256 ^ numberWidth wide) × (u ≤ 4096) × (countMarks (now dirty) m * recordLength u (pageKind wide) ≤ length (now out)) ⌝ }
+    ensures { λ r. ⌜ (now (out .exit) ≡ put (now (out .entry)) 0 (dirtyRecords (now (memory .entry)) (now (dirty .entry)) wide u epoch m)) × (r ≡ countMarks (now (dirty .entry)) m * recordLength u (pageKind wide)) ⌝ }
 {
     let mut at = 0;
     let mut place = marks::marked_from(dirty, 0, m);
     while place.page < m {
-        at = write_one(out, at, memory, u, epoch, place.page);
+        at = write_one(out, at, memory, wide, u, epoch, place.page);
         place = marks::marked_after(dirty, place, m);
     }
     at

@@ -1,15 +1,18 @@
 -- Laws of appending to the outgoing buffer: the dirty pages, and the records of a checkpoint one after the other. Assumes nothing.
 use mathlib.Core.Path.{_≡_, sym, ap, _∙_}
+use mathlib.Core.Bool.{Bool}
 use mathlib.Core.List.{List, _++_}
 use Prim.Native.Nat.{ℕ, _+_, _-_, _*_, _^_, _≤_, _<_}
+use native.Mathlib.Nat.{mul-le-mul}
 use native.Mathlib.Omega.{arith}
 use lib.ListN.{length}
 use borrow.Rule.Slice.PartMut.{putMid, midOf}
 use Rattle.lists.specs.Part.{put, PutDone}
 use Rattle.lists.proofs.PartLaws.{part-back-front, put-done-more, put-done-length}
-use Rattle.records.specs.Kind.{PAGE, processorBytes, recordLength}
+use Rattle.records.specs.Kind.{isWide, pageKind, numberWidth, processorBytes, recordLength}
 use Rattle.records.specs.Write.{stateRecord, commitRecord}
 use Rattle.records.proofs.FrameLaws.{length-state}
+use Rattle.records.proofs.KindLaws.{width-range, number-fits, two-fits}
 use Rattle.settings.proofs.RangeLaws.{page-record, state-commit-records}
 use Rattle.marks.specs.Mark.{countMarks}
 use Rattle.marks.proofs.MarkLaws.{count-le}
@@ -21,19 +24,26 @@ use Rattle.rules.proofs.PrimaryFacts.{PrimaryFacts, primary-facts}
 use Rattle.rules.proofs.CheckpointLaws.{CheckpointRoom}
 
 -- the dirty pages, written into the part from at on
-pub pages-done : (memory dirty s after : List ℕ) (u epoch m at r : ℕ) → length memory ≡ m * u → at ≤ length s
-    → (after ≡ put (midOf at (length s - at) s) 0 (dirtyRecords memory dirty u epoch m)) × (r ≡ countMarks dirty m * recordLength u PAGE)
-    → PutDone (dirtyRecords memory dirty u epoch m) s at (putMid at (length s - at) s after) (at + r)
-pages-done memory dirty s after u epoch m at r e h w =
+pub pages-done : (memory dirty s after : List ℕ) (wide : Bool) (u epoch m at r : ℕ) → length memory ≡ m * u → at ≤ length s
+    → (after ≡ put (midOf at (length s - at) s) 0 (dirtyRecords memory dirty wide u epoch m)) × (r ≡ countMarks dirty m * recordLength u (pageKind wide))
+    → PutDone (dirtyRecords memory dirty wide u epoch m) s at (putMid at (length s - at) s after) (at + r)
+pages-done memory dirty s after wide u epoch m at r e h w =
     record {
-      bytes = part-back-front s at after (dirtyRecords memory dirty u epoch m) h (w .0);
-      position = ap (λ (x : ℕ). at + x) (w .1 ∙ sym (length-dirty memory dirty u epoch m e));
+      bytes = part-back-front s at after (dirtyRecords memory dirty wide u epoch m) h (w .0);
+      position = ap (λ (x : ℕ). at + x) (w .1 ∙ sym (length-dirty memory dirty wide u epoch m e));
     }
 
 -- the bytes of a checkpoint as the code reckons them
-pub checkpoint-length : (u pages : ℕ) → checkpointLength u pages ≡ pages * (u + 10) + 84
+pub checkpoint-length : (u : ℕ) (wide : Bool) (pages : ℕ) → checkpointLength u wide pages ≡ pages * (u + (8 + numberWidth wide)) + (72 + (8 + numberWidth wide + numberWidth wide))
 unfolding checkpointLength
-checkpoint-length u pages = rw (page-record u, state-commit-records u)
+checkpoint-length u wide pages = rw (page-record u wide, state-commit-records u wide)
+
+-- far below 2 ^ 64
+pub checkpoint-length-le : (u : ℕ) (wide : Bool) (pages : ℕ) → u ≤ 4096 → pages ≤ 65536 → checkpointLength u wide pages ≤ 65536 * 4108 + 88
+checkpoint-length-le u wide pages h k =
+    let w = width-range wide in
+    let r : u + (8 + numberWidth wide) ≤ 4108 = omega arith in
+    omega (arith, checkpoint-length u wide pages, mul-le-mul k r)
 
 -- ---- an accepted checkpoint: each part has room behind those before it
 pub record CheckpointFits (p : Primary) (memory dirty stream processor : List ℕ) : Type 0 where
@@ -47,28 +57,36 @@ module _ {p : Primary} {memory dirty stream processor : List ℕ} (fits : Checkp
   facts : PrimaryFacts p
   facts = primary-facts p (f .ok)
 
-  room : p .waiting + (dirtyCount p dirty * recordLength (p .settings .u) PAGE + 84) ≤ length stream
-  room = rw (page-record (p .settings .u)) (omega (arith, f .room, f .stream-is, checkpoint-length (p .settings .u) (dirtyCount p dirty)))
+  abbrev wide : Bool
+  wide = isWide (p .settings .m)
 
-  pub pages-room : (length memory ≡ p .settings .m * p .settings .u) × (p .settings .m ≤ 2 ^ 16) × (p .settings .u + 6 < 2 ^ 16)
-      × (p .waiting + dirtyCount p dirty * recordLength (p .settings .u) PAGE ≤ length stream)
-  pages-room = let g = facts in (f .memory-is, omega arith, omega arith, omega (arith, room))
+  abbrev end : ℕ
+  end = 8 + numberWidth wide + numberWidth wide
+
+  room : p .waiting + (dirtyCount p dirty * recordLength (p .settings .u) (pageKind wide) + (72 + end)) ≤ length stream
+  room = rw (page-record (p .settings .u) wide) (omega (arith, f .room, f .stream-is, checkpoint-length (p .settings .u) wide (dirtyCount p dirty)))
+
+  pub pages-room : (length memory ≡ p .settings .m * p .settings .u) × (p .settings .m ≤ 256 ^ numberWidth (isWide (p .settings .m))) × (p .settings .u ≤ 4096)
+      × (p .waiting + dirtyCount p dirty * recordLength (p .settings .u) (pageKind (isWide (p .settings .m))) ≤ length stream)
+  pages-room = let g = facts .settings .shared in (f .memory-is, omega (arith, number-fits (p .settings .m) (p .settings .m) (g .m-high) (omega arith)), g .u-high, omega (arith, room))
 
   -- the counts fit their fields
-  pub counts-fit : (dirtyCount p dirty < 2 ^ 16) × (p .blocks < 2 ^ 16)
-  counts-fit = let g = facts in (omega (arith, count-le dirty (p .settings .m)), omega arith)
+  pub counts-fit : (dirtyCount p dirty < 256 ^ numberWidth (isWide (p .settings .m))) × (p .blocks < 256 ^ numberWidth (isWide (p .settings .m)))
+  counts-fit =
+      let g = facts in
+      (number-fits (p .settings .m) (dirtyCount p dirty) (g .settings .shared .m-high) (count-le dirty (p .settings .m)), two-fits wide (p .blocks) (omega arith))
 
   abbrev pageRecords : List ℕ
-  pageRecords = dirtyRecords memory dirty (p .settings .u) (p .epoch) (p .settings .m)
+  pageRecords = dirtyRecords memory dirty wide (p .settings .u) (p .epoch) (p .settings .m)
 
   abbrev state : List ℕ
   state = stateRecord (p .epoch) processor
 
   abbrev commit : List ℕ
-  commit = commitRecord (p .epoch) (dirtyCount p dirty) (p .blocks)
+  commit = commitRecord wide (p .epoch) (dirtyCount p dirty) (p .blocks)
 
-  pages-length : length pageRecords ≡ dirtyCount p dirty * recordLength (p .settings .u) PAGE
-  pages-length = length-dirty memory dirty (p .settings .u) (p .epoch) (p .settings .m) (f .memory-is)
+  pages-length : length pageRecords ≡ dirtyCount p dirty * recordLength (p .settings .u) (pageKind wide)
+  pages-length = length-dirty memory dirty wide (p .settings .u) (p .epoch) (p .settings .m) (f .memory-is)
 
   pages-fit : p .waiting + length pageRecords ≤ length stream
   pages-fit = omega (arith, room, pages-length)
@@ -84,7 +102,7 @@ module _ {p : Primary} {memory dirty stream processor : List ℕ} (fits : Checkp
     state-fit = omega (arith, state-room, length-state (p .epoch) processor, fits .size)
 
     module _ (s₂ : List ℕ) (n₂ : ℕ) (d₂ : PutDone state s₁ n₁ s₂ n₂) where
-      pub commit-room : n₂ + 12 ≤ length s₂
+      pub commit-room : n₂ + (8 + numberWidth (isWide (p .settings .m)) + numberWidth (isWide (p .settings .m))) ≤ length s₂
       commit-room =
           omega (arith, room, pages-length, d₁ .position, same₁, d₂ .position, length-state (p .epoch) processor, fits .size, put-done-length state s₁ s₂ n₁ n₂ state-fit d₂)
 

@@ -3,19 +3,28 @@ ghost use mathlib.Core.Path.{_≡_};
 ghost use Prim.Native.Nat.{_+_, _*_, _^_, _≤_, _<_};
 ghost use lib.ListN.{length};
 ghost use Rattle.lists.specs.Part.{PutDone};
-ghost use Rattle.records.specs.Kind.{PAGE, recordLength};
+ghost use Rattle.records.specs.Kind.{pageKind, numberWidth, recordLength};
 ghost use Rattle.records.specs.Write.{stateRecord, commitRecord};
 ghost use Rattle.marks.specs.Mark.{countMarks};
 ghost use Rattle.pages.specs.Dirty.{dirtyRecords};
 ghost use Rattle.rules.specs.PrimaryState.{withEpochBlocksWaiting};
-ghost use Rattle.rules.specs.Checkpoint.{dirtyCount, checkpointBytes, checkpointRefusal, checkpointNumber, checkpointReply, checkpointDirty, checkpointStream};
+ghost use Rattle.rules.specs.Checkpoint.{dirtyCount, checkpointLength, checkpointBytes, checkpointRefusal, checkpointNumber, checkpointReply, checkpointDirty, checkpointStream};
 use crate::ranges::memory_ok;
-use records::UNIT_RECORD;
+use records::kinds::is_wide;
+use records::kinds::page_head;
 use records::number;
 use rules::Primary;
 use rules::PrimaryReply;
-use settings::CHECKPOINT_END;
 use settings::MOST_EPOCH;
+use settings::checkpoint_end;
+
+// The bytes of a checkpoint of this many dirty pages.
+fn checkpoint_length(u: usize, wide: bool, pages: usize) -> usize
+    requires { ⌜ (u ≤ 4096) × (pages ≤ 65536) ⌝ }
+    ensures { λ r. ⌜ r ≡ checkpointLength u wide pages ⌝ }
+{
+    pages * (u + page_head(wide)) + checkpoint_end(wide)
+}
 
 // What a checkpoint of this many dirty pages is refused with: 1 13 15 19.
 fn checkpoint_refusal(p: Primary, memory: usize, dirty: usize, stream: usize, pages: usize) -> u64
@@ -27,6 +36,7 @@ fn checkpoint_refusal(p: Primary, memory: usize, dirty: usize, stream: usize, pa
     let alone = p.alone;
     let waiting = p.waiting;
     let u = g.u;
+    let m = g.m;
     let l = g.l;
     if !memory_ok(p, memory, dirty) {
         return number::OUT_OF_RANGE;
@@ -37,7 +47,7 @@ fn checkpoint_refusal(p: Primary, memory: usize, dirty: usize, stream: usize, pa
     if alone {
         return number::WRONG_MODE;
     }
-    if l < waiting + (pages * (u + UNIT_RECORD) + CHECKPOINT_END) {
+    if l < waiting + checkpoint_length(u, is_wide(m), pages) {
         return number::STREAM_FULL;
     }
     if MOST_EPOCH <= epoch {
@@ -52,14 +62,15 @@ fn append_pages(
     at: usize,
     memory: &[u8],
     dirty: &[u64],
+    wide: bool,
     u: usize,
     epoch: u32,
     m: usize,
 ) -> usize
-    requires { ⌜ (length (now memory) ≡ m * u) × (m ≤ 2 ^ 16) × (u + 6 < 2 ^ 16) × (at + countMarks (now dirty) m * recordLength u PAGE ≤ length (now stream)) ⌝ }
-    ensures { λ r. ⌜ PutDone (dirtyRecords (now (memory .entry)) (now (dirty .entry)) u epoch m) (now (stream .entry)) at (now (stream .exit)) r ⌝ }
+    requires { ⌜ (length (now memory) ≡ m * u) × (m ≤ 256 ^ numberWidth wide) × (u ≤ 4096) × (at + countMarks (now dirty) m * recordLength u (pageKind wide) ≤ length (now stream)) ⌝ }
+    ensures { λ r. ⌜ PutDone (dirtyRecords (now (memory .entry)) (now (dirty .entry)) wide u epoch m) (now (stream .entry)) at (now (stream .exit)) r ⌝ }
 {
-    let n = pages::write_dirty(&mut stream[at..], memory, dirty, u, epoch, m);
+    let n = pages::write_dirty(&mut stream[at..], memory, dirty, wide, u, epoch, m);
     at + n
 }
 
@@ -73,11 +84,18 @@ fn append_state(stream: &mut [u8], at: usize, epoch: u32, processor: [u8; 64]) -
 }
 
 // COMMIT with the counts, from at on; the position behind it.
-fn append_commit(stream: &mut [u8], at: usize, epoch: u32, pages: usize, blocks: usize) -> usize
-    requires { ⌜ (pages < 2 ^ 16) × (blocks < 2 ^ 16) × (at + 12 ≤ length (now stream)) ⌝ }
-    ensures { λ r. ⌜ PutDone (commitRecord epoch pages blocks) (now (stream .entry)) at (now (stream .exit)) r ⌝ }
+fn append_commit(
+    stream: &mut [u8],
+    at: usize,
+    wide: bool,
+    epoch: u32,
+    pages: usize,
+    blocks: usize,
+) -> usize
+    requires { ⌜ (pages < 256 ^ numberWidth wide) × (blocks < 256 ^ numberWidth wide) × (at + (8 + numberWidth wide + numberWidth wide) ≤ length (now stream)) ⌝ }
+    ensures { λ r. ⌜ PutDone (commitRecord wide epoch pages blocks) (now (stream .entry)) at (now (stream .exit)) r ⌝ }
 {
-    let n = records::writing::write_commit(&mut stream[at..], epoch, pages, blocks);
+    let n = records::writing::write_commit(&mut stream[at..], wide, epoch, pages, blocks);
     at + n
 }
 
@@ -99,9 +117,10 @@ fn append_checkpoint(
     let waiting = p.waiting;
     let u = g.u;
     let m = g.m;
-    let state = append_pages(stream, waiting, memory, dirty, u, epoch, m);
+    let wide = is_wide(m);
+    let state = append_pages(stream, waiting, memory, dirty, wide, u, epoch, m);
     let commit = append_state(stream, state, epoch, processor);
-    append_commit(stream, commit, epoch, pages, blocks)
+    append_commit(stream, commit, wide, epoch, pages, blocks)
 }
 
 fn with_epoch_blocks_waiting(p: Primary, epoch: u32, blocks: usize, waiting: usize) -> Primary

@@ -1,28 +1,30 @@
 -- The lengths of written records. Assumes nothing.
 use mathlib.Core.Path.{_≡_}
+use mathlib.Core.Bool.{Bool}
 use mathlib.Core.List.{List, _++_, append-assoc}
 use Prim.Native.Nat.{ℕ, _+_}
 use native.Mathlib.Omega.{arith}
 use lib.ListN.{length, length-append}
 use Rattle.lists.specs.LittleEndian.{leBytes}
 use Rattle.lists.proofs.LittleEndianLaws.{length-leBytes}
+use Rattle.records.specs.Kind.{numberWidth}
 use Rattle.records.specs.Write.{frame, unitRecord, stateRecord, commitRecord, epochRecord}
 
 pub length-frame : (kind : ℕ) (body : List ℕ) → length (frame kind body) ≡ 4 + length body
 unfolding frame
 length-frame kind body = simp (length-append, length-leBytes) (omega arith)
 
-pub length-unit : (kind epoch number : ℕ) (bytes : List ℕ) → length (unitRecord kind epoch number bytes) ≡ length bytes + 10
+pub length-unit : (kind width epoch number : ℕ) (bytes : List ℕ) → length (unitRecord kind width epoch number bytes) ≡ length bytes + (8 + width)
 unfolding unitRecord
-length-unit kind epoch number bytes = simp (length-frame, length-append, length-leBytes) (omega arith)
+length-unit kind width epoch number bytes = simp (length-frame, length-append, length-leBytes) (omega arith)
 
 pub length-state : (epoch : ℕ) (bytes : List ℕ) → length (stateRecord epoch bytes) ≡ length bytes + 8
 unfolding stateRecord
 length-state epoch bytes = simp (length-frame, length-append, length-leBytes) (omega arith)
 
-pub length-commit : (epoch pages blocks : ℕ) → length (commitRecord epoch pages blocks) ≡ 12
+pub length-commit : (wide : Bool) (epoch pages blocks : ℕ) → length (commitRecord wide epoch pages blocks) ≡ 8 + numberWidth wide + numberWidth wide
 unfolding commitRecord
-length-commit epoch pages blocks = simp (length-frame, length-append, length-leBytes)
+length-commit wide epoch pages blocks = simp (length-frame, length-append, length-leBytes) (omega arith)
 
 pub length-epoch : (kind epoch : ℕ) → length (epochRecord kind epoch) ≡ 8
 unfolding epochRecord

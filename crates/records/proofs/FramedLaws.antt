@@ -9,16 +9,17 @@ use lib.ListN.{length, take, length-append}
 use lib.Seq.{length-take-le}
 use borrow.Author.Tests.{le-leb, lt-leb}
 use Rattle.lists.specs.LittleEndian.{leBytes, leAt}
-use Rattle.lists.proofs.TestLaws.{lt-or-ge, within-facts}
+use Rattle.lists.proofs.TestLaws.{lt-or-ge}
 use Rattle.lists.proofs.LittleEndianLaws.{leAt-leBytes, leAt-append, leAt-skip, leAt-take}
 use Rattle.records.specs.declared.Reader.{Reader}
 use Rattle.records.specs.declared.Record.the-variants.{Short}
-use Rattle.records.specs.Kind.{unitOk, PAGE, ACK, bodyLength, recordLength, isFor}
+use Rattle.records.specs.Kind.{unitOk, bodyLength, recordLength, isFor}
 use Rattle.records.specs.Read.{fieldsOf, readRecord}
 use Rattle.records.specs.Missing.{missingFrom}
 use Rattle.records.specs.Write.{frame}
 use Rattle.records.proofs.FrameLaws.{length-frame}
-use Rattle.records.proofs.ReadLaws.{for-test, record-le, read-whole, read-no-header, read-no-body}
+use Rattle.records.proofs.KindLaws.{for-test, kind-range, record-le}
+use Rattle.records.proofs.ReadLaws.{read-whole, read-no-header, read-no-body}
 
 flat : (kind : ℕ) (body rest : List ℕ) → frame kind body ++ rest ≡ leBytes 2 (length body) ++ (leBytes 2 kind ++ (body ++ rest))
 unfolding frame
@@ -39,7 +40,7 @@ module _ (reader : Reader) (u kind : ℕ) (body : List ℕ) (f : Framed reader u
 
   kind-at : (rest : List ℕ) → leAt 2 (frame kind body ++ rest) 2 ≡ kind
   kind-at rest =
-      let k = within-facts PAGE ACK kind (for-test reader kind (f .for-reader)) in
+      let k = kind-range kind (for-test reader kind (f .for-reader)) in
       rw flat (leAt-skip 2 (length body) 2 0 (leBytes 2 kind ++ (body ++ rest)) ∙ leAt-leBytes 2 kind (body ++ rest) (omega arith))
 
   -- a record is read whole, whatever follows

@@ -1,4 +1,5 @@
 -- The laws of this crate's definitions, for its own proofs and for the crates above.
+pub mod KindLaws
 pub mod FrameLaws
 pub mod ReadLaws
 pub mod FramedLaws

@@ -3,7 +3,7 @@ use mathlib.Core.Path.{_≡_, refl, subst}
 use mathlib.Core.Bool.{Bool, true, false, cond, false≢true}
 use mathlib.Core.Logic.{_⊎_, inl, inr, ⊎-elim}
 use mathlib.Core.List.{List, [], _∷_}
-use Prim.Native.Nat.{ℕ, zero, suc, _+_, _-_, _%_, _^_, _≤_, _<_}
+use Prim.Native.Nat.{ℕ, _+_, _-_, _^_, _≤_, _<_}
 use native.Mathlib.Omega.{arith}
 use lib.Dec.{leb, eqb}
 use lib.ListN.{length, getD}
@@ -12,59 +12,18 @@ use denote.Enum.Declared.{tagOf}
 use borrow.Author.Tests.{leb-true, leb-false, eqb-true, le-leb, lt-leb, eq-eqb, ne-eqb}
 use Rattle.lists.specs.Refusal.{within}
 use Rattle.lists.specs.LittleEndian.{leAt}
-use Rattle.lists.proofs.TestLaws.{both, within-facts, within-of}
 use Rattle.lists.proofs.LittleEndianLaws.{leAt-lt}
 use Rattle.records.specs.declared.Cursor.{Cursor}
 use Rattle.records.specs.declared.Reader.{Reader}
-use Rattle.records.specs.declared.Reader.the-variants.{Test, Standby, Primary}
+use Rattle.records.specs.declared.Reader.the-variants.{Test}
 use Rattle.records.specs.declared.Record.{Record}
 use Rattle.records.specs.declared.Record.the-variants.{Page, Block, State, Commit, Ack, Short, Refused}
 use Rattle.records.specs.Number.{badKind, badLength}
-use Rattle.records.specs.Kind.{unitOk, PAGE, BLOCK, STATE, COMMIT, ACK, processorBytes, bodyLength, headerLength, recordLength, isFor}
+use Rattle.records.specs.Kind.{unitOk, PAGE, BLOCK, STATE, ACK, WIDECOMMIT, pageKind, commitKind, numberWidth, processorBytes, bodyLength, headerLength, recordLength, isFor}
 use Rattle.records.specs.Cases.{onAck, byKind, onFound}
-use Rattle.records.specs.Read.{cursor, fieldsOf, readRecord, cutShort, numberOf, otherRefusal, kindOf, cursorOf, usedOf, missingOf}
+use Rattle.records.specs.Read.{cursor, pageAt, commitAt, fieldsOf, readRecord, cutShort, numberOf, otherRefusal, kindOf, cursorOf, usedOf, missingOf}
+use Rattle.records.proofs.KindLaws.{for-test, kind-cases, kind-range, page-length, commit-length, record-le}
 use Rattle.records.proofs.Record.{the-type}
-
--- ---- the range of U, and the kinds
-pub unit-le : (u : ℕ) → unitOk u ≡ true → (64 ≤ u) × (u ≤ 4096)
-unfolding unitOk
-unit-le u h = within-facts 64 4096 u (both (within 64 4096 u) (eqb (u % 64) 0) h .0)
-
--- a kind for a reader is for the record test
-pub for-test : (reader : Reader) (kind : ℕ) → isFor reader kind ≡ true → isFor Test kind ≡ true
-for-test Test kind h = h
-for-test Standby kind h = let f = within-facts PAGE COMMIT kind h in within-of PAGE ACK kind (f .0) (omega arith)
-for-test Primary kind h = let e = eqb-true kind ACK h in within-of PAGE ACK kind (omega arith) (omega arith)
-
--- it is one of five: a fact of it is shown at each
-pub kind-cases : (P : ℕ → Type 0) → P PAGE → P BLOCK → P STATE → P COMMIT → P ACK → (kind : ℕ) → isFor Test kind ≡ true → P kind
-kind-cases P p1 p2 p3 p4 p5 kind h = let f = within-facts PAGE ACK kind h in go kind (f .0) (f .1)
-  where
-    go : (k : ℕ) → PAGE ≤ k → k ≤ ACK → P k
-    go zero a b = absurd (omega arith)
-    go (suc zero) a b = p1
-    go (suc (suc zero)) a b = p2
-    go (suc (suc (suc zero))) a b = p3
-    go (suc (suc (suc (suc zero)))) a b = p4
-    go (suc (suc (suc (suc (suc zero))))) a b = p5
-    go (suc (suc (suc (suc (suc (suc k)))))) a b = absurd (omega arith)
-
--- the kind that is none of the first four
-pub other-ack : (kind : ℕ) → isFor Test kind ≡ true → (kind ≡ PAGE → ⊥) → (kind ≡ BLOCK → ⊥) → (kind ≡ STATE → ⊥) → (kind ≡ COMMIT → ⊥) → kind ≡ ACK
-other-ack =
-    kind-cases (λ (k : ℕ). (k ≡ PAGE → ⊥) → (k ≡ BLOCK → ⊥) → (k ≡ STATE → ⊥) → (k ≡ COMMIT → ⊥) → k ≡ ACK)
-    (λ p b s c. absurd (p refl)) (λ p b s c. absurd (b refl)) (λ p b s c. absurd (s refl)) (λ p b s c. absurd (c refl)) (λ p b s c. refl)
-
--- each kind has an epoch, and none is longer than a PAGE of the largest U
-pub record-ge : (u kind : ℕ) → isFor Test kind ≡ true → 8 ≤ recordLength u kind
-unfolding recordLength bodyLength
-record-ge u = kind-cases (λ (k : ℕ). 8 ≤ recordLength u k) (omega arith) (omega arith) (omega arith) (omega arith) (omega arith)
-
-pub record-le : (u kind : ℕ) → unitOk u ≡ true → isFor Test kind ≡ true → recordLength u kind ≤ 4106
-unfolding recordLength bodyLength
-record-le u kind v =
-    let h = unit-le u v in
-    kind-cases (λ (k : ℕ). recordLength u k ≤ 4106) (omega arith) (omega arith) (omega arith) (omega arith) (omega arith) kind
 
 -- ---- the order of reading: one law for each answer
 
@@ -151,15 +110,22 @@ read-cases P reader u s r1 r6 r7 sh sb f =
     go true true true true true r1 r6 r7 sh sb f = f refl refl refl refl
 
 pub fields-cases : (P : Record → Type 0) (u kind : ℕ) (s : List ℕ) → isFor Test kind ≡ true
-    → (kind ≡ PAGE → P (Page (leAt 4 s 4) (leAt 2 s 8) (cursor 10 (recordLength u PAGE))))
+    → ((wide : Bool) → kind ≡ pageKind wide → P (pageAt u wide s))
     → (kind ≡ BLOCK → P (Block (leAt 4 s 4) (leAt 2 s 8) (cursor 10 (recordLength u BLOCK))))
     → (kind ≡ STATE → P (State (leAt 4 s 4) (cursor 8 (recordLength u STATE))))
-    → (kind ≡ COMMIT → P (Commit (leAt 4 s 4) (leAt 2 s 8) (leAt 2 s 10) (cursor 12 (recordLength u COMMIT))))
+    → ((wide : Bool) → kind ≡ commitKind wide → P (commitAt u wide s))
     → (kind ≡ ACK → P (Ack (leAt 4 s 4) (cursor 8 (recordLength u ACK))))
     → P (fieldsOf u kind s)
 unfolding fieldsOf
-fields-cases P u kind s h f1 f2 f3 f4 f5 =
-    kind-cases (λ (k : ℕ). kind ≡ k → P (fieldsOf u k s)) f1 f2 f3 f4 f5 kind h refl
+fields-cases P u kind s h page block state commit ack = kind-cases (λ (k : ℕ). kind ≡ k → P (fieldsOf u k s)) pages block state commits ack kind h refl
+  where
+    pages : (wide : Bool) → kind ≡ pageKind wide → P (fieldsOf u (pageKind wide) s)
+    pages false = page false
+    pages true = page true
+
+    commits : (wide : Bool) → kind ≡ commitKind wide → P (fieldsOf u (commitKind wide) s)
+    commits false = commit false
+    commits true = commit true
 
 -- ---- the cases of a record: found, cut short, refused
 
@@ -168,10 +134,10 @@ abbrev pub isFound : Record → Bool
 isFound r = onFound r true (λ n. false) (λ n. false)
 
 pub on-found {ℓ} : {A : Type ℓ} (found : A) (short refused : ℕ → A) (r : Record) → isFound r ≡ true → onFound r found short refused ≡ found
-on-found found short refused (Page e p c) h = refl
+on-found found short refused (Page w e p c) h = refl
 on-found found short refused (Block e n c) h = refl
 on-found found short refused (State e c) h = refl
-on-found found short refused (Commit e p b c) h = refl
+on-found found short refused (Commit w e p b c) h = refl
 on-found found short refused (Ack e c) h = refl
 on-found found short refused (Short n) h = absurd (false≢true h)
 on-found found short refused (Refused n) h = absurd (false≢true h)
@@ -187,20 +153,20 @@ missing-found = on-found 0 (λ n. n) (λ n. 0)
 
 -- a fact of every record is shown of those found, of cut short and of refusals
 pub found-cases : (P : Record → Type 0) → ((r : Record) → isFound r ≡ true → P r) → ((n : ℕ) → P (Short n)) → ((n : ℕ) → P (Refused n)) → (r : Record) → P r
-found-cases P found short refused (Page e p c) = found (Page e p c) refl
+found-cases P found short refused (Page w e p c) = found (Page w e p c) refl
 found-cases P found short refused (Block e n c) = found (Block e n c) refl
 found-cases P found short refused (State e c) = found (State e c) refl
-found-cases P found short refused (Commit e p b c) = found (Commit e p b c) refl
+found-cases P found short refused (Commit w e p b c) = found (Commit w e p b c) refl
 found-cases P found short refused (Ack e c) = found (Ack e c) refl
 found-cases P found short refused (Short n) = short n
 found-cases P found short refused (Refused n) = refused n
 
 -- a fact of what is defined by `onAck` is shown of what an ACK gives, and of the rest
 pub on-ack : {A : Type 0} (P : A → Type 0) (ack : ℕ → Cursor → A) (rest : A) (r : Record) → ((e : ℕ) (c : Cursor) → r ≡ Ack e c → P (ack e c)) → P rest → P (onAck r ack rest)
-on-ack P ack rest (Page e p c) f g = g
+on-ack P ack rest (Page w e p c) f g = g
 on-ack P ack rest (Block e n c) f g = g
 on-ack P ack rest (State e c) f g = g
-on-ack P ack rest (Commit e p b c) f g = g
+on-ack P ack rest (Commit w e p b c) f g = g
 on-ack P ack rest (Ack e c) f g = f e c refl
 on-ack P ack rest (Short n) f g = g
 on-ack P ack rest (Refused n) f g = g
@@ -249,8 +215,8 @@ pub found-facts : (reader : Reader) (u : ℕ) (s : List ℕ) (r : Record) → is
     → RecordFacts reader u s (kindOf r) (sizeOf u r) (cursorOf r)
 found-facts reader u s r h f = subst (λ (X : Type 0). X) (on-found (RecordFacts reader u s (kindOf r) (sizeOf u r) (cursorOf r)) (ShortFacts reader u s) (RefusedFacts u) r h) f
 
-pub found-kind : (reader : Reader) (u : ℕ) (s : List ℕ) (r : Record) → isFound r ≡ true → ReadFacts reader u s r → (PAGE ≤ kindOf r) × (kindOf r ≤ ACK)
-found-kind reader u s r h f = within-facts PAGE ACK (kindOf r) (for-test reader (kindOf r) (found-facts reader u s r h f .for-reader))
+pub found-kind : (reader : Reader) (u : ℕ) (s : List ℕ) (r : Record) → isFound r ≡ true → ReadFacts reader u s r → (PAGE ≤ kindOf r) × (kindOf r ≤ WIDECOMMIT)
+found-kind reader u s r h f = kind-range (kindOf r) (for-test reader (kindOf r) (found-facts reader u s r h f .for-reader))
 
 pub refused-number : (u n : ℕ) → RefusedFacts u n → (0 < n) × (n ≤ 7)
 refused-number u n = ⊎-elim (λ a. (omega arith, omega arith)) (λ a. ⊎-elim (λ b. (omega arith, omega arith)) (λ b. (omega arith, omega arith)) (a .1))
@@ -265,10 +231,10 @@ read-facts reader u s =
     (λ v h. (v, inl (h, refl)))
     (λ c. (c .unit, inr (c, refl)))
     (λ w. fields-cases (ReadFacts reader u s) u (leAt 2 s 2) s (for-test reader (leAt 2 s 2) (w .kind))
-    (λ e. found w e 10 u (omega arith))
+    (λ wide e. found w e (8 + numberWidth wide) u (page-length u wide))
     (λ e. found w e 10 u (omega arith))
     (λ e. found w e 8 processorBytes refl)
-    (λ e. found w e 12 0 refl)
+    (λ wide e. found w e (8 + numberWidth wide + numberWidth wide) 0 (omega (arith, commit-length u wide)))
     (λ e. found w e 8 0 refl))
   where
     found : Whole reader u s → {kind : ℕ} → leAt 2 s 2 ≡ kind → (start size : ℕ) → recordLength u kind ≡ start + size
@@ -279,17 +245,17 @@ read-facts reader u s =
 -- the same in numbers, for every answer alike
 pub record ReadRanges (reader : Reader) (s : List ℕ) (r : Record) : Type 0 where
   pub number : numberOf r ≤ cutShort
-  pub kind : kindOf r ≤ ACK
+  pub kind : kindOf r ≤ WIDECOMMIT
   pub for-reader : numberOf r ≡ 0 → isFor reader (kindOf r) ≡ true
-  pub used : usedOf r ≤ 4106
+  pub used : usedOf r ≤ 4108
   pub within : usedOf r ≤ length s
-  pub missing : missingOf r ≤ 4102
+  pub missing : missingOf r ≤ 4104
   pub other : otherRefusal r ≤ badLength
 
 pub read-ranges : (reader : Reader) (u : ℕ) (s : List ℕ) → ReadRanges reader s (readRecord reader u s)
 read-ranges reader u s = go (readRecord reader u s) (read-facts reader u s)
   where
-    used-le : {kind size : ℕ} {at : Cursor} → RecordFacts reader u s kind size at → at .end ≤ 4106
+    used-le : {kind size : ℕ} {at : Cursor} → RecordFacts reader u s kind size at → at .end ≤ 4108
     used-le {kind} f = rw (f .used) (record-le u kind (f .unit) (for-test reader kind (f .for-reader)))
 
     found : (r : Record) → isFound r ≡ true → ReadFacts reader u s r → ReadRanges reader s r
@@ -298,7 +264,7 @@ read-ranges reader u s = go (readRecord reader u s) (read-facts reader u s)
         let n = number-found r h in
         record { number = omega arith; kind = found-kind reader u s r h f .1; for-reader = λ z. g .for-reader; used = used-le g; within = g .inside; missing = omega (arith, missing-found r h); other = omega (arith, other-found r h) }
 
-    short : (n : ℕ) → ShortFacts reader u s n → n ≤ 4102
+    short : (n : ℕ) → ShortFacts reader u s n → n ≤ 4104
     short n f =
         ⊎-elim (λ h. omega arith)
         (λ c. omega (arith, c .0 .header, record-le u (leAt 2 s 2) (f .0) (for-test reader (leAt 2 s 2) (c .0 .kind)))) (f .1)
@@ -314,10 +280,10 @@ read-within reader u s = read-ranges reader u s .within
 
 -- of bytes, each number that is read fits its field
 abbrev pub FieldsFit : Record → Type 0
-FieldsFit (Page e p c) = (e < 2 ^ 32) × (p < 2 ^ 16)
+FieldsFit (Page w e p c) = (e < 2 ^ 32) × (p < 2 ^ 32)
 FieldsFit (Block e n c) = (e < 2 ^ 32) × (n < 2 ^ 16)
 FieldsFit (State e c) = e < 2 ^ 32
-FieldsFit (Commit e p b c) = (e < 2 ^ 32) × (p < 2 ^ 16) × (b < 2 ^ 16)
+FieldsFit (Commit w e p b c) = (e < 2 ^ 32) × (p < 2 ^ 32) × (b < 2 ^ 32)
 FieldsFit (Ack e c) = e < 2 ^ 32
 FieldsFit (Short n) = Unit {0}
 FieldsFit (Refused n) = Unit {0}
@@ -325,7 +291,10 @@ FieldsFit (Refused n) = Unit {0}
 pub read-fits : (reader : Reader) (u : ℕ) (s : List ℕ) → ((j : ℕ) → getD s j 0 < 256) → FieldsFit (readRecord reader u s)
 read-fits reader u s h =
     let e = leAt-lt 4 4 s h in
-    let p = leAt-lt 2 8 s h in
-    let b = leAt-lt 2 10 s h in
     read-cases FieldsFit reader u s (λ v. tt) (λ v k. tt) (λ v k. tt) (λ v h. tt) (λ c. tt)
-    (λ w. fields-cases FieldsFit u (leAt 2 s 2) s (for-test reader (leAt 2 s 2) (w .kind)) (λ k. (e, p)) (λ k. (e, p)) (λ k. e) (λ k. (e, p, b)) (λ k. e))
+    (λ w. fields-cases FieldsFit u (leAt 2 s 2) s (for-test reader (leAt 2 s 2) (w .kind))
+    (λ wide k. (e, number wide 8)) (λ k. (e, leAt-lt 2 8 s h)) (λ k. e) (λ wide k. (e, number wide 8, number wide (8 + numberWidth wide))) (λ k. e))
+  where
+    number : (wide : Bool) (i : ℕ) → leAt (numberWidth wide) s i < 2 ^ 32
+    number false i = omega (arith, leAt-lt 2 i s h)
+    number true i = leAt-lt 4 i s h

@@ -14,7 +14,7 @@ use Rattle.lists.proofs.TestLaws.{both, join, refuted, cond-true}
 use Rattle.lists.proofs.PartLaws.{take-put-front, put-next, part-back-front}
 use Rattle.lists.proofs.LittleEndianLaws.{length-leBytes}
 use Rattle.records.specs.Kind.{ACK, bodyLength, recordLength}
-use Rattle.records.specs.Write.{frame, epochRecord, ackRecord, fitsTwo, hasRoom, Written}
+use Rattle.records.specs.Write.{frame, epochRecord, ackRecord, fitsIn, hasRoom, Written}
 use Rattle.records.proofs.FrameLaws.{length-epoch, head-frame}
 
 -- ---- copies one after the other, over the kind and what follows the head
@@ -37,14 +37,14 @@ module _ (n kind epoch : ℕ) (l : List ℕ) where
   put-rest rest e h =
       put-next l (head n kind epoch) rest 8 (length-head n kind epoch) h ∙ ap (put l 0) (head-frame n kind epoch rest e)
 
-  -- the head, a number of 2 bytes, and then the rest
-  pub put-number-rest : (number : ℕ) (rest : List ℕ) → n ≡ length rest + 6 → 10 ≤ length l
-      → put (put (put l 0 (head n kind epoch)) 8 (leBytes 2 number)) 10 rest ≡ put l 0 (frame kind (leBytes 4 epoch ++ (leBytes 2 number ++ rest)))
-  put-number-rest number rest e h =
-      let m : n ≡ length (leBytes 2 number ++ rest) + 4 = simp (length-append, length-leBytes) (omega arith) in
-      ap (λ (s : List ℕ). put s 10 rest) (put-next l (head n kind epoch) (leBytes 2 number) 8 (length-head n kind epoch) (omega arith))
-      ∙ put-next l (head n kind epoch ++ leBytes 2 number) rest 10 (simp (length-append, length-leBytes)) h
-      ∙ ap (put l 0) (append-assoc (head n kind epoch) (leBytes 2 number) rest ∙ head-frame n kind epoch (leBytes 2 number ++ rest) m)
+  -- the head, a number of k bytes, and then the rest
+  pub put-number-rest : (k number : ℕ) (rest : List ℕ) → n ≡ length rest + (4 + k) → 8 + k ≤ length l
+      → put (put (put l 0 (head n kind epoch)) 8 (leBytes k number)) (8 + k) rest ≡ put l 0 (frame kind (leBytes 4 epoch ++ (leBytes k number ++ rest)))
+  put-number-rest k number rest e h =
+      let m : n ≡ length (leBytes k number ++ rest) + 4 = simp (length-append, length-leBytes) (omega arith) in
+      ap (λ (s : List ℕ). put s (8 + k) rest) (put-next l (head n kind epoch) (leBytes k number) 8 (length-head n kind epoch) (omega arith))
+      ∙ put-next l (head n kind epoch ++ leBytes k number) rest (8 + k) (simp (length-append, length-leBytes)) h
+      ∙ ap (put l 0) (append-assoc (head n kind epoch) (leBytes k number) rest ∙ head-frame n kind epoch (leBytes k number ++ rest) m)
 
 -- the head alone
 pub head-epoch : (kind epoch : ℕ) → head 4 kind epoch ≡ epochRecord kind epoch
@@ -69,14 +69,14 @@ module _ (fits : Bool) (bs out : List ℕ) where
   no-room f = sym (refuted (hasRoom fits bs out) (λ e. let p = room-facts e in f (p .0) (p .1)))
 
 -- the same where two numbers have to fit: a number and a length of a PAGE or a BLOCK, the counts of a COMMIT
-module _ (m n : ℕ) (bs out : List ℕ) where
-  pub two-room : m < 2 ^ 16 → n < 2 ^ 16 → length bs ≤ length out → hasRoom (fitsTwo m && fitsTwo n) bs out ≡ true
-  two-room p q = room-of (fitsTwo m && fitsTwo n) bs out (join (fitsTwo m) (fitsTwo n) (lt-ltb m (2 ^ 16) p) (lt-ltb n (2 ^ 16) q))
+module _ (j k m n : ℕ) (bs out : List ℕ) where
+  pub two-room : m < 256 ^ j → n < 256 ^ k → length bs ≤ length out → hasRoom (fitsIn j m && fitsIn k n) bs out ≡ true
+  two-room p q = room-of (fitsIn j m && fitsIn k n) bs out (join (fitsIn j m) (fitsIn k n) (lt-ltb m (256 ^ j) p) (lt-ltb n (256 ^ k) q))
 
-  pub two-no-room : (m < 2 ^ 16 → n < 2 ^ 16 → length bs ≤ length out → ⊥) → hasRoom (fitsTwo m && fitsTwo n) bs out ≡ false
+  pub two-no-room : (m < 256 ^ j → n < 256 ^ k → length bs ≤ length out → ⊥) → hasRoom (fitsIn j m && fitsIn k n) bs out ≡ false
   two-no-room f =
-      no-room (fitsTwo m && fitsTwo n) bs out
-      (λ e. let p = both (fitsTwo m) (fitsTwo n) e in f (ltb-true m (2 ^ 16) (p .0)) (ltb-true n (2 ^ 16) (p .1)))
+      no-room (fitsIn j m && fitsIn k n) bs out
+      (λ e. let p = both (fitsIn j m) (fitsIn k n) e in f (ltb-true m (256 ^ j) (p .0)) (ltb-true n (256 ^ k) (p .1)))
 
 -- ---- what a writer leaves
 module _ {fits : Bool} {bs before after : List ℕ} {r : ℕ} where

@@ -1,7 +1,7 @@
 -- The kinds of records and their lengths (document 01, "Records"), and the range of U. Assumes nothing.
 use Prim.Native.Nat.{ℕ, _+_, _%_}
-use mathlib.Core.Bool.{Bool, cond, _&&_}
-use lib.Dec.{eqb}
+use mathlib.Core.Bool.{Bool, true, false, cond, _&&_, _||_}
+use lib.Dec.{ltb, eqb}
 use Rattle.lists.specs.Refusal.{within}
 use Rattle.records.specs.declared.Reader.{Reader}
 use Rattle.records.specs.declared.Reader.the-variants.{Test, Standby, Primary}
@@ -35,6 +35,37 @@ ACK = 5
 abbrev pub ACTIVATION : ℕ
 ACTIVATION = 6
 
+-- document 02, Job 7: "Kind 8 is PAGE with a 4-byte page number", "kind 9 is COMMIT with two 4-byte counts"
+abbrev pub WIDEPAGE : ℕ
+WIDEPAGE = 8
+
+abbrev pub WIDECOMMIT : ℕ
+WIDECOMMIT = 9
+
+-- wide: more than 4,096 memory pages. "Up to M 4,096 the writer uses kinds 1 and 4 as before, above that only 8 and 9"
+abbrev pub mostNarrowPages : ℕ
+mostNarrowPages = 4096
+
+abbrev pub isWide : ℕ → Bool
+isWide m = ltb mostNarrowPages m
+
+abbrev pub pageKind : (wide : Bool) → ℕ
+pageKind false = PAGE
+pageKind true = WIDEPAGE
+
+abbrev pub commitKind : (wide : Bool) → ℕ
+commitKind false = COMMIT
+commitKind true = WIDECOMMIT
+
+-- the bytes of a page number, and of each count of a COMMIT
+abbrev pub numberWidth : (wide : Bool) → ℕ
+numberWidth false = 2
+numberWidth true = 4
+
+-- a kind is a COMMIT, of either width: "Every other rule treats 8 as 1 and 9 as 4"
+abbrev pub isCommit : ℕ → Bool
+isCommit kind = eqb kind COMMIT || eqb kind WIDECOMMIT
+
 -- bytes of a processor state
 abbrev pub processorBytes : ℕ
 processorBytes = 64
@@ -50,6 +81,12 @@ stateBody = 68
 abbrev pub commitBody : ℕ
 commitBody = 8
 
+abbrev pub widePageBody : ℕ
+widePageBody = 8
+
+abbrev pub wideCommitBody : ℕ
+wideCommitBody = 12
+
 abbrev pub epochBody : ℕ
 epochBody = 4
 
@@ -61,7 +98,9 @@ bodyLength u kind =
     (cond (eqb kind STATE) stateBody
     (cond (eqb kind COMMIT) commitBody
     (cond (eqb kind ACK) epochBody
-    (cond (eqb kind ACTIVATION) epochBody 0)))))
+    (cond (eqb kind ACTIVATION) epochBody
+    (cond (eqb kind WIDEPAGE) (u + widePageBody)
+    (cond (eqb kind WIDECOMMIT) wideCommitBody 0)))))))
 
 -- "A record is a 2-byte length of the body, a 2-byte kind, then the body"
 abbrev pub headerLength : ℕ
@@ -70,8 +109,9 @@ headerLength = 4
 unfoldable pub recordLength : ℕ → ℕ → ℕ
 recordLength u kind = headerLength + bodyLength u kind
 
--- "Kinds 1 to 4 go to the standby, 5 to the primary"; the record test passes 1 to 5
+-- "Kinds 1 to 4 go to the standby, 5 to the primary", and "A standby reads only the kinds that its M calls for"; the
+-- record test passes 1 to 5, 8 and 9: it "has no M, passes them all"
 abbrev pub isFor : Reader → ℕ → Bool
-isFor Test kind = within PAGE ACK kind
-isFor Standby kind = within PAGE COMMIT kind
+isFor Test kind = within PAGE ACK kind || within WIDEPAGE WIDECOMMIT kind
+isFor (Standby wide) kind = eqb kind (pageKind wide) || eqb kind BLOCK || eqb kind STATE || eqb kind (commitKind wide)
 isFor Primary kind = eqb kind ACK

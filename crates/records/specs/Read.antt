@@ -1,6 +1,6 @@
 -- Reading one record: what stands at the head of some bytes, for a reader. Assumes nothing.
-use Prim.Native.Nat.{ℕ, _-_}
-use mathlib.Core.Bool.{cond}
+use Prim.Native.Nat.{ℕ, _+_, _-_}
+use mathlib.Core.Bool.{Bool, true, false, cond}
 use mathlib.Core.List.{List}
 use lib.Dec.{leb, eqb}
 use lib.ListN.{length}
@@ -11,21 +11,34 @@ use Rattle.records.specs.declared.Record.{Record}
 use Rattle.records.specs.declared.Record.the-variants.{Page, Block, State, Commit, Ack, Short, Refused}
 use Rattle.records.specs.Number.{outOfRange, badKind, badLength}
 use Rattle.records.specs.Cases.{onAck, onFound}
-use Rattle.records.specs.Kind.{unitOk, PAGE, BLOCK, STATE, COMMIT, ACK, bodyLength, recordLength, headerLength, isFor}
+use Rattle.records.specs.Kind.{unitOk, PAGE, BLOCK, STATE, COMMIT, ACK, WIDEPAGE, WIDECOMMIT, pageKind, commitKind, numberWidth, bodyLength, recordLength, headerLength, isFor}
 
 -- a field of bytes from start on, up to the end of its record
 abbrev pub cursor : ℕ → ℕ → Cursor
 cursor start end = record { start = start; end = end }
 
+-- a PAGE, and a COMMIT, of either width
+abbrev pub pageAt : ℕ → Bool → List ℕ → Record
+pageAt u wide s =
+    let n = numberWidth wide in
+    Page wide (leAt 4 s 4) (leAt n s 8) (cursor (8 + n) (recordLength u (pageKind wide)))
+
+abbrev pub commitAt : ℕ → Bool → List ℕ → Record
+commitAt u wide s =
+    let n = numberWidth wide in
+    Commit wide (leAt 4 s 4) (leAt n s 8) (leAt n s (8 + n)) (cursor (8 + n + n) (recordLength u (commitKind wide)))
+
 -- the record of a kind whose bytes are all there: each kind with its own fields
 unfoldable pub fieldsOf : ℕ → ℕ → List ℕ → Record
 fieldsOf u kind s =
     let end = recordLength u kind in
-    cond (eqb kind PAGE) (Page (leAt 4 s 4) (leAt 2 s 8) (cursor 10 end))
+    cond (eqb kind PAGE) (pageAt u false s)
     (cond (eqb kind BLOCK) (Block (leAt 4 s 4) (leAt 2 s 8) (cursor 10 end))
     (cond (eqb kind STATE) (State (leAt 4 s 4) (cursor 8 end))
-    (cond (eqb kind COMMIT) (Commit (leAt 4 s 4) (leAt 2 s 8) (leAt 2 s 10) (cursor 12 end))
-    (Ack (leAt 4 s 4) (cursor 8 end)))))
+    (cond (eqb kind COMMIT) (commitAt u false s)
+    (cond (eqb kind WIDEPAGE) (pageAt u true s)
+    (cond (eqb kind WIDECOMMIT) (commitAt u true s)
+    (Ack (leAt 4 s 4) (cursor 8 end)))))))
 
 -- in this order: 1, header incomplete, 6 for that reader, 7, body incomplete, the record. What is incomplete is cut
 -- short by what is missing of it: "4 less the bytes present for the header", "then the rest of the body"
@@ -57,24 +70,24 @@ otherRefusal r = onFound r badKind (λ n. 0) (λ n. n)
 
 -- its kind; 0 where there is no record
 abbrev pub kindOf : Record → ℕ
-kindOf (Page e p c) = PAGE
+kindOf (Page w e p c) = pageKind w
 kindOf (Block e n c) = BLOCK
 kindOf (State e c) = STATE
-kindOf (Commit e p b c) = COMMIT
+kindOf (Commit w e p b c) = commitKind w
 kindOf (Ack e c) = ACK
 kindOf (Short n) = 0
 kindOf (Refused n) = 0
 
--- the value of a read: the kind for kinds 1 to 4, the epoch for an ACK; "Every refusal's value is 0"
+-- the value of a read: the record's own kind, and for an ACK its epoch; "Every refusal's value is 0"
 abbrev pub valueOf : Record → ℕ
 valueOf r = onAck r (λ e c. e) (kindOf r)
 
 -- its field of bytes, empty where it has none
 abbrev pub cursorOf : Record → Cursor
-cursorOf (Page e p c) = c
+cursorOf (Page w e p c) = c
 cursorOf (Block e n c) = c
 cursorOf (State e c) = c
-cursorOf (Commit e p b c) = c
+cursorOf (Commit w e p b c) = c
 cursorOf (Ack e c) = c
 cursorOf (Short n) = cursor 0 0
 cursorOf (Refused n) = cursor 0 0

@@ -7,27 +7,28 @@ use lib.Dec.{leb, ltb}
 use lib.ListN.{length}
 use Rattle.lists.specs.Part.{put}
 use Rattle.lists.specs.LittleEndian.{leBytes}
-use Rattle.records.specs.Kind.{PAGE, BLOCK, STATE, COMMIT, ACK, ACTIVATION, unitBody}
+use Rattle.records.specs.Kind.{BLOCK, STATE, ACK, ACTIVATION, pageKind, commitKind, numberWidth, epochBody}
 
 -- the length of the body, the kind, the body
 unfoldable pub frame : ℕ → List ℕ → List ℕ
 frame kind body = leBytes 2 (length body) ++ (leBytes 2 kind ++ body)
 
--- a PAGE or a BLOCK: epoch 4, number 2, the bytes
-unfoldable pub unitRecord : ℕ → ℕ → ℕ → List ℕ → List ℕ
-unitRecord kind epoch number bytes = frame kind (leBytes 4 epoch ++ (leBytes 2 number ++ bytes))
+-- a PAGE or a BLOCK: epoch 4, number 2 or 4, the bytes
+unfoldable pub unitRecord : (kind width : ℕ) → ℕ → ℕ → List ℕ → List ℕ
+unitRecord kind width epoch number bytes = frame kind (leBytes 4 epoch ++ (leBytes width number ++ bytes))
 
-abbrev pub pageRecord : ℕ → ℕ → List ℕ → List ℕ
-pageRecord epoch page bytes = unitRecord PAGE epoch page bytes
+abbrev pub pageRecord : (wide : Bool) → ℕ → ℕ → List ℕ → List ℕ
+pageRecord wide epoch page bytes = unitRecord (pageKind wide) (numberWidth wide) epoch page bytes
 
 abbrev pub blockRecord : ℕ → ℕ → List ℕ → List ℕ
-blockRecord epoch block bytes = unitRecord BLOCK epoch block bytes
+blockRecord epoch block bytes = unitRecord BLOCK 2 epoch block bytes
 
 unfoldable pub stateRecord : ℕ → List ℕ → List ℕ
 stateRecord epoch bytes = frame STATE (leBytes 4 epoch ++ bytes)
 
-unfoldable pub commitRecord : ℕ → ℕ → ℕ → List ℕ
-commitRecord epoch pages blocks = frame COMMIT (leBytes 4 epoch ++ (leBytes 2 pages ++ leBytes 2 blocks))
+unfoldable pub commitRecord : (wide : Bool) → ℕ → ℕ → ℕ → List ℕ
+commitRecord wide epoch pages blocks =
+    frame (commitKind wide) (leBytes 4 epoch ++ (leBytes (numberWidth wide) pages ++ leBytes (numberWidth wide) blocks))
 
 -- an ACK or an activation: the epoch alone
 unfoldable pub epochRecord : ℕ → ℕ → List ℕ
@@ -39,13 +40,17 @@ ackRecord epoch = epochRecord ACK epoch
 abbrev pub activationRecord : ℕ → List ℕ
 activationRecord epoch = epochRecord ACTIVATION epoch
 
--- a number fits its field of 2 bytes
-abbrev pub fitsTwo : ℕ → Bool
-fitsTwo n = ltb n (2 ^ 16)
+-- a number fits its field of so many bytes
+abbrev pub fitsIn : (width : ℕ) → ℕ → Bool
+fitsIn width n = ltb n (256 ^ width)
 
 -- the numbers of a PAGE or a BLOCK fit: the number, and the length of the body
-abbrev pub unitFits : ℕ → List ℕ → Bool
-unitFits number bytes = fitsTwo number && fitsTwo (length bytes + unitBody)
+abbrev pub unitFits : (width : ℕ) → ℕ → List ℕ → Bool
+unitFits width number bytes = fitsIn width number && fitsIn 2 (length bytes + (epochBody + width))
+
+-- the counts of a COMMIT fit
+abbrev pub countsFit : (wide : Bool) → ℕ → ℕ → Bool
+countsFit wide pages blocks = fitsIn (numberWidth wide) pages && fitsIn (numberWidth wide) blocks
 
 -- a record is written where its numbers fit and the part has room, else nothing is
 unfoldable pub hasRoom : Bool → List ℕ → List ℕ → Bool

@@ -1,16 +1,14 @@
 // Reading one record: what stands at the head of some bytes, for a reader.
 ghost use mathlib.Core.Path.{_≡_};
-ghost use Prim.Native.Nat.{_≤_};
+ghost use Prim.Native.Nat.{_+_, _≤_};
 ghost use mathlib.Core.Bool.{true};
 ghost use lib.ListN.{length};
-ghost use Rattle.lists.specs.Refusal.{within};
-ghost use Rattle.records.specs.Kind.{unitOk, bodyLength, recordLength, isFor};
-ghost use Rattle.records.specs.Read.{fieldsOf, readRecord, numberOf, otherRefusal, kindOf, valueOf, usedOf};
-use crate::ACK;
+ghost use Rattle.lists.specs.LittleEndian.{leAt};
+ghost use Rattle.records.specs.Kind.{unitOk, pageKind, commitKind, numberWidth, bodyLength, recordLength, isFor};
+ghost use Rattle.records.specs.Read.{pageAt, commitAt, fieldsOf, readRecord, numberOf, otherRefusal, kindOf, valueOf, usedOf};
 use crate::BLOCK;
 use crate::COMMIT;
 use crate::COMMIT_BODY;
-use crate::COMMIT_RECORD;
 use crate::CUT_SHORT;
 use crate::Cursor;
 use crate::EPOCH_BODY;
@@ -26,6 +24,15 @@ use crate::STATE_BODY;
 use crate::STATE_RECORD;
 use crate::UNIT_BODY;
 use crate::UNIT_RECORD;
+use crate::WIDE_COMMIT;
+use crate::WIDE_COMMIT_BODY;
+use crate::WIDE_PAGE;
+use crate::WIDE_PAGE_BODY;
+use crate::kinds::commit_kind;
+use crate::kinds::commit_length;
+use crate::kinds::is_for;
+use crate::kinds::page_head;
+use crate::kinds::page_kind;
 use crate::number;
 use lists::field::get2;
 use lists::field::get4;
@@ -46,30 +53,6 @@ pub fn unit_ok(u: usize) -> bool
     true
 }
 
-// Whether a kind is one of low to high.
-fn between(low: u32, high: u32, kind: u32) -> bool
-    ensures { λ r. ⌜ r ≡ within low high kind ⌝ }
-{
-    if kind < low {
-        return false;
-    }
-    if high < kind {
-        return false;
-    }
-    true
-}
-
-// Whether records of a kind go to a reader.
-pub fn is_for(reader: Reader, kind: u32) -> bool
-    ensures { λ r. ⌜ r ≡ isFor reader kind ⌝ }
-{
-    match reader {
-        Reader::Test => between(PAGE, ACK, kind),
-        Reader::Standby => between(PAGE, COMMIT, kind),
-        Reader::Primary => kind == ACK,
-    }
-}
-
 // The length of the body of a kind that the record test passes.
 fn body_length(u: usize, kind: u32) -> usize
     requires { ⌜ (u ≤ 4096) × (isFor Reader.Test kind ≡ true) ⌝ }
@@ -81,7 +64,50 @@ fn body_length(u: usize, kind: u32) -> usize
         BLOCK => unit,
         STATE => STATE_BODY,
         COMMIT => COMMIT_BODY,
+        WIDE_PAGE => u + WIDE_PAGE_BODY,
+        WIDE_COMMIT => WIDE_COMMIT_BODY,
         _ => EPOCH_BODY,
+    }
+}
+
+// A page number, or a count.
+fn number_at(s: &[u8], at: usize, wide: bool) -> usize
+    requires { ⌜ at + numberWidth wide ≤ length (now s) ⌝ }
+    ensures { λ r. ⌜ r ≡ leAt (numberWidth wide) (now (s .entry)) at ⌝ }
+{
+    if wide {
+        return get4(s, at) as usize;
+    }
+    get2(s, at) as usize
+}
+
+fn page_at(u: usize, wide: bool, s: &[u8]) -> Record
+    requires { ⌜ (u ≤ 4096) × (recordLength u (pageKind wide) ≤ length (now s)) ⌝ }
+    ensures { λ r. ⌜ r ≡ pageAt u wide (now (s .entry)) ⌝ }
+{
+    let start = page_head(wide);
+    Record::Page {
+        wide,
+        epoch: get4(s, 4),
+        page: number_at(s, EPOCH_RECORD, wide),
+        at: Cursor {
+            start,
+            end: u + start,
+        },
+    }
+}
+
+fn commit_at(u: usize, wide: bool, s: &[u8]) -> Record
+    requires { ⌜ recordLength u (commitKind wide) ≤ length (now s) ⌝ }
+    ensures { λ r. ⌜ r ≡ commitAt u wide (now (s .entry)) ⌝ }
+{
+    let end = commit_length(wide);
+    Record::Commit {
+        wide,
+        epoch: get4(s, 4),
+        pages: number_at(s, EPOCH_RECORD, wide),
+        blocks: number_at(s, page_head(wide), wide),
+        at: Cursor { start: end, end },
     }
 }
 
@@ -91,22 +117,14 @@ fn fields(u: usize, kind: u32, s: &[u8]) -> Record
     ensures { λ r. ⌜ r ≡ fieldsOf u kind (now (s .entry)) ⌝ }
 {
     let epoch = get4(s, 4);
-    let unit_end = u + UNIT_RECORD;
     match kind {
-        PAGE => Record::Page {
-            epoch,
-            page: get2(s, 8) as usize,
-            at: Cursor {
-                start: UNIT_RECORD,
-                end: unit_end,
-            },
-        },
+        PAGE => page_at(u, false, s),
         BLOCK => Record::Block {
             epoch,
             block: get2(s, 8) as usize,
             at: Cursor {
                 start: UNIT_RECORD,
-                end: unit_end,
+                end: u + UNIT_RECORD,
             },
         },
         STATE => Record::State {
@@ -116,15 +134,9 @@ fn fields(u: usize, kind: u32, s: &[u8]) -> Record
                 end: STATE_RECORD,
             },
         },
-        COMMIT => Record::Commit {
-            epoch,
-            pages: get2(s, 8) as usize,
-            blocks: get2(s, 10) as usize,
-            at: Cursor {
-                start: COMMIT_RECORD,
-                end: COMMIT_RECORD,
-            },
-        },
+        COMMIT => commit_at(u, false, s),
+        WIDE_PAGE => page_at(u, true, s),
+        WIDE_COMMIT => commit_at(u, true, s),
         _ => Record::Ack {
             epoch,
             at: Cursor {
@@ -199,10 +211,11 @@ pub fn kind_of(r: Record) -> u64
 {
     match r {
         Record::Page {
+            wide,
             epoch: _,
             page: _,
             at: _,
-        } => 1,
+        } => page_kind(wide) as u64,
         Record::Block {
             epoch: _,
             block: _,
@@ -210,18 +223,19 @@ pub fn kind_of(r: Record) -> u64
         } => 2,
         Record::State { epoch: _, at: _ } => 3,
         Record::Commit {
+            wide,
             epoch: _,
             pages: _,
             blocks: _,
             at: _,
-        } => 4,
+        } => commit_kind(wide) as u64,
         Record::Ack { epoch: _, at: _ } => 5,
         Record::Short { missing: _ } => 0,
         Record::Refused { number: _ } => 0,
     }
 }
 
-// The value of a read: the kind for kinds 1 to 4, the epoch for an ACK, 0 where there is no record.
+// The value of a read: the record's own kind, and for an ACK its epoch; 0 where there is no record.
 pub fn value_of(r: Record) -> u64
     ensures { λ n. ⌜ n ≡ valueOf r ⌝ }
 {
@@ -237,6 +251,7 @@ pub fn used_of(r: Record) -> usize
 {
     match r {
         Record::Page {
+            wide: _,
             epoch: _,
             page: _,
             at,
@@ -248,6 +263,7 @@ pub fn used_of(r: Record) -> usize
         } => at.end,
         Record::State { epoch: _, at } => at.end,
         Record::Commit {
+            wide: _,
             epoch: _,
             pages: _,
             blocks: _,

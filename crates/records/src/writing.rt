@@ -2,36 +2,35 @@
 // A part too short, or a number that does not fit its field, writes nothing and reports 0; otherwise the length written is reported.
 ghost use mathlib.Core.Path.{_≡_};
 ghost use Prim.Native.Nat.{_+_, _≤_, _<_, _^_};
-ghost use mathlib.Core.Bool.{true, _&&_};
+ghost use mathlib.Core.Bool.{true};
 ghost use mathlib.Core.List.{_++_};
 ghost use lib.ListN.{length};
 ghost use Rattle.lists.specs.LittleEndian.{leBytes};
 ghost use Rattle.lists.specs.Part.{put};
-ghost use Rattle.records.specs.Write.{unitRecord, pageRecord, blockRecord, stateRecord, commitRecord, epochRecord, ackRecord, activationRecord, fitsTwo, unitFits, Written};
+ghost use Rattle.records.specs.Kind.{numberWidth};
+ghost use Rattle.records.specs.Write.{unitRecord, pageRecord, blockRecord, stateRecord, commitRecord, epochRecord, ackRecord, activationRecord, unitFits, countsFit, Written};
 use crate::ACK;
 use crate::ACTIVATION;
 use crate::BLOCK;
-use crate::COMMIT;
-use crate::COMMIT_BODY;
-use crate::COMMIT_RECORD;
 use crate::EPOCH_FIELD;
 use crate::EPOCH_RECORD;
+use crate::HEADER_LENGTH;
 use crate::MOST_TWO;
-use crate::PAGE;
 use crate::STATE;
 use crate::STATE_BODY;
 use crate::STATE_RECORD;
-use crate::UNIT_BODY;
-use crate::UNIT_RECORD;
+use crate::kinds::commit_kind;
+use crate::kinds::commit_length;
+use crate::kinds::most_number;
+use crate::kinds::page_head;
+use crate::kinds::page_kind;
 use lists::field::bytes2;
 use lists::field::bytes4;
 
-// The lengths of bodies in the width of their field, and the most bytes of a PAGE or a BLOCK whose length fits it.
+// The length of a STATE's body in the width of its field, and the most bytes of a record whose length fits it.
 const STATE_FIELD: u32 = STATE_BODY as u32;
 
-const COMMIT_FIELD: u32 = COMMIT_BODY as u32;
-
-const MOST_UNIT_BYTES: usize = MOST_TWO - UNIT_BODY;
+const MOST_RECORD: usize = HEADER_LENGTH + MOST_TWO;
 
 // The head that every record has: the length of its body, its kind and its epoch.
 fn put_head(out: &mut [u8], n: u32, kind: u32, epoch: u32)
@@ -46,46 +45,68 @@ fn put_head(out: &mut [u8], n: u32, kind: u32, epoch: u32)
     lists::copy_into(out, 4, &e);
 }
 
-fn put_unit(out: &mut [u8], kind: u32, epoch: u32, number: u32, body: &[u8])
-    requires { ⌜ (length (now body) + 6 < 2 ^ 16) × (length (now body) + 10 ≤ length (now out)) ⌝ }
-    ensures { λ _. ⌜ now (out .exit) ≡ put (now (out .entry)) 0 (unitRecord kind epoch number (now (body .entry))) ⌝ }
+// A page or block number, or a count.
+fn put_number(out: &mut [u8], at: usize, wide: bool, number: u32)
+    requires { ⌜ at + numberWidth wide ≤ length (now out) ⌝ }
+    ensures { λ _. ⌜ now (out .exit) ≡ put (now (out .entry)) at (leBytes (numberWidth wide) number) ⌝ }
 {
-    let n = (body.len() + UNIT_BODY) as u32;
-    let field = bytes2(number);
-    put_head(out, n, kind, epoch);
-    lists::copy_into(out, EPOCH_RECORD, &field);
-    lists::copy_into(out, UNIT_RECORD, body);
+    if wide {
+        let four = bytes4(number);
+        lists::copy_into(out, at, &four);
+        return;
+    }
+    let two = bytes2(number);
+    lists::copy_into(out, at, &two);
 }
 
-fn write_unit(out: &mut [u8], kind: u32, epoch: u32, number: usize, body: &[u8]) -> usize
-    ensures { λ r. ⌜ Written (unitFits number (now (body .entry))) (unitRecord kind epoch number (now (body .entry))) (now (out .entry)) (now (out .exit)) r ⌝ }
+fn put_unit(out: &mut [u8], kind: u32, wide: bool, epoch: u32, number: u32, body: &[u8])
+    requires { ⌜ (length (now body) + (4 + numberWidth wide) < 2 ^ 16) × (length (now body) + (8 + numberWidth wide) ≤ length (now out)) ⌝ }
+    ensures { λ _. ⌜ now (out .exit) ≡ put (now (out .entry)) 0 (unitRecord kind (numberWidth wide) epoch number (now (body .entry))) ⌝ }
+{
+    let head = page_head(wide);
+    let n = (body.len() + (head - HEADER_LENGTH)) as u32;
+    put_head(out, n, kind, epoch);
+    put_number(out, EPOCH_RECORD, wide, number);
+    lists::copy_into(out, head, body);
+}
+
+fn write_unit(
+    out: &mut [u8],
+    kind: u32,
+    wide: bool,
+    epoch: u32,
+    number: usize,
+    body: &[u8],
+) -> usize
+    ensures { λ r. ⌜ Written (unitFits (numberWidth wide) number (now (body .entry))) (unitRecord kind (numberWidth wide) epoch number (now (body .entry))) (now (out .entry)) (now (out .exit)) r ⌝ }
 {
     let n = body.len();
-    if MOST_TWO < number {
+    let head = page_head(wide);
+    if most_number(wide) < number {
         return 0;
     }
-    if MOST_UNIT_BYTES < n {
+    if MOST_RECORD - head < n {
         return 0;
     }
-    if out.len() < n + UNIT_RECORD {
+    if out.len() < n + head {
         return 0;
     }
-    put_unit(out, kind, epoch, number as u32, body);
-    n + UNIT_RECORD
+    put_unit(out, kind, wide, epoch, number as u32, body);
+    n + head
 }
 
-// PAGE, kind 1.
-pub fn write_page(out: &mut [u8], epoch: u32, page: usize, body: &[u8]) -> usize
-    ensures { λ r. ⌜ Written (unitFits page (now (body .entry))) (pageRecord epoch page (now (body .entry))) (now (out .entry)) (now (out .exit)) r ⌝ }
+// PAGE, kind 1, or 8 where it is wide.
+pub fn write_page(out: &mut [u8], wide: bool, epoch: u32, page: usize, body: &[u8]) -> usize
+    ensures { λ r. ⌜ Written (unitFits (numberWidth wide) page (now (body .entry))) (pageRecord wide epoch page (now (body .entry))) (now (out .entry)) (now (out .exit)) r ⌝ }
 {
-    write_unit(out, PAGE, epoch, page, body)
+    write_unit(out, page_kind(wide), wide, epoch, page, body)
 }
 
 // BLOCK, kind 2.
 pub fn write_block(out: &mut [u8], epoch: u32, block: usize, body: &[u8]) -> usize
-    ensures { λ r. ⌜ Written (unitFits block (now (body .entry))) (blockRecord epoch block (now (body .entry))) (now (out .entry)) (now (out .exit)) r ⌝ }
+    ensures { λ r. ⌜ Written (unitFits 2 block (now (body .entry))) (blockRecord epoch block (now (body .entry))) (now (out .entry)) (now (out .exit)) r ⌝ }
 {
-    write_unit(out, BLOCK, epoch, block, body)
+    write_unit(out, BLOCK, false, epoch, block, body)
 }
 
 // STATE, kind 3, with a processor state.
@@ -102,25 +123,24 @@ pub fn write_state(out: &mut [u8], epoch: u32, processor: &[u8; 64]) -> usize
     STATE_RECORD
 }
 
-// COMMIT, kind 4, with the counts of the checkpoint's pages and blocks.
-pub fn write_commit(out: &mut [u8], epoch: u32, pages: usize, blocks: usize) -> usize
-    ensures { λ r. ⌜ Written (fitsTwo pages && fitsTwo blocks) (commitRecord epoch pages blocks) (now (out .entry)) (now (out .exit)) r ⌝ }
+// COMMIT, kind 4, or 9 where it is wide, with the counts of the checkpoint's pages and blocks.
+pub fn write_commit(out: &mut [u8], wide: bool, epoch: u32, pages: usize, blocks: usize) -> usize
+    ensures { λ r. ⌜ Written (countsFit wide pages blocks) (commitRecord wide epoch pages blocks) (now (out .entry)) (now (out .exit)) r ⌝ }
 {
-    if MOST_TWO < pages {
+    let n = commit_length(wide);
+    if most_number(wide) < pages {
         return 0;
     }
-    if MOST_TWO < blocks {
+    if most_number(wide) < blocks {
         return 0;
     }
-    if out.len() < COMMIT_RECORD {
+    if out.len() < n {
         return 0;
     }
-    let p = bytes2(pages as u32);
-    let b = bytes2(blocks as u32);
-    put_head(out, COMMIT_FIELD, COMMIT, epoch);
-    lists::copy_into(out, EPOCH_RECORD, &p);
-    lists::copy_into(out, UNIT_RECORD, &b);
-    COMMIT_RECORD
+    put_head(out, (n - HEADER_LENGTH) as u32, commit_kind(wide), epoch);
+    put_number(out, EPOCH_RECORD, wide, pages as u32);
+    put_number(out, page_head(wide), wide, blocks as u32);
+    n
 }
 
 fn write_epoch(out: &mut [u8], kind: u32, epoch: u32) -> usize

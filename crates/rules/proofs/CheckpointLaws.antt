@@ -8,7 +8,7 @@ use lib.Dec.{eqb}
 use lib.ListN.{length, length-append}
 use borrow.Author.Tests.{leb-true, le-leb, ltb-true, lt-ltb, eqb-true, eq-eqb}
 use Rattle.lists.proofs.TestLaws.{both, join, accepted, accepts}
-use Rattle.records.specs.Kind.{processorBytes}
+use Rattle.records.specs.Kind.{isWide, processorBytes}
 use Rattle.records.specs.Write.{stateRecord, commitRecord}
 use Rattle.records.proofs.FrameLaws.{length-state, length-commit}
 use Rattle.settings.specs.Range.{mostEpoch}
@@ -29,7 +29,7 @@ pub record CheckpointRoom (p : Primary) (memory dirty stream pages : ℕ) : Type
   pub dirty-is : dirty ≡ marksLength p
   pub stream-is : stream ≡ p .settings .l
   pub protects : protected p ≡ true
-  pub room : p .waiting + checkpointLength (p .settings .u) pages ≤ p .settings .l
+  pub room : p .waiting + checkpointLength (p .settings .u) (isWide (p .settings .m)) pages ≤ p .settings .l
   pub next : p .epoch < mostEpoch
 
 module _ (p : Primary) (memory dirty stream pages : ℕ) where
@@ -46,7 +46,7 @@ module _ (p : Primary) (memory dirty stream pages : ℕ) where
         dirty-is = eqb-true dirty (marksLength p) (d .1);
         stream-is = eqb-true stream (p .settings .l) (s .1);
         protects = h .1 .0;
-        room = leb-true (p .waiting + checkpointLength (p .settings .u) pages) (p .settings .l) (h .1 .1 .0);
+        room = leb-true (p .waiting + checkpointLength (p .settings .u) (isWide (p .settings .m)) pages) (p .settings .l) (h .1 .1 .0);
         next = ltb-true (p .epoch) mostEpoch (h .1 .1 .1 .0);
       }
 
@@ -60,7 +60,7 @@ module _ (p : Primary) (memory dirty stream pages : ℕ) where
               (eq-eqb stream (p .settings .l) (f .stream-is)),
           (
             f .protects,
-            (le-leb (p .waiting + checkpointLength (p .settings .u) pages) (p .settings .l) (f .room), (lt-ltb (p .epoch) mostEpoch (f .next), tt)),
+            (le-leb (p .waiting + checkpointLength (p .settings .u) (isWide (p .settings .m)) pages) (p .settings .l) (f .room), (lt-ltb (p .epoch) mostEpoch (f .next), tt)),
           ),
         )
 
@@ -87,20 +87,21 @@ module _ (p : Primary) (memory dirty stream pages : ℕ) where
 
 -- the bytes appended are as many as the refusal reckons
 pub length-checkpoint : (p : Primary) (memory dirty processor : List ℕ) → length memory ≡ memoryLength p → length processor ≡ processorBytes
-    → length (checkpointBytes p memory dirty processor) ≡ checkpointLength (p .settings .u) (dirtyCount p dirty)
+    → length (checkpointBytes p memory dirty processor) ≡ checkpointLength (p .settings .u) (isWide (p .settings .m)) (dirtyCount p dirty)
 unfolding checkpointBytes checkpointLength
 length-checkpoint p memory dirty processor m s =
     let u = p .settings .u in
-    let records = dirtyRecords memory dirty u (p .epoch) (p .settings .m) in
+    let wide = isWide (p .settings .m) in
+    let records = dirtyRecords memory dirty wide u (p .epoch) (p .settings .m) in
     let state = stateRecord (p .epoch) processor in
-    let commit = commitRecord (p .epoch) (dirtyCount p dirty) (p .blocks) in
+    let commit = commitRecord wide (p .epoch) (dirtyCount p dirty) (p .blocks) in
     length-append records (state ++ commit)
     ∙ omega (
       arith,
       length-append state commit,
-      length-dirty memory dirty u (p .epoch) (p .settings .m) m,
+      length-dirty memory dirty wide u (p .epoch) (p .settings .m) m,
       length-state (p .epoch) processor,
       s,
-      length-commit (p .epoch) (dirtyCount p dirty) (p .blocks),
-      state-commit-records u,
+      length-commit wide (p .epoch) (dirtyCount p dirty) (p .blocks),
+      state-commit-records u wide,
     )

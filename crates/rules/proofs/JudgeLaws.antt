@@ -8,21 +8,20 @@ use lib.Dec.{leb, ltb, eqb}
 use borrow.Author.Tests.{not-true, leb-true, le-leb, ltb-true, ltb-false, lt-ltb, eqb-true, eq-eqb}
 use Rattle.lists.specs.Refusal.{test, refusal}
 use Rattle.lists.proofs.TestLaws.{both, join, and-false, accepted, accepts}
-use Rattle.records.specs.Kind.{PAGE, BLOCK, STATE, COMMIT, bodyLength, recordLength, processorBytes}
+use Rattle.records.specs.Kind.{BLOCK, STATE, bodyLength, recordLength, processorBytes}
 use Rattle.records.specs.Number.{outOfRange, noSuchUnit, badEpoch, outOfOrder, wrongMode, allowanceUsed, slotsFull}
 use Rattle.records.specs.Cases.{byKind, onFound}
-use Rattle.records.specs.Read.{readRecord}
+use Rattle.records.specs.Read.{readRecord, kindOf}
 use Rattle.records.specs.declared.Cursor.{Cursor}
 use Rattle.records.specs.declared.Record.{Record}
 use Rattle.records.specs.declared.Record.the-variants.{Page, Block, State, Commit, Ack, Short, Refused}
-use Rattle.records.specs.declared.Reader.the-variants as reader
 use Rattle.records.proofs.ReadLaws.{RecordFacts, ReadFacts, refused-number, read-facts}
 use Rattle.staging.specs.Slot.{freeSlots}
 use Rattle.rules.specs.declared.Standby.{Standby}
 use Rattle.rules.specs.declared.ReadLent.{ReadLent}
 use Rattle.rules.specs.StandbyState.{isReceiving, standbyOk, memoryLength, marksLength, slotsLength}
 use Rattle.rules.specs.Reply.{unlessRefused}
-use Rattle.rules.specs.Judge.{isNext, pageTests, blockTests, stateTests, commitTests, readLentOk, pageRefusal, blockRefusal, stateRefusal, commitRefusal, recordRefusal, judged}
+use Rattle.rules.specs.Judge.{isNext, pageTests, blockTests, stateTests, commitTests, readLentOk, pageRefusal, blockRefusal, stateRefusal, commitRefusal, recordRefusal, readerOf, judged}
 use Rattle.rules.proofs.ReplyLaws.{unless-cases}
 
 -- ---- "Lent lengths are exact"
@@ -181,24 +180,24 @@ pub record ReadReady (s : Standby) (l : ReadLent) : Type 0 where
 pub record Accepted (s : Standby) (l : ReadLent) (bytes : List ℕ) (kind size : ℕ) (c : Cursor) (Tests : Type 0) : Type 0 where
   pub ready : ReadReady s l
   pub tests : Tests
-  pub field : RecordFacts reader.Standby (s .settings .u) bytes kind size c
+  pub field : RecordFacts (readerOf s) (s .settings .u) bytes kind size c
 
 -- what is judged is such a record, or cut short, or refused with a number
 abbrev pub JudgedFacts : Standby → ReadLent → List ℕ → Record → Type 0
 JudgedFacts s l bytes r =
     byKind r
-    (λ e p c. Accepted s l bytes PAGE (s .settings .u) c (PageTests s e p))
+    (λ e p c. Accepted s l bytes (kindOf r) (s .settings .u) c (PageTests s e p))
     (λ e n c. Accepted s l bytes BLOCK (s .settings .u) c (BlockTests s e n))
     (λ e c. Accepted s l bytes STATE processorBytes c (StateTests s e))
-    (λ e p b c. Accepted s l bytes COMMIT 0 c (CommitTests s (l .reply) e p b))
+    (λ e p b c. Accepted s l bytes (kindOf r) 0 c (CommitTests s (l .reply) e p b))
     (onFound r ⊥ (λ n. ReadReady s l) (λ n. 0 < n))
 
 module _ (s : Standby) (l : ReadLent) (bytes : List ℕ) where
-  record-facts : ReadReady s l → (r : Record) → ReadFacts reader.Standby (s .settings .u) bytes r → recordRefusal s (l .reply) r ≡ 0 → JudgedFacts s l bytes r
-  record-facts ready (Page e p c) f z = record { ready = ready; tests = page-accepted s e p z; field = f }
+  record-facts : ReadReady s l → (r : Record) → ReadFacts (readerOf s) (s .settings .u) bytes r → recordRefusal s (l .reply) r ≡ 0 → JudgedFacts s l bytes r
+  record-facts ready (Page w e p c) f z = record { ready = ready; tests = page-accepted s e p z; field = f }
   record-facts ready (Block e n c) f z = record { ready = ready; tests = block-accepted s e n z; field = f }
   record-facts ready (State e c) f z = record { ready = ready; tests = state-accepted s e z; field = f }
-  record-facts ready (Commit e p b c) f z = record { ready = ready; tests = commit-accepted s (l .reply) e p b z; field = f }
+  record-facts ready (Commit w e p b c) f z = record { ready = ready; tests = commit-accepted s (l .reply) e p b z; field = f }
   record-facts ready (Ack e c) f z = absurd (omega arith)
   record-facts ready (Short n) f z = ready
   record-facts ready (Refused n) f z = refused-number (s .settings .u) n f .0
@@ -217,18 +216,18 @@ module _ (s : Standby) (l : ReadLent) (bytes : List ℕ) where
     unfolding judged
     judged-mode k = rw (ok, lent, k)
 
-    pub judged-number : isReceiving (s .mode) ≡ true → (r : Record) → r ≡ readRecord reader.Standby (s .settings .u) bytes
+    pub judged-number : isReceiving (s .mode) ≡ true → (r : Record) → r ≡ readRecord (readerOf s) (s .settings .u) bytes
         → (n : ℕ) → n ≡ recordRefusal s (l .reply) r → judged s l bytes ≡ unlessRefused n r
     unfolding judged
     judged-number k r e n h = rw (ok, lent, k, ← e, ← h)
 
   -- a fact of what is judged holds of refusals, and of the record found where that is accepted
   pub judged-cases : (P : Record → Type 0) → ((n : ℕ) → 0 < n → P (Refused n))
-      → (ReadReady s l → recordRefusal s (l .reply) (readRecord reader.Standby (s .settings .u) bytes) ≡ 0 → P (readRecord reader.Standby (s .settings .u) bytes))
+      → (ReadReady s l → recordRefusal s (l .reply) (readRecord (readerOf s) (s .settings .u) bytes) ≡ 0 → P (readRecord (readerOf s) (s .settings .u) bytes))
       → P (judged s l bytes)
   unfolding judged
   judged-cases P refusals taken =
-      let r = readRecord reader.Standby (s .settings .u) bytes in
+      let r = readRecord (readerOf s) (s .settings .u) bytes in
       let n = recordRefusal s (l .reply) r in
       go (standbyOk s) (readLentOk s l) (isReceiving (s .mode))
       (λ a b k. unless-cases n r P (taken (record { ok = a; lent = read-lent-facts s l b; receiving = k })) (λ z. refusals n (omega arith)))
@@ -243,4 +242,4 @@ module _ (s : Standby) (l : ReadLent) (bytes : List ℕ) where
   pub judged-facts : JudgedFacts s l bytes (judged s l bytes)
   judged-facts =
       judged-cases (JudgedFacts s l bytes) (λ n h. h)
-      (λ ready z. record-facts ready (readRecord reader.Standby (s .settings .u) bytes) (read-facts reader.Standby (s .settings .u) bytes) z)
+      (λ ready z. record-facts ready (readRecord (readerOf s) (s .settings .u) bytes) (read-facts (readerOf s) (s .settings .u) bytes) z)

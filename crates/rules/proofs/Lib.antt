@@ -12,6 +12,7 @@ pub mod StandbyFacts
 pub mod JudgeLaws
 pub mod ReadLaws
 pub mod MissingLaws
+pub mod WidthLaws
 pub mod FlushLaws
 pub mod TakeoverLaws
 pub mod StartLaws

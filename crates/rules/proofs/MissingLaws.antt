@@ -23,7 +23,7 @@ use Rattle.rules.specs.Reply.{numberOf, unlessRefused, answerOf}
 use Rattle.rules.specs.PrimaryState.{primaryOk, protected}
 use Rattle.rules.specs.StandbyState.{standbyOk, isReceiving}
 use Rattle.rules.specs.Stream.{ackRefusal, ackJudged, ackReply}
-use Rattle.rules.specs.Judge.{readLentOk, recordRefusal, judged}
+use Rattle.rules.specs.Judge.{readLentOk, recordRefusal, readerOf, judged}
 use Rattle.rules.specs.Read.{readReply}
 use Rattle.rules.proofs.ReplyLaws.{answer-found, unless-cases}
 
@@ -62,9 +62,9 @@ module _ (for : Reader) (u : ℕ) (inRange inMode : Bool) (refuse : Record → �
       from bytes n c = rw (c .0 .0, c .0 .1, c .1, passes n)
 
 -- the standby's read
-pub read-missing : (s : Standby) (l : ReadLent) → MissingRight reader.Standby (s .settings .u) (λ bytes n. readReply s l bytes .answer ≡ Short n)
+pub read-missing : (s : Standby) (l : ReadLent) → MissingRight (readerOf s) (s .settings .u) (λ bytes n. readReply s l bytes .answer ≡ Short n)
 unfolding readReply judged
-read-missing s l = call-missing reader.Standby (s .settings .u) (standbyOk s && readLentOk s l) (isReceiving (s .mode)) (recordRefusal s (l .reply)) (λ n. refl)
+read-missing s l = call-missing (readerOf s) (s .settings .u) (standbyOk s && readLentOk s l) (isReceiving (s .mode)) (recordRefusal s (l .reply)) (λ n. refl)
 
 -- the primary's ACK
 pub ack-missing : (p : Primary) → MissingRight reader.Primary (p .settings .u) (λ bytes n. ackReply p bytes .answer ≡ Short n)

@@ -11,7 +11,6 @@ use Rattle.records.specs.Kind.{processorBytes}
 use Rattle.records.specs.declared.Cursor.{Cursor}
 use Rattle.records.specs.declared.Record.{Record}
 use Rattle.records.specs.declared.Record.the-variants.{Page, Block, State, Commit, Ack, Short, Refused}
-use Rattle.records.specs.declared.Reader.the-variants as reader
 use Rattle.records.proofs.ReadLaws.{found-cases, FieldsFit, read-fits}
 use Rattle.settings.specs.Range.{mostEpoch}
 use Rattle.staging.specs.Slot.{withBlock, allDue}
@@ -21,7 +20,7 @@ use Rattle.rules.specs.declared.Standby.{Standby}
 use Rattle.rules.specs.declared.ReadLent.{ReadLent}
 use Rattle.rules.specs.StandbyState.{isReceiving, withPagesNext, withSlotsBlocks, withPendingSeen, withNoTicks}
 use Rattle.rules.specs.Reply.{numberOf, valueOf, usedOf, answerOf}
-use Rattle.rules.specs.Judge.{judged}
+use Rattle.rules.specs.Judge.{readerOf, judged}
 use Rattle.rules.specs.Read.{bytesAt, sealedState, installedState, readState, memoryAfter, stagedPagesAfter, stagedMarksAfter, stagedBlocksAfter, replyAfter, readReply}
 use Rattle.rules.specs.Reached.{StandbyInRange, StandbyReached}
 use Rattle.rules.proofs.StandbyFacts.{standby-tests, standby-tested, standby-facts, in-range-slots, reached-slots, reset-in-range, reset-reached}
@@ -130,10 +129,10 @@ module _ (P : Standby → Type 0) (resets : (s : Standby) → P s → P (withNoT
     (commit : (epoch : ℕ) → P (installedState (sealedState s) epoch))
     (l : ReadLent) (bytes : List ℕ) where
   record-kept : (r : Record) → JudgedFacts s l bytes r → P (readState s bytes r)
-  record-kept (Page e p c) f = resets _ (page e p (f .tests))
+  record-kept (Page w e p c) f = resets _ (page e p (f .tests))
   record-kept (Block e n c) f = resets _ (block e n (f .tests))
   record-kept (State e c) f = resets _ (state (bytesAt c bytes) (bytes-length c bytes processorBytes (f .field .span) (f .field .inside)))
-  record-kept (Commit e p b c) f = resets _ (commit e)
+  record-kept (Commit w e p b c) f = resets _ (commit e)
   record-kept (Ack e c) f = absurd f
   record-kept (Short n) f = h
   record-kept (Refused n) f = h
@@ -159,10 +158,10 @@ module _ (s : Standby) (l : ReadLent) (bytes : List ℕ) where
   record-resets = go (judged s l bytes) (judged-facts s l bytes)
     where
       go : (r : Record) → JudgedFacts s l bytes r → numberOf (answerOf r) ≡ 0 → readState s bytes r .detector ≡ reset (s .detector)
-      go (Page e p c) f z = refl
+      go (Page w e p c) f z = refl
       go (Block e n c) f z = refl
       go (State e c) f z = refl
-      go (Commit e p b c) f z = refl
+      go (Commit w e p b c) f z = refl
       go (Ack e c) f z = absurd f
       go (Short n) f z = absurd (omega arith)
       go (Refused n) f z = absurd (omega arith)
@@ -176,16 +175,16 @@ module _ (s : Standby) (l : ReadLent) (bytes : List ℕ) where
 -- ---- after the last epoch there is no next one: no record is accepted
 module _ (s : Standby) (l : ReadLent) (bytes : List ℕ) (low : (j : ℕ) → getD bytes j 0 < 256) where
   fields-fit : FieldsFit (judged s l bytes)
-  fields-fit = judged-cases s l bytes FieldsFit (λ n h. tt) (λ ready z. read-fits reader.Standby (s .settings .u) bytes low)
+  fields-fit = judged-cases s l bytes FieldsFit (λ n h. tt) (λ ready z. read-fits (readerOf s) (s .settings .u) bytes low)
 
   pub last-epoch : s .received ≡ mostEpoch → numberOf (answerOf (judged s l bytes)) ≡ 0 → ⊥
   last-epoch e z = go (judged s l bytes) (judged-facts s l bytes) fields-fit z
     where
       go : (r : Record) → JudgedFacts s l bytes r → FieldsFit r → numberOf (answerOf r) ≡ 0 → ⊥
-      go (Page n p c) f k z = let h = f .tests .epoch-next in omega arith
+      go (Page w n p c) f k z = let h = f .tests .epoch-next in omega arith
       go (Block n b c) f k z = let h = f .tests .epoch-next in omega arith
       go (State n c) f k z = let h = f .tests .epoch-next in omega arith
-      go (Commit n p b c) f k z = let h = f .tests .epoch-next in omega arith
+      go (Commit w n p b c) f k z = let h = f .tests .epoch-next in omega arith
       go (Ack n c) f k z = f
       go (Short n) f k z = omega arith
       go (Refused n) f k z = omega arith

@@ -60,10 +60,10 @@ module _ (p : Primary) where
       (ltb-true (p .acknowledged) e (b .0), ltb-true e (p .epoch) (b .1))
 
   record-facts : primaryOk p ≡ true → protected p ≡ true → (r : Record) → ackRefusal p r ≡ 0 → AckJudgedFacts p r
-  record-facts ok on (Page e n c) z = absurd (omega arith)
+  record-facts ok on (Page w e n c) z = absurd (omega arith)
   record-facts ok on (Block e n c) z = absurd (omega arith)
   record-facts ok on (State e c) z = absurd (omega arith)
-  record-facts ok on (Commit e n b c) z = absurd (omega arith)
+  record-facts ok on (Commit w e n b c) z = absurd (omega arith)
   record-facts ok on (Ack e c) z = let f = ack-epochs e c z in record { ok = ok; protects = on; above = f .0; below = f .1 }
   record-facts ok on (Short n) z = tt
   record-facts ok on (Refused n) z = tt

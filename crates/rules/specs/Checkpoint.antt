@@ -1,12 +1,12 @@
 -- The primary's checkpoint. Assumes nothing.
 use Prim.Native.Nat.{ℕ, _+_, _*_}
-use mathlib.Core.Bool.{_&&_}
+use mathlib.Core.Bool.{Bool, _&&_}
 use mathlib.Core.List.{List, [], _∷_, _++_}
 use lib.Dec.{leb, ltb, eqb}
 use lib.ListN.{length}
 use Rattle.lists.specs.Refusal.{Test, test, refusal, pick}
 use Rattle.lists.specs.Part.{put}
-use Rattle.records.specs.Kind.{PAGE, STATE, COMMIT, recordLength}
+use Rattle.records.specs.Kind.{STATE, isWide, pageKind, commitKind, recordLength}
 use Rattle.records.specs.Write.{stateRecord, commitRecord}
 use Rattle.records.specs.Number.{outOfRange, wrongMode, streamFull, lastEpoch}
 use Rattle.settings.specs.Range.{mostEpoch}
@@ -22,21 +22,21 @@ abbrev pub dirtyCount : Primary → List ℕ → ℕ
 dirtyCount p dirty = countMarks dirty (p .settings .m)
 
 -- the bytes that a checkpoint of this many pages appends
-unfoldable pub checkpointLength : ℕ → ℕ → ℕ
-checkpointLength u pages = pages * recordLength u PAGE + (recordLength u STATE + recordLength u COMMIT)
+unfoldable pub checkpointLength : ℕ → (wide : Bool) → ℕ → ℕ
+checkpointLength u wide pages = pages * recordLength u (pageKind wide) + (recordLength u STATE + recordLength u (commitKind wide))
 
 -- "appends every dirty page, STATE and COMMIT", "COMMIT with the counts"
 unfoldable pub checkpointBytes : Primary → List ℕ → List ℕ → List ℕ → List ℕ
 checkpointBytes p memory dirty processor =
-    dirtyRecords memory dirty (p .settings .u) (p .epoch) (p .settings .m)
-    ++ (stateRecord (p .epoch) processor ++ commitRecord (p .epoch) (dirtyCount p dirty) (p .blocks))
+    dirtyRecords memory dirty (isWide (p .settings .m)) (p .settings .u) (p .epoch) (p .settings .m)
+    ++ (stateRecord (p .epoch) processor ++ commitRecord (isWide (p .settings .m)) (p .epoch) (dirtyCount p dirty) (p .blocks))
 
 -- 1 13 15 19; pages is the count of dirty pages
 abbrev pub checkpointTests : Primary → ℕ → ℕ → ℕ → ℕ → List Test
 checkpointTests p memory dirty stream pages =
     test outOfRange (primaryOk p && eqb memory (memoryLength p) && eqb dirty (marksLength p) && eqb stream (p .settings .l))
     ∷ test wrongMode (protected p)
-    ∷ test streamFull (leb (p .waiting + checkpointLength (p .settings .u) pages) (p .settings .l))
+    ∷ test streamFull (leb (p .waiting + checkpointLength (p .settings .u) (isWide (p .settings .m)) pages) (p .settings .l))
     ∷ test lastEpoch (ltb (p .epoch) mostEpoch)
     ∷ []
 
@@ -44,7 +44,7 @@ unfoldable pub checkpointRefusal : Primary → ℕ → ℕ → ℕ → ℕ → �
 checkpointRefusal p memory dirty stream pages = refusal (checkpointTests p memory dirty stream pages)
 
 unfoldable pub checkpointState : Primary → ℕ → Primary
-checkpointState p pages = withEpochBlocksWaiting p (p .epoch + 1) 0 (p .waiting + checkpointLength (p .settings .u) pages)
+checkpointState p pages = withEpochBlocksWaiting p (p .epoch + 1) 0 (p .waiting + checkpointLength (p .settings .u) (isWide (p .settings .m)) pages)
 
 unfoldable pub checkpointReply : Primary → ℕ → ℕ → ℕ → ℕ → PrimaryReply
 checkpointReply p memory dirty stream pages =

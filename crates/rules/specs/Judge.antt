@@ -6,8 +6,9 @@ use lib.Dec.{leb, ltb, eqb}
 use Rattle.lists.specs.Refusal.{Test, test, refusal}
 use Rattle.records.specs.declared.Record.{Record}
 use Rattle.records.specs.declared.Record.the-variants.{Refused}
+use Rattle.records.specs.declared.Reader.{Reader}
 use Rattle.records.specs.declared.Reader.the-variants as reader
-use Rattle.records.specs.Kind.{ACK, recordLength}
+use Rattle.records.specs.Kind.{ACK, isWide, recordLength}
 use Rattle.records.specs.Cases.{byKind}
 use Rattle.records.specs.Read.{readRecord, otherRefusal}
 use Rattle.records.specs.Number.{outOfRange, noSuchUnit, noRoom, badEpoch, outOfOrder, badCounts, wrongMode, allowanceUsed, slotsFull}
@@ -78,10 +79,14 @@ abbrev pub recordRefusal : Standby → ℕ → Record → ℕ
 recordRefusal s reply r =
     byKind r (λ e p c. pageRefusal s e p) (λ e n c. blockRefusal s e n) (λ e c. stateRefusal s e) (λ e p b c. commitRefusal s reply e p b) (otherRefusal r)
 
+-- "A standby reads only the kinds that its M calls for" (document 02, Job 7)
+abbrev pub readerOf : Standby → Reader
+readerOf s = reader.Standby (isWide (s .settings .m))
+
 -- the record at the head of the bytes where it is accepted, else cut short or the number
 unfoldable pub judged : Standby → ReadLent → List ℕ → Record
 judged s l bytes =
-    let r = readRecord reader.Standby (s .settings .u) bytes in
+    let r = readRecord (readerOf s) (s .settings .u) bytes in
     cond (standbyOk s && readLentOk s l)
     (cond (isReceiving (s .mode)) (unlessRefused (recordRefusal s (l .reply) r) r) (Refused wrongMode))
     (Refused outOfRange)

@@ -5,7 +5,7 @@ use mathlib.Core.Bool.{cond, _&&_}
 use mathlib.Core.List.{List, [], _++_}
 use lib.Dec.{eqb}
 use lib.ListN.{length, take, drop}
-use Rattle.records.specs.Kind.{ACK, COMMIT, recordLength}
+use Rattle.records.specs.Kind.{ACK, isCommit, recordLength}
 use Rattle.rules.specs.declared.StandbyAnswer.{StandbyAnswer}
 use Rattle.rules.specs.Reply.{numberOf, valueOf, usedOf}
 use Rattle.rules.specs.PrimaryWrites.{memoryWriteReply, memoryWriteMemory, memoryWriteDirty, diskWriteReply, diskWriteDisk, diskWriteStream}
@@ -174,7 +174,7 @@ stepPrimaryTick w =
 -- "the ACKs that accepted COMMITs wrote"
 abbrev pub ackWritten : StandbyAnswer → List ℕ → List ℕ
 ackWritten r reply =
-    cond (eqb (numberOf (r .answer)) 0 && eqb (valueOf (r .answer)) COMMIT) (take (recordLength (r .state .settings .u) ACK) reply) []
+    cond (eqb (numberOf (r .answer)) 0 && isCommit (valueOf (r .answer))) (take (recordLength (r .state .settings .u) ACK) reply) []
 
 abbrev pub stepRead : World → ℕ → List ℕ → Stepped
 stepRead w n reply =

@@ -12,7 +12,7 @@ use Rattle.records.specs.declared.Record.{Record}
 use Rattle.records.specs.declared.Reader.the-variants as reader
 use Rattle.records.specs.Kind.{ACK, recordLength}
 use Rattle.records.specs.Read.{cursor}
-use Rattle.records.specs.Message.{encode, encodeAll, readAs}
+use Rattle.records.specs.Message.{encode, readAs}
 use Rattle.records.specs.Message as message
 use Rattle.records.proofs.MessageLaws.{used-message}
 use Rattle.settings.specs.declared.Settings.{Settings}
@@ -26,14 +26,14 @@ use Rattle.rules.proofs.PrimaryFacts.{primary-facts}
 use Rattle.runs.specs.Plain.{withCounts, plainAccepted, plainStep}
 use Rattle.runs.specs.Run.{Both, steps, runCall}
 use Rattle.runs.proofs.Effects.{All, ReadableBy}
-use Rattle.runs.proofs.Invariant.{Rising, Inv}
+use Rattle.runs.proofs.Invariant.{ackBytes, Rising, Inv}
 use Rattle.runs.proofs.Conclusions.{received-exists, rising-le}
 use Rattle.runs.proofs.RecordSteps.{ackSeen, ackBy, ack-step}
 use Rattle.runs.proofs.ReadStep.{AckFound, short, next, ack-off, ack-found}
 use Rattle.runs.proofs.Frame.{Accepted, KeepsAccepted}
 
 -- ---- the ACKs under way are readable
-pub acks-readable : (u a r : ℕ) (es : List ℕ) → r < 2 ^ 32 → Rising a r es → All (ReadableBy reader.Primary u) (map message.ack es)
+pub acks-readable : (u a r : ℕ) (es : List ℕ) → r < 2 ^ 32 → Rising a r es → All (ReadableBy reader.Primary u false) (map message.ack es)
 acks-readable u a r [] h f = tt
 acks-readable u a r (e ∷ es) h f = let l = rising-le e r es (f .1) in ((omega arith, refl), acks-readable u e r es h (f .1))
 
@@ -63,7 +63,7 @@ module _ (g : Settings) (b : Both) (i : Inv g b) where
 
   -- the oldest ACK under way
   ack-inv : (e : ℕ) (es : List ℕ) → i .ghost .acks ≡ e ∷ es → AckFacts (b .world .primary .state) e
-      → drop (length (encode (message.ack e))) (b .world .acks) ≡ encodeAll (map message.ack es) → Inv g (after e (length (encode (message.ack e))) b)
+      → drop (length (encode false (message.ack e))) (b .world .acks) ≡ ackBytes es → Inv g (after e (length (encode false (message.ack e))) b)
   ack-inv e es same f bytes =
       let p = b .world .primary in
       let v = i .holds in
@@ -111,11 +111,11 @@ module _ (g : Settings) (b : Both) (i : Inv g b) where
 
     -- an ACK that was judged
     by-ack : (e : ℕ) (es : List ℕ) → i .ghost .acks ≡ e ∷ es → AckFacts (b .world .primary .state) e
-        → drop (length (encode (message.ack e))) (b .world .acks) ≡ encodeAll (map message.ack es)
-        → Inv g (bothBy (readAs (b .world .primary .state .settings .u) (message.ack e)))
+        → drop (length (encode false (message.ack e))) (b .world .acks) ≡ ackBytes es
+        → Inv g (bothBy (readAs (b .world .primary .state .settings .u) false (message.ack e)))
     unfolding plainStep plainAccepted
     by-ack e es same f bytes =
-        subst (λ (used : ℕ). Inv g (after e used b)) (sym (used-message (b .world .primary .state .settings .u) (message.ack e) (fits e es same))) (ack-inv e es same f bytes)
+        subst (λ (used : ℕ). Inv g (after e used b)) (sym (used-message (b .world .primary .state .settings .u) false (message.ack e) (fits e es same))) (ack-inv e es same f bytes)
 
     -- an accepted one is the oldest
     by-found : protected (b .world .primary .state) ≡ true → Accepted b (call.ack n) → AckFound (b .world) n (i .ghost .acks) → Inv g (bothBy (ackSeen (b .world) n))

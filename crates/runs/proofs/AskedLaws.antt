@@ -8,7 +8,8 @@ use lib.Dec.{leb, ltb, eqb}
 use borrow.Author.Tests.{ltb-true, ltb-false, lt-ltb, eq-eqb}
 use Rattle.lists.specs.Refusal.{test, refusal}
 use Rattle.lists.proofs.TestLaws.{agree}
-use Rattle.records.specs.Kind.{BLOCK, COMMIT, ACK, bodyLength, recordLength}
+use Rattle.records.specs.Kind.{BLOCK, ACK, isCommit, bodyLength, recordLength}
+use Rattle.records.proofs.KindLaws.{page-no-commit, commit-is-commit, page-no-block, commit-no-block}
 use Rattle.records.specs.Number.{noRoom, slotsFull}
 use Rattle.records.specs.Message.{Message, messageKind, readAs}
 use Rattle.records.specs.Message as message
@@ -24,7 +25,7 @@ use Rattle.runs.proofs.Walk.{countsOf, Asked}
 -- the number of a whole record of a kind: the last two tests of `readNumber`
 abbrev pub kindNumber : Settings → ℕ → ℕ → ℕ → ℕ
 kindNumber g staged reply kind =
-    refusal (test noRoom (not (eqb kind COMMIT) || leb (recordLength (g .u) ACK) reply) ∷ test slotsFull (not (eqb kind BLOCK) || ltb staged (g .s)) ∷ [])
+    refusal (test noRoom (not (isCommit kind) || leb (recordLength (g .u) ACK) reply) ∷ test slotsFull (not (eqb kind BLOCK) || ltb staged (g .s)) ∷ [])
 
 module _ (g : Settings) (s : Standby) (same : s .settings ≡ ofStandby g) (few : s .pages ≤ s .next) where
   slot-test : ltb 0 (freeSlots (s .slots) (s .settings .s)) ≡ ltb (s .slots .staged) (g .s)
@@ -47,27 +48,29 @@ module _ (g : Settings) (s : Standby) (same : s .settings ≡ ofStandby g) (few 
   unfolding commitRefusal recordLength bodyLength
   commit-number reply e p b a = rw (eq-eqb e (s .received + 1) (a .0), a .1, eq-eqb p (s .pages) (a .2), eq-eqb b (s .blocks) (a .3))
 
-  pub asked-number : (reply : ℕ) (x : Message) → Asked g (countsOf s) x → recordRefusal s reply (readAs (s .settings .u) x) ≡ kindNumber g (s .slots .staged) reply (messageKind x)
-  asked-number reply (message.page e p bs) a =
+  pub asked-number : (reply : ℕ) (wide : Bool) (x : Message) → Asked g (countsOf s) x
+      → recordRefusal s reply (readAs (s .settings .u) wide x) ≡ kindNumber g (s .slots .staged) reply (messageKind wide x)
+  asked-number reply wide (message.page e p bs) a =
       let m = ap (λ (x : StandbySettings). x .m) same in
-      page-accepts s e p (record { page-low = omega (arith, a .0); epoch-next = a .1; rising = a .2; not-below = omega (arith, a .2); before-state = a .3 })
-  asked-number reply (message.block e n bs) a = block-number e n bs a
-  asked-number reply (message.state e bs) a = state-accepts s e (record { epoch-next = a .0; first = a .1 })
-  asked-number reply (message.commit e p b) a = commit-number reply e p b a
-  asked-number reply (message.ack e) a = absurd a
+      rw (page-no-commit wide, page-no-block wide)
+      (page-accepts s e p (record { page-low = omega (arith, a .0); epoch-next = a .1; rising = a .2; not-below = omega (arith, a .2); before-state = a .3 }))
+  asked-number reply wide (message.block e n bs) a = block-number e n bs a
+  asked-number reply wide (message.state e bs) a = state-accepts s e (record { epoch-next = a .0; first = a .1 })
+  asked-number reply wide (message.commit e p b) a = rw (commit-is-commit wide, commit-no-block wide) (commit-number reply e p b a)
+  asked-number reply wide (message.ack e) a = absurd a
 
   -- 17: a BLOCK, so that the epoch has fewer than B
-  pub asked-full : (reply : ℕ) (x : Message) → Asked g (countsOf s) x → kindNumber g (s .slots .staged) reply (messageKind x) ≡ slotsFull → (g .s ≤ s .slots .staged) × (s .blocks < g .b)
-  asked-full reply (message.page e p bs) a z = absurd (omega arith)
-  asked-full reply (message.block e n bs) a z = (ltb-false (s .slots .staged) (g .s) (slot (ltb (s .slots .staged) (g .s)) z), a .4)
+  pub asked-full : (reply : ℕ) (wide : Bool) (x : Message) → Asked g (countsOf s) x → kindNumber g (s .slots .staged) reply (messageKind wide x) ≡ slotsFull → (g .s ≤ s .slots .staged) × (s .blocks < g .b)
+  asked-full reply wide (message.page e p bs) a z = let none : 0 ≡ slotsFull = rw (page-no-commit wide, page-no-block wide) at z in absurd (omega arith)
+  asked-full reply wide (message.block e n bs) a z = (ltb-false (s .slots .staged) (g .s) (slot (ltb (s .slots .staged) (g .s)) z), a .4)
     where
       slot : (t : Bool) → cond t 0 slotsFull ≡ slotsFull → t ≡ false
       slot true z = absurd (omega arith)
       slot false z = refl
-  asked-full reply (message.state e bs) a z = absurd (omega arith)
-  asked-full reply (message.commit e p b) a z = absurd (room (leb (recordLength (g .u) ACK) reply) z)
+  asked-full reply wide (message.state e bs) a z = absurd (omega arith)
+  asked-full reply wide (message.commit e p b) a z = absurd (room (leb (recordLength (g .u) ACK) reply) (rw (commit-is-commit wide, commit-no-block wide) at z))
     where
       room : (t : Bool) → cond t 0 noRoom ≡ slotsFull → ⊥
       room true z = omega arith
       room false z = omega arith
-  asked-full reply (message.ack e) a z = absurd a
+  asked-full reply wide (message.ack e) a z = absurd a

@@ -1,13 +1,13 @@
 -- Catching up is proved: an exchange that is enough, from its drain to the takes that it makes possible. Assumes
 -- nothing.
-use Prim.Native.Nat.{ℕ, _+_, _-_, _/_}
+use Prim.Native.Nat.{ℕ, _+_, _-_, _*_, _/_, _≤_}
 use mathlib.Core.Path.{_≡_, refl, sym, ap, _∙_, subst}
-use mathlib.Core.Bool.{true, false}
+use mathlib.Core.Bool.{Bool, true, false}
 use mathlib.Core.List.{[]}
 use native.Mathlib.Nat.{le-refl}
 use native.Mathlib.Omega.{arith}
 use lib.ListN.{length, replicate, length-replicate}
-use Rattle.records.specs.Kind.{PAGE, ACK, bodyLength, recordLength}
+use Rattle.records.specs.Kind.{ACK, bodyLength, recordLength, isWide, pageKind, commitKind}
 use Rattle.settings.specs.declared.Settings.{Settings}
 use Rattle.rules.specs.StandbyState.{isReceiving}
 use Rattle.rules.specs.World.{World, PrimaryEnd}
@@ -71,6 +71,16 @@ catch-up g processor buffers e calls cut =
     let cs = countedCalls cut calls in
     catches-up g (run steps (g .u) b cs) (run-agree g cs b (start-agree g processor buffers e))
 
+-- as many COMMITs as hold so many bytes
+abbrev turnsFor : (wide : Bool) → ℕ → ℕ
+turnsFor false n = (n + 11) / 12
+turnsFor true n = (n + 15) / 16
+
+turns-enough : (u : ℕ) (wide : Bool) (n : ℕ) → n ≤ recordLength u (commitKind wide) * turnsFor wide n
+unfolding recordLength bodyLength
+turns-enough u false n = omega arith
+turns-enough u true n = omega arith
+
 -- ---- there is always an exchange that is enough, the least
 abbrev pub leastExchange : Settings → World → Exchange
 leastExchange g w =
@@ -78,9 +88,9 @@ leastExchange g w =
     record {
       drained = p .waiting;
       destination = replicate (p .waiting) 0;
-      turns = (length (w .link) + p .waiting + 11) / 12;
+      turns = turnsFor (isWide (g .m)) (length (w .link) + p .waiting);
       budget = 1;
-      given = recordLength (g .u) PAGE;
+      given = recordLength (g .u) (pageKind (isWide (g .m)));
       reply = replicate (recordLength (g .u) ACK) 0;
       ackTurns = p .epoch - p .acknowledged - 1;
       ackGiven = recordLength (g .u) ACK;
@@ -91,7 +101,7 @@ unfolding recordLength bodyLength
 least-enough g w =
     record {
       drain = omega (arith, length-replicate {A = ℕ} (w .primary .state .waiting) 0);
-      turns = omega arith;
+      turns = turns-enough (g .u) (isWide (g .m)) (length (w .link) + w .primary .state .waiting);
       flush = omega arith;
       read = le-refl _;
       room = omega (arith, length-replicate {A = ℕ} (recordLength (g .u) ACK) 0);

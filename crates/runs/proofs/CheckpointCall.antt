@@ -10,9 +10,11 @@ use borrow.Author.Tests.{not-true, eq-eqb}
 use Rattle.lists.specs.Part.{put}
 use Rattle.lists.proofs.TestLaws.{accepted}
 use Rattle.lists.proofs.PartLaws.{length-put}
+use Rattle.records.specs.Kind.{isWide, numberWidth}
 use Rattle.records.specs.Write.{stateRecord, commitRecord}
 use Rattle.records.specs.Message.{Message, encode, encodeAll}
 use Rattle.records.specs.Message as message
+use Rattle.records.proofs.KindLaws.{for-state, for-commit, number-fits, two-fits}
 use Rattle.records.proofs.MessageLaws.{encodeAll-append}
 use Rattle.settings.specs.declared.Settings.{Settings}
 use Rattle.settings.specs.declared.PrimarySettings.{PrimarySettings}
@@ -53,7 +55,8 @@ module _ (processor : Processor) where
   bytesOf b x =
       let p = b .world .primary in
       let e = p .state .epoch in
-      dirtyRecords (p .memory) (p .dirty) (x .u) e (x .m) ++ (stateRecord e (processor .bytes) ++ commitRecord e (countMarks (p .dirty) (x .m)) (p .state .blocks))
+      let wide = isWide (x .m) in
+      dirtyRecords (p .memory) (p .dirty) wide (x .u) e (x .m) ++ (stateRecord e (processor .bytes) ++ commitRecord wide e (countMarks (p .dirty) (x .m)) (p .state .blocks))
 
   abbrev new : Both → Checkpoint
   new b = record { memory = b .plain .memory; disk = b .plain .disk; processor = processor .bytes; packets = b .plain .accepted }
@@ -63,7 +66,7 @@ module _ (processor : Processor) where
       let p = b .world .primary in
       record {
         world = atPrimary (b .world) (record {
-          state = withEpochBlocksWaiting (p .state) (p .state .epoch + 1) 0 (p .state .waiting + checkpointLength (x .u) (countMarks (p .dirty) (x .m)));
+          state = withEpochBlocksWaiting (p .state) (p .state .epoch + 1) 0 (p .state .waiting + checkpointLength (x .u) (isWide (x .m)) (countMarks (p .dirty) (x .m)));
           memory = p .memory;
           disk = p .disk;
           dirty = cleared (p .dirty) (x .m);
@@ -122,72 +125,75 @@ module _ (processor : Processor) where
         ∙ ap₂ (λ (x y : List ℕ). record { memory = x; disk = y; processor = processor .bytes; packets = b .plain .accepted }) (v .images .memoryIs) (v .images .stored alone ∙ v .images .diskIs)
 
     -- the bytes appended are those of its records
-    pub bytes-are : encodeAll (closing ++ (commit ∷ [])) ≡ bytesOf b (ofPrimary g)
+    pub bytes-are : encodeAll (isWide (g .m)) (closing ++ (commit ∷ [])) ≡ bytesOf b (ofPrimary g)
     bytes-are =
         let p = b .world .primary in
         let st = message.state epoch (processor .bytes) in
-        encodeAll-append closing (commit ∷ [])
-        ∙ ap₂ _++_ (encodeAll-append dirties (st ∷ []) ∙ ap₂ _++_ (dirty-encode (p .memory) (p .dirty) (g .u) epoch (g .m)) (append-nil (encode st))) (append-nil (encode commit))
-        ∙ append-assoc (dirtyRecords (p .memory) (p .dirty) (g .u) epoch (g .m)) (encode st) (encode commit)
+        let w = isWide (g .m) in
+        encodeAll-append w closing (commit ∷ [])
+        ∙ ap₂ _++_ (encodeAll-append w dirties (st ∷ []) ∙ ap₂ _++_ (dirty-encode (p .memory) (p .dirty) (g .u) epoch w (g .m)) (append-nil (encode w st))) (append-nil (encode w commit))
+        ∙ append-assoc (dirtyRecords (p .memory) (p .dirty) w (g .u) epoch (g .m)) (encode w st) (encode w commit)
 
     -- in start's settings: their length, the room, and the state
-    pub long : length (bytesOf b (ofPrimary g)) ≡ checkpointLength (g .u) count
+    pub long : length (bytesOf b (ofPrimary g)) ≡ checkpointLength (g .u) (isWide (g .m)) count
     unfolding checkpointBytes
     long =
         let p = b .world .primary in
-        subst (λ (x : PrimarySettings). length (bytesOf b x) ≡ checkpointLength (x .u) (countMarks (p .dirty) (x .m))) (i .holds .primaryKept .settings)
+        subst (λ (x : PrimarySettings). length (bytesOf b x) ≡ checkpointLength (x .u) (isWide (x .m)) (countMarks (p .dirty) (x .m))) (i .holds .primaryKept .settings)
         (length-checkpoint (p .state) (p .memory) (p .dirty) (processor .bytes) (f .memory-is) (processor .size))
 
-    room : b .world .primary .state .waiting + checkpointLength (g .u) count ≤ g .l
+    room : b .world .primary .state .waiting + checkpointLength (g .u) (isWide (g .m)) count ≤ g .l
     room =
         let p = b .world .primary in
-        subst (λ (x : PrimarySettings). p .state .waiting + checkpointLength (x .u) (countMarks (p .dirty) (x .m)) ≤ x .l) (i .holds .primaryKept .settings) (f .room)
+        subst (λ (x : PrimarySettings). p .state .waiting + checkpointLength (x .u) (isWide (x .m)) (countMarks (p .dirty) (x .m)) ≤ x .l) (i .holds .primaryKept .settings) (f .room)
 
-    reached : PrimaryReached (withEpochBlocksWaiting (b .world .primary .state) (b .world .primary .state .epoch + 1) 0 (b .world .primary .state .waiting + checkpointLength (g .u) count))
+    reached : PrimaryReached (withEpochBlocksWaiting (b .world .primary .state) (b .world .primary .state .epoch + 1) 0 (b .world .primary .state .waiting + checkpointLength (g .u) (isWide (g .m)) count))
     unfolding checkpointState
     reached =
         let p = b .world .primary in
         let k = i .holds .primaryKept in
-        subst (λ (x : PrimarySettings). PrimaryReached (withEpochBlocksWaiting (p .state) (p .state .epoch + 1) 0 (p .state .waiting + checkpointLength (x .u) (countMarks (p .dirty) (x .m))))) (k .settings)
+        subst (λ (x : PrimarySettings). PrimaryReached (withEpochBlocksWaiting (p .state) (p .state .epoch + 1) 0 (p .state .waiting + checkpointLength (x .u) (isWide (x .m)) (countMarks (p .dirty) (x .m))))) (k .settings)
         (checkpoint-state-reached (p .state) (length (p .memory)) (length (p .dirty)) (length (p .stream)) (dirtyCount (p .state) (p .dirty)) f (k .reached))
 
-    pub readable : All (Readable (g .u)) (closing ++ (commit ∷ []))
+    pub readable : All (Readable (g .u) (isWide (g .m))) (closing ++ (commit ∷ []))
     readable =
         let p = b .world .primary in
         let k = i .holds .primaryKept in
         let s = primary-settings g p k in
+        let wide = isWide (g .m) in
+        let fits : (n : ℕ) → n ≤ g .m → n < 256 ^ numberWidth wide = λ n h. number-fits (g .m) n (s .shared .m-high) h in
         let low : epoch < 2 ^ 32 = omega (arith, f .next) in
         let high : count ≤ g .m = count-le (p .dirty) (g .m) in
         let blocks = primary-facts (p .state) (f .ok) .blocks in
         let bs = ap (λ (x : PrimarySettings). x .b) (k .settings) in
-        all-append (Readable (g .u)) closing (commit ∷ [])
-        (all-append (Readable (g .u)) dirties (message.state epoch (processor .bytes) ∷ [])
-        (all-readable (g .u) dirties (messages-fit (p .memory) (p .dirty) (g .u) epoch low (g .m) (omega (arith, s .shared .m-high)) (k .memory)) (dirty-before (p .memory) (p .dirty) (g .u) epoch (g .m)))
-        (((low, processor .size), refl), tt))
-        (((low, omega (arith, s .shared .m-high), omega (arith, s .shared .b-high)), refl), tt)
+        all-append (Readable (g .u) (isWide (g .m))) closing (commit ∷ [])
+        (all-append (Readable (g .u) (isWide (g .m))) dirties (message.state epoch (processor .bytes) ∷ [])
+        (all-readable (g .u) wide dirties (messages-fit (p .memory) (p .dirty) (g .u) epoch wide low (g .m) (omega (arith, fits (g .m) (omega arith))) (k .memory)) (dirty-before (p .memory) (p .dirty) (g .u) epoch (g .m)))
+        (((low, processor .size), for-state wide), tt))
+        (((low, fits count high, two-fits wide (p .state .blocks) (omega (arith, s .shared .b-high))), for-commit wide), tt)
 
     closing-before : All Before (i .ghost .opened ++ closing)
     closing-before =
         let p = b .world .primary in
         all-append Before (i .ghost .opened) closing (i .holds .link .openedBefore)
-        (all-append Before dirties (message.state epoch (processor .bytes) ∷ []) (dirty-before (p .memory) (p .dirty) (g .u) epoch (g .m)) (refl, tt))
+        (all-append Before dirties (message.state epoch (processor .bytes) ∷ []) (dirty-before (p .memory) (p .dirty) (g .u) epoch (g .m)) (tt, tt))
 
     waits : b .world .primary .state .waiting ≤ length (b .world .primary .stream)
     waits = omega (arith, room, i .holds .primaryKept .stream)
 
-    link : Link (g .u) (i .ghost .ahead ++ (shut ∷ [])) [] (i .ghost .consumed) (i .ghost .pending ++ (closing ++ (commit ∷ []))) (b .world .link)
+    link : Link (g .u) (isWide (g .m)) (i .ghost .ahead ++ (shut ∷ [])) [] (i .ghost .consumed) (i .ghost .pending ++ (closing ++ (commit ∷ []))) (b .world .link)
         (put (b .world .primary .stream) (b .world .primary .state .waiting) (bytesOf b (ofPrimary g))) (i .ghost .lost)
-        (b .world .primary .state .waiting + checkpointLength (g .u) count) (b .world .primary .state .alone)
+        (b .world .primary .state .waiting + checkpointLength (g .u) (isWide (g .m)) count) (b .world .primary .state .alone)
     link =
         let p = b .world .primary in
         let h = i .ghost in
         let ms = closing ++ (commit ∷ []) in
         let v = i .holds in
-        let more : Link (g .u) (h .ahead ++ (shut ∷ [])) [] (h .consumed) (h .pending ++ ms) (b .world .link) (put (p .stream) (p .state .waiting) (encodeAll ms)) (h .lost) (p .state .waiting + length (encodeAll ms)) (p .state .alone)
-        = link-append (g .u) (h .ahead) (h .ahead ++ (shut ∷ [])) (h .opened) [] (h .consumed) (h .pending) (b .world .link) (p .stream) (h .lost) (p .state .waiting) ms (p .state .alone) alone
+        let more : Link (g .u) (isWide (g .m)) (h .ahead ++ (shut ∷ [])) [] (h .consumed) (h .pending ++ ms) (b .world .link) (put (p .stream) (p .state .waiting) (encodeAll (isWide (g .m)) ms)) (h .lost) (p .state .waiting + length (encodeAll (isWide (g .m)) ms)) (p .state .alone)
+        = link-append (g .u) (isWide (g .m)) (h .ahead) (h .ahead ++ (shut ∷ [])) (h .opened) [] (h .consumed) (h .pending) (b .world .link) (p .stream) (h .lost) (p .state .waiting) ms (p .state .alone) alone
         (sym (sent-closed (h .ahead) (h .opened) closing shut refl)) (before-more (h .ahead) shut (v .link .aheadBefore) closing-before) tt readable waits (v .link) in
-        subst (λ (n : ℕ). Link (g .u) (h .ahead ++ (shut ∷ [])) [] (h .consumed) (h .pending ++ ms) (b .world .link) (put (p .stream) (p .state .waiting) (bytesOf b (ofPrimary g))) (h .lost) (p .state .waiting + n) (p .state .alone)) long
-        (subst (λ (l : List ℕ). Link (g .u) (h .ahead ++ (shut ∷ [])) [] (h .consumed) (h .pending ++ ms) (b .world .link) (put (p .stream) (p .state .waiting) l) (h .lost) (p .state .waiting + length l) (p .state .alone)) bytes-are more)
+        subst (λ (n : ℕ). Link (g .u) (isWide (g .m)) (h .ahead ++ (shut ∷ [])) [] (h .consumed) (h .pending ++ ms) (b .world .link) (put (p .stream) (p .state .waiting) (bytesOf b (ofPrimary g))) (h .lost) (p .state .waiting + n) (p .state .alone)) long
+        (subst (λ (l : List ℕ). Link (g .u) (isWide (g .m)) (h .ahead ++ (shut ∷ [])) [] (h .consumed) (h .pending ++ ms) (b .world .link) (put (p .stream) (p .state .waiting) l) (h .lost) (p .state .waiting + length l) (p .state .alone)) bytes-are more)
 
     after-inv : Inv g (after b (ofPrimary g))
     after-inv =

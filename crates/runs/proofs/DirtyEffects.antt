@@ -91,4 +91,4 @@ module _ (memory dirty : List ℕ) (u e : ℕ) where
       (by-test (marked dirty m)))
 
   pub dirty-before : (m : ℕ) → All Before (dirtyMessages memory dirty u e m)
-  dirty-before m = all-pages Before (λ p bs. refl) m
+  dirty-before m = all-pages Before (λ p bs. tt) m

@@ -1,6 +1,6 @@
 -- An accepted disk write at the primary keeps the invariant. Assumes nothing.
 use Prim.Native.Nat.{ℕ, _+_, _*_, _≤_, _<_}
-use mathlib.Core.Path.{_≡_, refl, sym, ap, _∙_, subst}
+use mathlib.Core.Path.{_≡_, sym, ap, _∙_, subst}
 use mathlib.Core.Logic.{⊎-elim}
 use mathlib.Core.Bool.{Bool, true, false, cond, true≢false}
 use mathlib.Core.List.{List, [], _∷_, _++_, append-nil}
@@ -12,7 +12,7 @@ use Rattle.lists.specs.Page.{withPage}
 use Rattle.lists.proofs.TestLaws.{by-test}
 use Rattle.lists.proofs.PartLaws.{length-put}
 use Rattle.lists.proofs.PageLaws.{page-end, length-with-page}
-use Rattle.records.specs.Kind.{BLOCK, recordLength}
+use Rattle.records.specs.Kind.{BLOCK, recordLength, isWide}
 use Rattle.records.specs.Write.{blockRecord}
 use Rattle.records.specs.Message.{Message, encode, encodeAll}
 use Rattle.records.specs.Message as message
@@ -109,15 +109,15 @@ module _ (block : ℕ) (bytes : List ℕ) where
     abbrev pub added : Message
     added = message.block (b .world .primary .state .epoch) block bytes
 
-    pub fits : message.Fits (g .u) added
+    pub fits : message.Fits (g .u) (isWide (g .m)) added
     fits =
         let h = i .holds .history in
         let s = primary-settings g (b .world .primary) (i .holds .primaryKept) in
         (omega (arith, h .high), omega (arith, s .shared .d-high), whole)
 
-    pub long-record : length (encodeAll (added ∷ [])) ≡ recordLength (b .world .primary .state .settings .u) BLOCK
+    pub long-record : length (encodeAll (isWide (g .m)) (added ∷ [])) ≡ recordLength (b .world .primary .state .settings .u) BLOCK
     long-record =
-        ap length (append-nil (encode added)) ∙ length-message (g .u) added fits
+        ap length (append-nil (encode (isWide (g .m)) added)) ∙ length-message (g .u) (isWide (g .m)) added fits
         ∙ ap (λ (u : ℕ). recordLength u BLOCK) (sym (primary-u g (b .world .primary) (i .holds .primaryKept)))
 
     protected-inv : b .world .primary .state .alone ≡ false → Facts b → Inv g (after (stateAfter b) (streamAfter b) (g .u) (g .u) b)
@@ -130,18 +130,18 @@ module _ (block : ℕ) (bytes : List ℕ) where
         let room = f .room al in
         let opened′ = h .opened ++ (added ∷ []) in
         let last = lastAfter (g .u) (h .base) (h .ahead) in
-        let bytes-are : encodeAll (added ∷ []) ≡ blockRecord (p .state .epoch) block bytes = append-nil (encode added) in
+        let bytes-are : encodeAll (isWide (g .m)) (added ∷ []) ≡ blockRecord (p .state .epoch) block bytes = append-nil (encode (isWide (g .m)) added) in
         let wait : p .state .waiting ≤ length (p .stream) = omega (arith, k .stream) in
-        let more : Link (g .u) (h .ahead) opened′ (h .consumed) (h .pending ++ (added ∷ [])) (b .world .link) (put (p .stream) (p .state .waiting) (encodeAll (added ∷ []))) (h .lost) (p .state .waiting + length (encodeAll (added ∷ []))) (p .state .alone)
-        = link-append (g .u) (h .ahead) (h .ahead) (h .opened) opened′ (h .consumed) (h .pending) (b .world .link) (p .stream) (h .lost) (p .state .waiting) (added ∷ []) (p .state .alone) al
-        (sym (sent-more (h .ahead) (h .opened) (added ∷ []))) (v .link .aheadBefore) (all-append Before (h .opened) (added ∷ []) (v .link .openedBefore) (refl, tt))
-        (readable-before (g .u) added fits refl, tt) wait (v .link) in
+        let more : Link (g .u) (isWide (g .m)) (h .ahead) opened′ (h .consumed) (h .pending ++ (added ∷ [])) (b .world .link) (put (p .stream) (p .state .waiting) (encodeAll (isWide (g .m)) (added ∷ []))) (h .lost) (p .state .waiting + length (encodeAll (isWide (g .m)) (added ∷ []))) (p .state .alone)
+        = link-append (g .u) (isWide (g .m)) (h .ahead) (h .ahead) (h .opened) opened′ (h .consumed) (h .pending) (b .world .link) (p .stream) (h .lost) (p .state .waiting) (added ∷ []) (p .state .alone) al
+        (sym (sent-more (h .ahead) (h .opened) (added ∷ []))) (v .link .aheadBefore) (all-append Before (h .opened) (added ∷ []) (v .link .openedBefore) (tt, tt))
+        (readable-before (g .u) (isWide (g .m)) added fits tt, tt) wait (v .link) in
         record {
           ghost = record { base = h .base; ahead = h .ahead; opened = opened′; consumed = h .consumed; pending = h .pending ++ (added ∷ []); lost = h .lost; acks = h .acks };
           holds = record {
             history = v .history;
-            link = subst (λ (x : List ℕ). Link (g .u) (h .ahead) opened′ (h .consumed) (h .pending ++ (added ∷ [])) (b .world .link) (put (p .stream) (p .state .waiting) x) (h .lost) (p .state .waiting + recordLength (p .state .settings .u) BLOCK) (p .state .alone)) bytes-are
-                (subst (λ (n : ℕ). Link (g .u) (h .ahead) opened′ (h .consumed) (h .pending ++ (added ∷ [])) (b .world .link) (put (p .stream) (p .state .waiting) (encodeAll (added ∷ []))) (h .lost) (p .state .waiting + n) (p .state .alone)) long-record more);
+            link = subst (λ (x : List ℕ). Link (g .u) (isWide (g .m)) (h .ahead) opened′ (h .consumed) (h .pending ++ (added ∷ [])) (b .world .link) (put (p .stream) (p .state .waiting) x) (h .lost) (p .state .waiting + recordLength (p .state .settings .u) BLOCK) (p .state .alone)) bytes-are
+                (subst (λ (n : ℕ). Link (g .u) (isWide (g .m)) (h .ahead) opened′ (h .consumed) (h .pending ++ (added ∷ [])) (b .world .link) (put (p .stream) (p .state .waiting) (encodeAll (isWide (g .m)) (added ∷ []))) (h .lost) (p .state .waiting + n) (p .state .alone)) long-record more);
             images = subst (λ (c : Checkpoint). Images (g .u) (g .m) (p .memory) (p .dirty) (withPage (g .u) (p .disk) block bytes) (b .plain .memory) (withPage (g .u) (b .plain .disk) block bytes) (p .state .alone) c)
                 (sym (effects-append (g .u) last (h .opened) (added ∷ [])))
                 (record {

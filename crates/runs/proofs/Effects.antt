@@ -1,14 +1,13 @@
 -- What records do to a checkpoint's images, and the epochs closed after a checkpoint. Assumes nothing.
 use Prim.Native.Nat.{ℕ, suc}
 use mathlib.Core.Path.{_≡_, refl, ap}
-use mathlib.Core.Bool.{true}
+use mathlib.Core.Bool.{Bool, true}
 use mathlib.Core.List.{List, [], _∷_, _++_}
 use lib.ListN.{length}
-use Rattle.lists.specs.Refusal.{within}
 use Rattle.lists.specs.Page.{withPage}
 use Rattle.records.specs.declared.Reader.{Reader}
 use Rattle.records.specs.declared.Reader.the-variants as reader
-use Rattle.records.specs.Kind.{PAGE, STATE, isFor}
+use Rattle.records.specs.Kind.{isFor}
 use Rattle.records.specs.Message.{Message, messageKind, Fits}
 use Rattle.records.specs.Message as message
 use Rattle.runs.specs.Plain.{Checkpoint}
@@ -81,15 +80,20 @@ all-append P (m ∷ xs) ys f g = (f .0, all-append P xs ys (f .1) g)
 
 -- a record before the COMMIT: a PAGE, a BLOCK or a STATE
 abbrev pub Before : Message → Type 0
-Before m = within PAGE STATE (messageKind m) ≡ true
+Before (message.page e p bs) = Unit {0}
+Before (message.block e n bs) = Unit {0}
+Before (message.state e bs) = Unit {0}
+Before (message.commit e p b) = ⊥
+Before (message.ack e) = ⊥
 
 abbrev pub AllBefore : List Epoch → Type 0
 AllBefore [] = Unit {0}
 AllBefore (x ∷ xs) = All Before (x .records) × AllBefore xs
 
 -- a record that a reader reads back from its bytes
-abbrev pub ReadableBy : Reader → ℕ → Message → Type 0
-ReadableBy reader u m = Fits u m × (isFor reader (messageKind m) ≡ true)
+abbrev pub ReadableBy : Reader → ℕ → (wide : Bool) → Message → Type 0
+ReadableBy reader u wide m = Fits u wide m × (isFor reader (messageKind wide m) ≡ true)
 
-abbrev pub Readable : ℕ → Message → Type 0
-Readable u m = ReadableBy reader.Standby u m
+-- a standby of the same width
+abbrev pub Readable : ℕ → (wide : Bool) → Message → Type 0
+Readable u wide m = ReadableBy (reader.Standby wide) u wide m

@@ -39,10 +39,10 @@ stillOf w =
 -- ---- read: whatever is judged; the link grows no longer
 module _ (w : World) where
   read-by : (bytes reply : List ℕ) (r : Record) → stillOf (readBy w bytes reply r .next) ≡ stillOf w
-  read-by bytes reply (record-of.Page e p c) = refl
+  read-by bytes reply (record-of.Page w e p c) = refl
   read-by bytes reply (record-of.Block e n c) = refl
   read-by bytes reply (record-of.State e c) = refl
-  read-by bytes reply (record-of.Commit e p b c) = refl
+  read-by bytes reply (record-of.Commit w e p b c) = refl
   read-by bytes reply (record-of.Ack e c) = refl
   read-by bytes reply (record-of.Short n) = refl
   read-by bytes reply (record-of.Refused n) = refl
@@ -58,10 +58,10 @@ module _ (w : World) where
 
   -- ---- ACK
   ack-by : (r : Record) → stillOf (ackBy w r .next) ≡ stillOf w
-  ack-by (record-of.Page e p c) = refl
+  ack-by (record-of.Page w e p c) = refl
   ack-by (record-of.Block e n c) = refl
   ack-by (record-of.State e c) = refl
-  ack-by (record-of.Commit e p b c) = refl
+  ack-by (record-of.Commit w e p b c) = refl
   ack-by (record-of.Ack e c) = refl
   ack-by (record-of.Short n) = refl
   ack-by (record-of.Refused n) = refl

@@ -5,6 +5,7 @@ use mathlib.Core.Bool.{Bool, true, false, cond}
 use mathlib.Core.List.{List, [], _∷_, _++_, map}
 use lib.Dec.{leb}
 use lib.ListN.{length, take, drop, getD}
+use Rattle.records.specs.Kind.{isWide}
 use Rattle.records.specs.Message.{Message, encodeAll}
 use Rattle.records.specs.Message as message
 use Rattle.records.specs.Area.{areaLength, areaOf}
@@ -47,11 +48,11 @@ pub record History (u : ℕ) (checkpoints : List Checkpoint) (r epoch : ℕ) (ba
   pub high : epoch ≤ mostEpoch
 
 -- ---- what was consumed, and what the bytes under way, waiting and lost encode, are the records sent; nothing is lost while protected
-pub record Link (u : ℕ) (ahead : List Epoch) (opened consumed pending : List Message) (link stream lost : List ℕ) (waiting : ℕ) (alone : Bool) : Type 0 where
+pub record Link (u : ℕ) (wide : Bool) (ahead : List Epoch) (opened consumed pending : List Message) (link stream lost : List ℕ) (waiting : ℕ) (alone : Bool) : Type 0 where
   pub records : consumed ++ pending ≡ sent ahead opened
-  pub bytes : link ++ (take waiting stream ++ lost) ≡ encodeAll pending
+  pub bytes : link ++ (take waiting stream ++ lost) ≡ encodeAll wide pending
   pub lossless : alone ≡ false → lost ≡ []
-  pub readable : All (Readable u) pending
+  pub readable : All (Readable u wide) pending
   pub consumedBefore : All Before consumed
   pub aheadBefore : AllBefore ahead
   pub openedBefore : All Before opened
@@ -70,11 +71,15 @@ abbrev pub Rising : ℕ → ℕ → List ℕ → Type 0
 Rising a r [] = a ≤ r
 Rising a r (e ∷ es) = (a < e) × Rising e r es
 
+-- the bytes of ACKs of these epochs: an ACK has one width
+abbrev pub ackBytes : List ℕ → List ℕ
+ackBytes es = encodeAll false (map message.ack es)
+
 -- acknowledged is a; alone exactly when T ≤ the plain count, and the counts are equal while protected; nothing outstanding: the count is 0
 pub record Detector (t : ℕ) (alone : Bool) (count acknowledged : ℕ) (acks : List ℕ) (a r count′ last : ℕ) (es : List ℕ) : Type 0 where
   pub acknowledgedIs : acknowledged ≡ a
   pub rising : Rising a r es
-  pub acksAre : acks ≡ encodeAll (map message.ack es)
+  pub acksAre : acks ≡ ackBytes es
   pub aloneIs : alone ≡ leb t count′
   pub countIs : alone ≡ false → count ≡ count′
   pub quiet : a + 1 ≡ last → count′ ≡ 0
@@ -143,7 +148,7 @@ pub record StandbyKept (g : Settings) (s : StandbyEnd) : Type 0 where
 -- ---- all of it
 pub record InvAt (g : Settings) (h : Ghost) (b : Both) : Type 0 where
   pub history : History (g .u) (b .plain .checkpoints) (b .plain .r) (b .world .primary .state .epoch) (h .base) (h .ahead)
-  pub link : Link (g .u) (h .ahead) (h .opened) (h .consumed) (h .pending) (b .world .link) (b .world .primary .stream) (h .lost) (b .world .primary .state .waiting) (b .world .primary .state .alone)
+  pub link : Link (g .u) (isWide (g .m)) (h .ahead) (h .opened) (h .consumed) (h .pending) (b .world .link) (b .world .primary .stream) (h .lost) (b .world .primary .state .waiting) (b .world .primary .state .alone)
   pub images : Images (g .u) (g .m) (b .world .primary .memory) (b .world .primary .dirty) (b .world .primary .disk) (b .plain .memory) (b .plain .disk) (b .world .primary .state .alone) (effects (g .u) (lastAfter (g .u) (h .base) (h .ahead)) (h .opened))
   pub detector : Detector (g .t) (b .world .primary .state .alone) (b .world .primary .state .detector .count) (b .world .primary .state .acknowledged) (b .world .acks) (b .plain .a) (b .plain .r) (b .plain .count) (length (b .plain .checkpoints)) (h .acks)
   pub packets : Packets (heldList (b .world .primary .state .queue) (b .world .primary .held)) (b .plain .accepted) (b .plain .taken) (b .plain .checkpoints)

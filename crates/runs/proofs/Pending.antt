@@ -3,10 +3,10 @@
 use Prim.Native.Nat.{ℕ, _+_, _<_}
 use mathlib.Core.Path.{_≡_, sym, _∙_, subst}
 use mathlib.Core.Bool.{Bool, true, false, false≢true}
-use mathlib.Core.List.{List, [], _∷_, _++_, map}
+use mathlib.Core.List.{List, [], _∷_, _++_}
 use lib.ListN.{take}
+use Rattle.records.specs.Kind.{isWide}
 use Rattle.records.specs.Message.{Message, encodeAll}
-use Rattle.records.specs.Message as message
 use Rattle.settings.specs.declared.Settings.{Settings}
 use Rattle.rules.specs.declared.Standby.{Standby}
 use Rattle.rules.specs.StandbyState.{isReceiving}
@@ -14,7 +14,7 @@ use Rattle.rules.specs.World.{PrimaryEnd, World, Call}
 use Rattle.rules.specs.Step.{step}
 use Rattle.runs.specs.Run.{Both}
 use Rattle.runs.proofs.Effects.{All, all-append, Readable}
-use Rattle.runs.proofs.Invariant.{Inv}
+use Rattle.runs.proofs.Invariant.{ackBytes, Inv}
 use Rattle.runs.proofs.LinkLaws.{bytes-moved, bytes-append}
 use Rattle.runs.proofs.Frame.{Accepted}
 use Rattle.runs.proofs.Walk.{Counts, countsOf, blocksOnly, Walk, walk-append}
@@ -53,20 +53,20 @@ Leads a asked (e ∷ es) = (a < e) × Leads e asked es
 
 pub record Trail (acks : List ℕ) (acknowledged asked : ℕ) : Type 0 where
   pub epochs : List ℕ
-  pub are : acks ≡ encodeAll (map message.ack epochs)
+  pub are : acks ≡ ackBytes epochs
   pub leads : Leads acknowledged asked epochs
 
 -- ---- the records in flight, sent and not yet accepted, and the bytes of them that were dropped
-pub record InFlight (u : ℕ) (link out : List ℕ) (alone : Bool) : Type 0 where
+pub record InFlight (u : ℕ) (wide : Bool) (link out : List ℕ) (alone : Bool) : Type 0 where
   pub records : List Message
   pub lost : List ℕ
-  pub bytes : link ++ (out ++ lost) ≡ encodeAll records
+  pub bytes : link ++ (out ++ lost) ≡ encodeAll wide records
   pub lossless : alone ≡ false → lost ≡ []
-  pub readable : All (Readable u) records
+  pub readable : All (Readable u wide) records
 
 -- ---- the invariant
 pub record Pending (g : Settings) (v : View) : Type 0 where
-  pub flight : InFlight (g .u) (v .link) (v .sender .out) (v .sender .alone)
+  pub flight : InFlight (g .u) (isWide (g .m)) (v .link) (v .sender .out) (v .sender .alone)
   pub walk : v .receiver .receiving ≡ true → Walk g (v .receiver .counts) (flight .records) (blocksOnly (v .sender .epoch) (v .sender .blocks))
   pub trail : Trail (v .acks) (v .sender .acknowledged) (v .receiver .counts .epoch)
 
@@ -130,18 +130,18 @@ module _ (g : Settings) (v : View) (p : Pending g v) where
       }
 
   -- records are appended: they lead from the primary's counts to its next ones
-  pub pending-appended : (ms : List Message) (epoch blocks : ℕ) → v .sender .alone ≡ false → All (Readable (g .u)) ms
+  pub pending-appended : (ms : List Message) (epoch blocks : ℕ) → v .sender .alone ≡ false → All (Readable (g .u) (isWide (g .m))) ms
       → Walk g (blocksOnly (v .sender .epoch) (v .sender .blocks)) ms (blocksOnly epoch blocks)
-      → Pending g (withSender v (sending (v .sender) (v .sender .out ++ encodeAll ms) epoch blocks))
+      → Pending g (withSender v (sending (v .sender) (v .sender .out ++ encodeAll (isWide (g .m)) ms) epoch blocks))
   pending-appended ms epoch blocks on readable more =
       let f = p .flight in
       record {
         flight = record {
           records = f .records ++ ms;
           lost = f .lost;
-          bytes = bytes-append (v .link) (v .sender .out) (f .lost) (f .records) ms (f .lossless on) (f .bytes);
+          bytes = bytes-append (isWide (g .m)) (v .link) (v .sender .out) (f .lost) (f .records) ms (f .lossless on) (f .bytes);
           lossless = f .lossless;
-          readable = all-append (Readable (g .u)) (f .records) ms (f .readable) readable;
+          readable = all-append (Readable (g .u) (isWide (g .m))) (f .records) ms (f .readable) readable;
         };
         walk = λ z. walk-append g (v .receiver .counts) (f .records) (blocksOnly (v .sender .epoch) (v .sender .blocks)) ms (blocksOnly epoch blocks) (p .walk z) more;
         trail = p .trail;

@@ -3,7 +3,7 @@ use Prim.Native.Nat.{ℕ, _+_, _≤_, _<_, _^_}
 use mathlib.Core.Path.{_≡_, refl, sym, ap, _∙_, subst}
 use mathlib.Core.Logic.{⊎-elim}
 use mathlib.Core.Bool.{true, false}
-use mathlib.Core.List.{List, [], _∷_, _++_, map}
+use mathlib.Core.List.{List, [], _∷_, _++_}
 use native.Mathlib.Omega.{arith}
 use lib.ListN.{length, take, drop}
 use borrow.Author.Tests.{lt-ltb}
@@ -12,7 +12,7 @@ use Rattle.lists.proofs.TestLaws.{by-test, join, accepts, cond-true, cond-false
 use Rattle.records.specs.Read.{cutShort}
 use Rattle.records.specs.declared.Reader.the-variants as reader
 use Rattle.records.specs.Kind.{ACK, unitOk, recordLength, headerLength}
-use Rattle.records.specs.Message.{encode, encodeAll, readAs}
+use Rattle.records.specs.Message.{encode, readAs}
 use Rattle.records.specs.Message as message
 use Rattle.records.proofs.MessageLaws.{length-message, used-message}
 use Rattle.settings.specs.declared.Settings.{Settings}
@@ -24,7 +24,7 @@ use Rattle.rules.specs.Step.{Stepped, step}
 use Rattle.rules.proofs.PrimaryFacts.{primary-facts}
 use Rattle.runs.specs.Run.{Both}
 use Rattle.runs.specs.Progress.{wholeRecord, withoutFirst, ackNumber}
-use Rattle.runs.proofs.Invariant.{Rising, Inv}
+use Rattle.runs.proofs.Invariant.{ackBytes, Rising, Inv}
 use Rattle.runs.proofs.Conclusions.{received-exists, rising-le}
 use Rattle.runs.proofs.RecordSteps.{ackSeen, ackBy, ack-step}
 use Rattle.runs.proofs.ReadStep.{AckFound, short, next, whole-given, size-is, ack-off, ack-found}
@@ -58,7 +58,7 @@ module _ (g : Settings) (b : Both) (i : Inv g b) (p : Pending g (viewOf (b .worl
       ack-found (b .world) (i .holds .primaryKept .reached) n on (p .trail .epochs) (acks-readable (s .settings .u) (s .acknowledged) r (p .trail .epochs) fits (rising (p .trail .epochs) refl)) (p .trail .are)
 
   -- the oldest is above the acknowledged and below the open epoch, and so accepted
-  oldest-accepts : (e : ℕ) (es : List ℕ) → p .trail .epochs ≡ e ∷ es → ackRefusal (b .world .primary .state) (readAs u (message.ack e)) ≡ 0
+  oldest-accepts : (e : ℕ) (es : List ℕ) → p .trail .epochs ≡ e ∷ es → ackRefusal (b .world .primary .state) (readAs u false (message.ack e)) ≡ 0
   oldest-accepts e es same =
       let s = b .world .primary .state in
       let r = rising (e ∷ es) same in
@@ -77,9 +77,9 @@ module _ (g : Settings) (b : Both) (i : Inv g b) (p : Pending g (viewOf (b .worl
   oldest-made e es same long =
       let x = message.ack e in
       let fits = low e es same in
-      let is : b .world .acks ≡ encode x ++ encodeAll (map message.ack es) = p .trail .are ∙ ap (λ (l : List ℕ). encodeAll (map message.ack l)) same in
+      let is : b .world .acks ≡ encode false x ++ ackBytes es = p .trail .are ∙ ap ackBytes same in
       let whole : wholeRecord (take n (b .world .acks)) ≡ true
-      = ap (λ (l : List ℕ). wholeRecord (take n l)) is ∙ whole-given reader.Primary u unit-ok n x (encodeAll (map message.ack es)) (fits, refl) (omega (arith, length-message (g .u) x fits)) in
+      = ap (λ (l : List ℕ). wholeRecord (take n l)) is ∙ whole-given reader.Primary u false unit-ok n x (ackBytes es) (fits, refl) (omega (arith, length-message (g .u) false x fits)) in
       ack-number ∙ cond-true (wholeRecord (take n (b .world .acks))) 0 cutShort whole
 
   -- an accepted one keeps the invariant, raises the acknowledged epoch, and leaves the ACKs without their first
@@ -92,11 +92,11 @@ module _ (g : Settings) (b : Both) (i : Inv g b) (p : Pending g (viewOf (b .worl
       let w = b .world in
       let x = message.ack e in
       let leads : Leads (w .primary .state .acknowledged) (w .standby .state .received + 1) (e ∷ es) = rw same at (p .trail .leads) in
-      let is : w .acks ≡ encode x ++ encodeAll (map message.ack es) = p .trail .are ∙ ap (λ (l : List ℕ). encodeAll (map message.ack l)) same in
-      let size : headerLength + leAt 2 (w .acks) 0 ≡ length (encode x)
-      = ap (λ (l : List ℕ). headerLength + leAt 2 l 0) is ∙ size-is reader.Primary u unit-ok x (encodeAll (map message.ack es)) (low e es same, refl) in
-      rw (seen accepted, used-message u x (low e es same))
-      (pending-acked g (viewOf w) p e (drop (length (encode x)) (w .acks)) (record { epochs = es; are = bytes; leads = leads .1 }), leads .0, ap (λ (m : ℕ). drop m (w .acks)) (sym size))
+      let is : w .acks ≡ encode false x ++ ackBytes es = p .trail .are ∙ ap ackBytes same in
+      let size : headerLength + leAt 2 (w .acks) 0 ≡ length (encode false x)
+      = ap (λ (l : List ℕ). headerLength + leAt 2 l 0) is ∙ size-is reader.Primary u false unit-ok x (ackBytes es) (low e es same, refl) in
+      rw (seen accepted, used-message u false x (low e es same))
+      (pending-acked g (viewOf w) p e (drop (length (encode false x)) (w .acks)) (record { epochs = es; are = bytes; leads = leads .1 }), leads .0, ap (λ (m : ℕ). drop m (w .acks)) (sym size))
 
   pub ack-kept : step (b .world) (call.ack n) .outcome .number ≡ 0
       → Kept (viewOf (step (b .world) (call.ack n) .next))

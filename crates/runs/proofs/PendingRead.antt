@@ -2,22 +2,24 @@
 use Prim.Native.Nat.{ℕ, _+_, _≤_, _<_}
 use mathlib.Core.Path.{_≡_, refl, sym, ap, _∙_, subst}
 use mathlib.Core.Logic.{⊎-elim}
-use mathlib.Core.Bool.{true, false, false≢true}
+use mathlib.Core.Bool.{Bool, true, false, false≢true}
 use mathlib.Core.List.{List, [], _∷_, _++_, append-nil}
 use native.Mathlib.Omega.{arith}
 use lib.ListN.{length, take, drop, length-drop}
 use Rattle.lists.specs.LittleEndian.{leAt}
 use Rattle.lists.proofs.TestLaws.{by-test, cond-true, cond-false}
 use Rattle.records.specs.declared.Reader.the-variants as reader
-use Rattle.records.specs.Kind.{COMMIT, bodyLength, recordLength, headerLength}
+use Rattle.records.specs.Kind.{isWide, commitKind, numberWidth, bodyLength, recordLength, headerLength}
 use Rattle.records.specs.Read.{cutShort, usedOf}
 use Rattle.records.specs.Number.{slotsFull}
 use Rattle.records.specs.Message.{Message, messageKind, encode, encodeAll, readAs}
 use Rattle.records.specs.Message as message
 use Rattle.records.specs.Write.{ackRecord}
+use Rattle.records.proofs.KindLaws.{page-no-commit, commit-is-commit, ack-not-for, width-range, page-length, commit-length}
 use Rattle.records.proofs.MessageLaws.{length-message, used-message}
 use Rattle.records.proofs.WriteLaws.{ack-written}
 use Rattle.settings.specs.declared.Settings.{Settings}
+use Rattle.settings.specs.declared.StandbySettings.{StandbySettings}
 use Rattle.rules.specs.StandbyState.{isReceiving}
 use Rattle.rules.specs.Judge.{recordRefusal}
 use Rattle.rules.specs.World.{World}
@@ -26,10 +28,10 @@ use Rattle.rules.specs.Step.{Stepped, step}
 use Rattle.runs.specs.Progress.{wholeRecord, withoutFirst, readNumber}
 use Rattle.runs.proofs.Effects.{All, Readable}
 use Rattle.runs.proofs.Invariant.{StandbyKept}
-use Rattle.runs.proofs.KeptLaws.{standby-u, standby-settings, standby-unit}
+use Rattle.runs.proofs.KeptLaws.{standby-settings, standby-unit}
 use Rattle.runs.proofs.RecordSteps.{readBy, read-step}
 use Rattle.runs.proofs.Reading.{whole-first}
-use Rattle.runs.proofs.ReadStep.{ReadFound, short, next, size-is, next-inside, read-off, read-found}
+use Rattle.runs.proofs.ReadStep.{Next, ReadFound, short, next, size-is, next-inside, read-off, read-found}
 use Rattle.runs.proofs.ReadCommit.{acks-more}
 use Rattle.runs.proofs.Walk.{Counts, countsOf, blocksOnly, Asked, counted, Walk}
 use Rattle.runs.proofs.AskedLaws.{kindNumber, asked-number, asked-full}
@@ -47,25 +49,28 @@ written (message.ack e) = []
 abbrev used : View → Counts → ℕ → List ℕ → View
 used v c n acks = record { sender = v .sender; receiver = record { receiving = v .receiver .receiving; counts = c }; link = drop n (v .link); acks = v .acks ++ acks }
 
-abbrev taken : View → Message → View
-taken v x = used v (counted (v .receiver .counts) x) (length (encode x)) (written x)
+abbrev taken : Bool → View → Message → View
+taken wide v x = used v (counted (v .receiver .counts) x) (length (encode wide x)) (written x)
 
 module _ (w : World) (bytes reply : List ℕ) where
   abbrev unit : ℕ
   unit = w .standby .state .settings .u
 
-  -- the bytes used are the record's own
-  used-own : (c : Counts) (acks : List ℕ) (x : Message) → message.Fits unit x → used (viewOf w) c (usedOf (readAs unit x)) acks ≡ used (viewOf w) c (length (encode x)) acks
-  used-own c acks x f = ap (λ (n : ℕ). used (viewOf w) c n acks) (used-message unit x f)
+  abbrev wide : Bool
+  wide = isWide (w .standby .state .settings .m)
 
-  taken-view : (x : Message) → Readable unit x → viewOf (readBy w bytes reply (readAs unit x) .next) ≡ taken (viewOf w) x
-  taken-view (message.page e p bs) f = used-own _ [] (message.page e p bs) (f .0)
+  -- the bytes used are the record's own
+  used-own : (c : Counts) (acks : List ℕ) (x : Message) → message.Fits unit wide x → used (viewOf w) c (usedOf (readAs unit wide x)) acks ≡ used (viewOf w) c (length (encode wide x)) acks
+  used-own c acks x f = ap (λ (n : ℕ). used (viewOf w) c n acks) (used-message unit wide x f)
+
+  taken-view : (x : Message) → Readable unit wide x → viewOf (readBy w bytes reply (readAs unit wide x) .next) ≡ taken wide (viewOf w) x
+  taken-view (message.page e p bs) f = rw (page-no-commit wide) (used-own _ [] (message.page e p bs) (f .0))
   taken-view (message.block e n bs) f = used-own _ [] (message.block e n bs) (f .0)
   taken-view (message.state e bs) f = used-own _ [] (message.state e bs) (f .0)
   taken-view (message.commit e p b) f =
       let x = message.commit e p b in
-      ap (used (viewOf w) (blocksOnly (e + 1) 0) (usedOf (readAs unit x))) (ack-written unit e reply) ∙ used-own (blocksOnly (e + 1) 0) (ackRecord e) x (f .0)
-  taken-view (message.ack e) f = absurd (false≢true (f .1))
+      rw (commit-is-commit wide) (ap (used (viewOf w) (blocksOnly (e + 1) 0) (usedOf (readAs unit wide x))) (ack-written unit e reply) ∙ used-own (blocksOnly (e + 1) 0) (ackRecord e) x (f .0))
+  taken-view (message.ack e) f = absurd (false≢true (sym (ack-not-for wide) ∙ f .1))
 
 -- ---- the ACKs with one more, of the epoch asked for
 leads-more : (a e asked : ℕ) (es : List ℕ) → e ≡ asked → Leads a asked es → Leads a (e + 1) (es ++ (e ∷ []))
@@ -89,13 +94,17 @@ trail-taken g acks a c (message.commit e p b) f t =
 trail-taken g acks a c (message.ack e) f t = absurd f
 
 -- no record is shorter than a COMMIT
-pub least-bytes : (u : ℕ) (x : Message) → 64 ≤ u → Readable u x → recordLength u COMMIT ≤ length (encode x)
+pub least-bytes : (u : ℕ) (wide : Bool) (x : Message) → 64 ≤ u → Readable u wide x → recordLength u (commitKind wide) ≤ length (encode wide x)
 unfolding recordLength bodyLength
-least-bytes u (message.page e p bs) h f = omega (arith, length-message u (message.page e p bs) (f .0))
-least-bytes u (message.block e n bs) h f = omega (arith, length-message u (message.block e n bs) (f .0))
-least-bytes u (message.state e bs) h f = omega (arith, length-message u (message.state e bs) (f .0))
-least-bytes u (message.commit e p b) h f = omega (arith, length-message u (message.commit e p b) (f .0))
-least-bytes u (message.ack e) h f = absurd (false≢true (f .1))
+least-bytes u wide x h f = go x f (width-range wide) (commit-length u wide) (length-message u wide x (f .0))
+  where
+    go : (x : Message) → Readable u wide x → (2 ≤ numberWidth wide) × (numberWidth wide ≤ 4) → recordLength u (commitKind wide) ≡ 8 + numberWidth wide + numberWidth wide
+        → length (encode wide x) ≡ recordLength u (messageKind wide x) → recordLength u (commitKind wide) ≤ length (encode wide x)
+    go (message.page e p bs) f r c l = omega (arith, l, page-length u wide)
+    go (message.block e n bs) f r c l = omega arith
+    go (message.state e bs) f r c l = omega arith
+    go (message.commit e p b) f r c l = omega arith
+    go (message.ack e) f r c l = absurd (false≢true (sym (ack-not-for wide) ∙ f .1))
 
 -- ---- a standby that receives
 module _ (g : Settings) (w : World) (k : StandbyKept g (w .standby)) (p : Pending g (viewOf w)) (on : isReceiving (w .standby .state .mode) ≡ true) (n : ℕ) (reply : List ℕ) where
@@ -105,12 +114,19 @@ module _ (g : Settings) (w : World) (k : StandbyKept g (w .standby)) (p : Pendin
   found : ReadFound g w k n reply (p .flight .records) rest
   found = read-found g w k n reply on (p .flight .records) rest (p .flight .readable) (p .flight .bytes)
 
+  -- the state's width, which is start's
+  abbrev wide′ : Bool
+  wide′ = isWide (w .standby .state .settings .m)
+
+  same-wide : wide′ ≡ isWide (g .m)
+  same-wide = ap (λ (x : StandbySettings). isWide (x .m)) (k .settings)
+
   walk : (x : Message) (xs : List Message) → p .flight .records ≡ x ∷ xs → Walk g (countsOf (w .standby .state)) (x ∷ xs) (blocksOnly (w .primary .state .epoch) (w .primary .state .blocks))
   walk x xs first = rw first at (p .walk on)
 
   -- a whole record's number is by its kind
-  whole-number : (x : Message) → wholeRecord (take n (w .link)) ≡ true → leAt 2 (take n (w .link)) 2 ≡ messageKind x
-      → readNumber g w n reply ≡ kindNumber g (w .standby .state .slots .staged) (length reply) (messageKind x)
+  whole-number : (x : Message) → wholeRecord (take n (w .link)) ≡ true → leAt 2 (take n (w .link)) 2 ≡ messageKind wide′ x
+      → readNumber g w n reply ≡ kindNumber g (w .standby .state .slots .staged) (length reply) (messageKind wide′ x)
   whole-number x whole kind = cond-true (wholeRecord (take n (w .link))) _ cutShort whole ∙ ap (kindNumber g (w .standby .state .slots .staged) (length reply)) kind
 
   short-number : wholeRecord (take n (w .link)) ≡ false → readNumber g w n reply ≡ cutShort
@@ -118,8 +134,8 @@ module _ (g : Settings) (w : World) (k : StandbyKept g (w .standby)) (p : Pendin
 
   -- the number of what is judged
   refused-as : (x : Message) (xs : List Message) → p .flight .records ≡ x ∷ xs
-      → recordRefusal (w .standby .state) (length reply) (readAs (w .standby .state .settings .u) x) ≡ kindNumber g (w .standby .state .slots .staged) (length reply) (messageKind x)
-  refused-as x xs first = asked-number g (w .standby .state) (k .settings) (k .reached .pagesBelow) (length reply) x (walk x xs first .0)
+      → recordRefusal (w .standby .state) (length reply) (readAs (w .standby .state .settings .u) wide′ x) ≡ kindNumber g (w .standby .state .slots .staged) (length reply) (messageKind wide′ x)
+  refused-as x xs first = asked-number g (w .standby .state) (k .settings) (k .reached .pagesBelow) (length reply) wide′ x (walk x xs first .0)
 
   number-by : ReadFound g w k n reply (p .flight .records) rest → step w (call.read n reply) .outcome .number ≡ readNumber g w n reply
   number-by (short s z) = z ∙ sym (short-number s)
@@ -132,40 +148,40 @@ module _ (g : Settings) (w : World) (k : StandbyKept g (w .standby)) (p : Pendin
   full-by : ReadFound g w k n reply (p .flight .records) rest → readNumber g w n reply ≡ slotsFull → (g .s ≤ w .standby .state .slots .staged) × (w .standby .state .blocks < g .b)
   full-by (short s z) e = absurd (omega (arith, short-number s))
   full-by (next x xs f z seen) e =
-      asked-full g (w .standby .state) (k .settings) (k .reached .pagesBelow) (length reply) x (walk x xs (f .first) .0) (sym (whole-number x (f .whole) (f .kind)) ∙ e)
+      asked-full g (w .standby .state) (k .settings) (k .reached .pagesBelow) (length reply) wide′ x (walk x xs (f .first) .0) (sym (whole-number x (f .whole) (f .kind)) ∙ e)
 
   pub read-full : readNumber g w n reply ≡ slotsFull → (g .s ≤ w .standby .state .slots .staged) × (w .standby .state .blocks < g .b)
   read-full e = full-by found e
 
   -- an accepted one keeps the invariant, and leaves the link without its first record, which is no shorter than a COMMIT
   abbrev pub Kept : View → Type 0
-  Kept v = Pending g v × (length (v .link) + recordLength (g .u) COMMIT ≤ length (w .link)) × (v .link ≡ withoutFirst (w .link))
+  Kept v = Pending g v × (length (v .link) + recordLength (g .u) (commitKind (isWide (g .m))) ≤ length (w .link)) × (v .link ≡ withoutFirst (w .link))
 
-  pending-taken : (x : Message) (xs : List Message) → p .flight .records ≡ x ∷ xs → length (encode x) ≤ length (w .link) → drop (length (encode x)) (w .link) ++ rest ≡ encodeAll xs → Kept (taken (viewOf w) x)
+  pending-taken : (x : Message) (xs : List Message) → p .flight .records ≡ x ∷ xs → length (encode (isWide (g .m)) x) ≤ length (w .link) → drop (length (encode (isWide (g .m)) x)) (w .link) ++ rest ≡ encodeAll (isWide (g .m)) xs → Kept (taken (isWide (g .m)) (viewOf w) x)
   pending-taken x xs first inside behind =
-      let readable : All (Readable (g .u)) (x ∷ xs) = rw first at (p .flight .readable) in
+      let readable : All (Readable (g .u) (isWide (g .m))) (x ∷ xs) = rw first at (p .flight .readable) in
       let asked = walk x xs first in
-      let begins = whole-first (w .link) rest (encode x) (encodeAll xs) (p .flight .bytes ∙ ap encodeAll first) inside in
-      let size : headerLength + leAt 2 (w .link) 0 ≡ length (encode x)
-      = ap (λ (l : List ℕ). headerLength + leAt 2 l 0) begins ∙ size-is reader.Standby (g .u) (standby-unit g (w .standby) k) x (drop (length (encode x)) (w .link)) (readable .0) in (
+      let begins = whole-first (w .link) rest (encode (isWide (g .m)) x) (encodeAll (isWide (g .m)) xs) (p .flight .bytes ∙ ap (encodeAll (isWide (g .m))) first) inside in
+      let size : headerLength + leAt 2 (w .link) 0 ≡ length (encode (isWide (g .m)) x)
+      = ap (λ (l : List ℕ). headerLength + leAt 2 l 0) begins ∙ size-is (reader.Standby (isWide (g .m))) (g .u) (isWide (g .m)) (standby-unit g (w .standby) k) x (drop (length (encode (isWide (g .m)) x)) (w .link)) (readable .0) in (
         record {
           flight = record { records = xs; lost = p .flight .lost; bytes = behind; lossless = p .flight .lossless; readable = readable .1 };
           walk = λ z. asked .1;
           trail = trail-taken g (w .acks) (w .primary .state .acknowledged) (countsOf (w .standby .state)) x (asked .0) (p .trail);
         },
-        simp length-drop (omega (arith, least-bytes (g .u) x (standby-settings g (w .standby) k .shared .u-low) (readable .0))),
+        simp length-drop (omega (arith, least-bytes (g .u) (isWide (g .m)) x (standby-settings g (w .standby) k .shared .u-low) (readable .0))),
         ap (λ (m : ℕ). drop m (w .link)) (sym size),
       )
 
   accepted-by : step w (call.read n reply) .outcome .number ≡ 0 → ReadFound g w k n reply (p .flight .records) rest → Kept (viewOf (step w (call.read n reply) .next))
   accepted-by e (short s z) = absurd (omega arith)
   accepted-by e (next x xs f z seen) =
-      let u = w .standby .state .settings .u in
-      let readable : All (Readable (g .u)) (x ∷ xs) = rw (f .first) at (p .flight .readable) in
-      let fits : Readable u x = subst (λ (v : ℕ). Readable v x) (sym (standby-u g (w .standby) k)) (readable .0) in
+      let readable : All (Readable (g .u) (isWide (g .m))) (x ∷ xs) = rw (f .first) at (p .flight .readable) in
+      let fits : Readable (w .standby .state .settings .u) wide′ x = subst (λ (y : StandbySettings). Readable (y .u) (isWide (y .m)) x) (sym (k .settings)) (readable .0) in
+      let n′ : Next (isWide (g .m)) (p .flight .records) (w .link) rest (take n (w .link)) x xs = subst (λ (v : Bool). Next v (p .flight .records) (w .link) rest (take n (w .link)) x xs) same-wide f in
       subst Kept
-      (sym (ap (λ (t : Stepped). viewOf (t .next)) (read-step w n reply ∙ ap (readBy w (take n (w .link)) reply) (seen e)) ∙ taken-view w (take n (w .link)) reply x fits))
-      (pending-taken x xs (f .first) (next-inside (p .flight .records) (w .link) rest n x xs f) (f .behind))
+      (sym (ap (λ (t : Stepped). viewOf (t .next)) (read-step w n reply ∙ ap (readBy w (take n (w .link)) reply) (seen e)) ∙ taken-view w (take n (w .link)) reply x fits ∙ ap (λ (v : Bool). taken v (viewOf w) x) same-wide))
+      (pending-taken x xs (f .first) (next-inside (isWide (g .m)) (p .flight .records) (w .link) rest n x xs n′) (n′ .behind))
 
   pub read-kept : step w (call.read n reply) .outcome .number ≡ 0 → Kept (viewOf (step w (call.read n reply) .next))
   read-kept e = accepted-by e found

@@ -12,6 +12,7 @@ use borrow.Author.Tests.{not-true}
 use Rattle.lists.specs.Part.{put}
 use Rattle.lists.specs.Page.{page}
 use Rattle.lists.proofs.TestLaws.{by-test}
+use Rattle.records.specs.Kind.{isWide}
 use Rattle.records.specs.Message.{Message, encode, encodeAll}
 use Rattle.records.specs.Message as message
 use Rattle.settings.specs.declared.Settings.{Settings}
@@ -33,15 +34,15 @@ use Rattle.runs.proofs.Pending.{viewOf, Pending, KeepsPending, withSend
 use Rattle.runs.proofs.PendingCalls.{pending-after}
 
 -- ---- records put behind the bytes waiting: `bytes` are theirs, and `more` as many
-pub pending-put : (g : Settings) (b : Both) → Pending g (viewOf (b .world)) → (ms : List Message) (bytes : List ℕ) (more epoch blocks : ℕ) → encodeAll ms ≡ bytes → length (encodeAll ms) ≡ more
-    → b .world .primary .state .waiting ≤ length (b .world .primary .stream) → b .world .primary .state .alone ≡ false → All (Readable (g .u)) ms
+pub pending-put : (g : Settings) (b : Both) → Pending g (viewOf (b .world)) → (ms : List Message) (bytes : List ℕ) (more epoch blocks : ℕ) → encodeAll (isWide (g .m)) ms ≡ bytes → length (encodeAll (isWide (g .m)) ms) ≡ more
+    → b .world .primary .state .waiting ≤ length (b .world .primary .stream) → b .world .primary .state .alone ≡ false → All (Readable (g .u) (isWide (g .m))) ms
     → Walk g (blocksOnly (b .world .primary .state .epoch) (b .world .primary .state .blocks)) ms (blocksOnly epoch blocks)
     → Pending g (withSender (viewOf (b .world)) (sending (viewOf (b .world) .sender) (take (b .world .primary .state .waiting + more) (put (b .world .primary .stream) (b .world .primary .state .waiting) bytes)) epoch blocks))
 pending-put g b p ms bytes more epoch blocks are long waits on readable walk =
     let q = b .world .primary in
     let v = viewOf (b .world) in
-    let out : take (q .state .waiting + more) (put (q .stream) (q .state .waiting) bytes) ≡ v .sender .out ++ encodeAll ms
-    = ap₂ (λ (n : ℕ) (l : List ℕ). take (q .state .waiting + n) (put (q .stream) (q .state .waiting) l)) (sym long) (sym are) ∙ take-put-end (q .stream) (q .state .waiting) (encodeAll ms) waits in
+    let out : take (q .state .waiting + more) (put (q .stream) (q .state .waiting) bytes) ≡ v .sender .out ++ encodeAll (isWide (g .m)) ms
+    = ap₂ (λ (n : ℕ) (l : List ℕ). take (q .state .waiting + n) (put (q .stream) (q .state .waiting) l)) (sym long) (sym are) ∙ take-put-end (q .stream) (q .state .waiting) (encodeAll (isWide (g .m)) ms) waits in
     subst (λ (l : List ℕ). Pending g (withSender v (sending (v .sender) l epoch blocks))) (sym out) (pending-appended g v p ms epoch blocks on readable walk)
 
 -- ---- disk write: nothing while alone, else one BLOCK
@@ -58,8 +59,8 @@ disk-write-pending g block bytes b i e p =
     (λ (a : b .world .primary .state .alone ≡ true). pending-after g (call.diskWrite block bytes) b _ (disk-write.after-is block bytes (g .u) b true a e) p)
     (λ (a : b .world .primary .state .alone ≡ false).
     pending-after g (call.diskWrite block bytes) b _ (disk-write.after-is block bytes (g .u) b false a e)
-    (pending-put g b p (x ∷ []) _ _ _ _ (append-nil (encode x)) (disk-write.long-record block bytes g b i below whole) (omega (arith, f .room a, f .stream-is)) a
-    (readable-before (g .u) x (disk-write.fits block bytes g b i below whole) refl, tt) ((below, refl, refl, refl, omega (arith, f .allowance a)), refl)))
+    (pending-put g b p (x ∷ []) _ _ _ _ (append-nil (encode (isWide (g .m)) x)) (disk-write.long-record block bytes g b i below whole) (omega (arith, f .room a, f .stream-is)) a
+    (readable-before (g .u) (isWide (g .m)) x (disk-write.fits block bytes g b i below whole) tt, tt) ((below, refl, refl, refl, omega (arith, f .allowance a)), refl)))
     (by-test (b .world .primary .state .alone))
 
 -- ---- the records of a checkpoint: PAGEs that rise, as many as its COMMIT says

@@ -4,10 +4,9 @@ use mathlib.Core.Path.{_≡_, refl, sym, ap, _∙_, subst}
 use mathlib.Core.Bool.{Bool, true, false, cond}
 use mathlib.Core.List.{List, [], _∷_, _++_, append-assoc, append-nil}
 use native.Mathlib.Omega.{arith}
-use lib.Dec.{eqb}
 use borrow.Author.Tests.{eq-eqb}
 use lib.ListN.{length, getD, List·getD-append}
-use Rattle.records.specs.Kind.{COMMIT}
+use Rattle.records.specs.Kind.{isCommit}
 use Rattle.rules.specs.World.{Call}
 use Rattle.rules.specs.World as call
 use Rattle.rules.specs.Step.{Outcome, step}
@@ -98,7 +97,7 @@ kept-accepted u (call.drain n destination) value p = same p _ (omega arith) refl
 kept-accepted u (call.ack n) value p = same p _ (omega arith) refl refl
 kept-accepted u (call.take destination) value p = same p _ (omega arith) refl refl
 kept-accepted u call.primaryTick value p = same p _ (omega arith) refl refl
-kept-accepted u (call.read n reply) value p = same p _ (one-more (eqb value COMMIT) (p .r) (p .r + 1) (omega arith)) refl refl
+kept-accepted u (call.read n reply) value p = same p _ (one-more (isCommit value) (p .r) (p .r + 1) (omega arith)) refl refl
 kept-accepted u (call.flush n) value p = same p _ (omega arith) refl refl
 kept-accepted u call.standbyTick value p = same p _ (omega arith) refl refl
 kept-accepted u call.activation value p = same p _ (omega arith) refl refl

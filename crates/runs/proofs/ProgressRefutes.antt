@@ -7,6 +7,7 @@ use native.Mathlib.Omega.{arith}
 use lib.Dec.{lit≤}
 use lib.ListN.{length}
 use Rattle.lists.specs.Part.{put}
+use Rattle.records.specs.Kind.{isWide}
 use Rattle.records.specs.Number.{noRoom, outOfOrder, badAck, slotsFull, nothingFree}
 use Rattle.records.specs.Read.{cutShort}
 use Rattle.records.specs.Write.{commitRecord}
@@ -90,7 +91,7 @@ abbrev pub countsPageMore : World → Call → Stepped → Stepped
 countsPageMore w c s =
     let p = w .primary in
     let n = s .next .primary in
-    let bytes = commitRecord (p .state .epoch) (dirtyCount (p .state) (p .dirty) + 1) (p .state .blocks) in
+    let bytes = commitRecord (isWide (p .state .settings .m)) (p .state .epoch) (dirtyCount (p .state) (p .dirty) + 1) (p .state .blocks) in
     cond (accepts s) (leaving s (primaryWith (s .next) (n .state) (n .dirty) (put (n .stream) (n .state .waiting - length bytes) bytes))) s
 
 pub refutes-page-more : ProgressOf (wrongly (insteadOf (call.checkpoint (processorOf 0)) countsPageMore)) → ⊥

@@ -7,7 +7,7 @@ use mathlib.Core.List.{List}
 use lib.ListN.{length, take}
 use borrow.Author.Tests.{lt-leb}
 use Rattle.lists.proofs.TestLaws.{eq-or-ne, cond-true, cond-false}
-use Rattle.records.specs.Kind.{COMMIT, bodyLength, recordLength}
+use Rattle.records.specs.Kind.{isCommit, bodyLength, recordLength}
 use Rattle.records.specs.Read.{cutShort}
 use Rattle.records.specs.Number.{noRoom, slotsFull}
 use Rattle.settings.specs.declared.Settings.{Settings}
@@ -15,7 +15,7 @@ use Rattle.rules.specs.StandbyState.{isReceiving}
 use Rattle.rules.specs.World.{World}
 use Rattle.rules.specs.World as call
 use Rattle.runs.specs.Run.{Steps}
-use Rattle.runs.specs.Progress.{numberOf, wholeRecord, isOfKind, readNumber, WaitsForFlush, GoesOn}
+use Rattle.runs.specs.Progress.{numberOf, wholeRecord, kindAt, readNumber, WaitsForFlush, GoesOn}
 use Rattle.runs.proofs.ReadTests.{Number, read-number-is, read-accepts, room-enough}
 
 module _ (κ : Steps) (g : Settings) (w : World) (h : GoesOn κ g w) where
@@ -36,12 +36,12 @@ module _ (κ : Steps) (g : Settings) (w : World) (h : GoesOn κ g w) where
     read-cut-short short = h .reads on n reply ∙ cond-false (wholeRecord (take n (w .link))) _ cutShort short
 
     -- with a reply under 8 bytes it is 5 at the COMMIT
-    pub commit-without-room : wholeRecord (take n (w .link)) ≡ true → isOfKind COMMIT (take n (w .link)) ≡ true → length reply < 8 → numberOf κ w (call.read n reply) ≡ noRoom
+    pub commit-without-room : wholeRecord (take n (w .link)) ≡ true → isCommit (kindAt (take n (w .link))) ≡ true → length reply < 8 → numberOf κ w (call.read n reply) ≡ noRoom
     unfolding recordLength bodyLength
     commit-without-room whole commit few = h .reads on n reply ∙ rw (whole, commit, lt-leb 8 (length reply) few)
 
     -- and at any other record it is as with any other reply
-    pub reply-unused : isOfKind COMMIT (take n (w .link)) ≡ false → (other : List ℕ) → numberOf κ w (call.read n reply) ≡ numberOf κ w (call.read n other)
+    pub reply-unused : isCommit (kindAt (take n (w .link))) ≡ false → (other : List ℕ) → numberOf κ w (call.read n reply) ≡ numberOf κ w (call.read n other)
     reply-unused none other = let same : readNumber g w n reply ≡ readNumber g w n other = rw none in h .reads on n reply ∙ same ∙ sym (h .reads on n other)
 
     -- so never 2, 6, 7, 8, 9, 10 or 14

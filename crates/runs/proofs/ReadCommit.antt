@@ -6,6 +6,7 @@ use mathlib.Core.List.{List, [], _∷_, _++_, map, append-nil, map-append}
 use native.Mathlib.Omega.{arith}
 use lib.ListN.{length, take, drop}
 use lib.Seq.{drop-drop}
+use Rattle.records.specs.Kind.{isWide}
 use Rattle.records.specs.Write.{ackRecord}
 use Rattle.records.specs.Message.{Message, encode, encodeAll}
 use Rattle.records.specs.Message as message
@@ -28,7 +29,7 @@ use Rattle.rules.proofs.ReadLaws.{commit-reached}
 use Rattle.runs.specs.Plain.{Checkpoint, withCounts}
 use Rattle.runs.specs.Run.{Both}
 use Rattle.runs.proofs.Effects.{effects, Epoch, closed, sent, All, Before, Readable}
-use Rattle.runs.proofs.Invariant.{Rising, InvAt, Inv}
+use Rattle.runs.proofs.Invariant.{ackBytes, Rising, InvAt, Inv}
 use Rattle.runs.proofs.KeptLaws.{slots-fit}
 use Rattle.runs.proofs.StagedPages.{installed-none}
 use Rattle.runs.proofs.ModeLaws.{receiving-not-active}
@@ -41,15 +42,15 @@ record Split (xs ys a b : List Message) : Type 0 where
 module _ (ys : List Message) (e n k e′ n′ k′ : ℕ) (b : List Message) where
   split-commit : (xs a : List Message) → All Before xs → All Before a → xs ++ (message.commit e n k ∷ ys) ≡ a ++ (message.commit e′ n′ k′ ∷ b) → Split xs ys a b
   split-commit [] [] o q h = record { front = refl; back = cc }
-  split-commit [] (y ∷ a) o q h = let z : y ≡ message.commit e n k = cc in absurd (false≢true (rw z at (q .0)))
-  split-commit (x ∷ xs) [] o q h = let z : x ≡ message.commit e′ n′ k′ = cc in absurd (false≢true (rw z at (o .0)))
+  split-commit [] (y ∷ a) o q h = let z : y ≡ message.commit e n k = cc in absurd (rw z at (q .0))
+  split-commit (x ∷ xs) [] o q h = let z : x ≡ message.commit e′ n′ k′ = cc in absurd (rw z at (o .0))
   split-commit (x ∷ xs) (y ∷ a) o q h =
       let t : xs ++ (message.commit e n k ∷ ys) ≡ a ++ (message.commit e′ n′ k′ ∷ b) = cc in
       let s = split-commit xs a (o .1) (q .1) t in
       record { front = cc; back = s .back }
 
 no-commit : (xs ys : List Message) (e n k : ℕ) (a : List Message) → All Before a → xs ++ (message.commit e n k ∷ ys) ≡ a → ⊥
-no-commit [] ys e n k a o h = let z : All Before (message.commit e n k ∷ ys) = subst (All Before) (sym h) o in false≢true (z .0)
+no-commit [] ys e n k a o h = let z : All Before (message.commit e n k ∷ ys) = subst (All Before) (sym h) o in z .0
 no-commit (x ∷ xs) ys e n k a o h =
     let z : All Before (x ∷ (xs ++ (message.commit e n k ∷ ys))) = subst (All Before) (sym h) o in
     no-commit xs ys e n k (xs ++ (message.commit e n k ∷ ys)) (z .1) refl
@@ -59,9 +60,9 @@ rising-more : (a r : ℕ) (es : List ℕ) → Rising a r es → Rising a (r + 1)
 rising-more a r [] h = (omega arith, omega arith)
 rising-more a r (e ∷ es) h = (h .0, rising-more e r es (h .1))
 
-pub acks-more : (es : List ℕ) (e : ℕ) → encodeAll (map message.ack (es ++ (e ∷ []))) ≡ encodeAll (map message.ack es) ++ ackRecord e
+pub acks-more : (es : List ℕ) (e : ℕ) → ackBytes (es ++ (e ∷ [])) ≡ ackBytes es ++ ackRecord e
 acks-more es e =
-    ap encodeAll (map-append message.ack es (e ∷ [])) ∙ encodeAll-append (map message.ack es) (message.ack e ∷ []) ∙ ap (λ (l : List ℕ). encodeAll (map message.ack es) ++ l) (append-nil (ackRecord e))
+    ap (encodeAll false) (map-append message.ack es (e ∷ [])) ∙ encodeAll-append false (map message.ack es) (message.ack e ∷ []) ∙ ap (λ (l : List ℕ). ackBytes es ++ l) (append-nil (ackRecord e))
 
 -- ---- the pair after a COMMIT of an epoch
 abbrev pub commitState : Standby → ℕ → Standby
@@ -92,8 +93,8 @@ module _ (g : Settings) (b : Both) (epoch p n : ℕ) (xs : List Message) (on : i
   commit-inv-at : (base : Checkpoint) (ahead : List Epoch) (opened consumed pending : List Message) (lost : List ℕ) (acks : List ℕ)
       → InvAt g (record { base = base; ahead = ahead; opened = opened; consumed = consumed; pending = pending; lost = lost; acks = acks }) b
       → pending ≡ message.commit epoch p n ∷ xs
-      → drop (length (encode (message.commit epoch p n))) (b .world .link) ++ (take (b .world .primary .state .waiting) (b .world .primary .stream) ++ lost) ≡ encodeAll xs
-      → Inv g (commitAfter b epoch (ofStandby g) (length (encode (message.commit epoch p n))) (ackRecord epoch))
+      → drop (length (encode (isWide (g .m)) (message.commit epoch p n))) (b .world .link) ++ (take (b .world .primary .state .waiting) (b .world .primary .stream) ++ lost) ≡ encodeAll (isWide (g .m)) xs
+      → Inv g (commitAfter b epoch (ofStandby g) (length (encode (isWide (g .m)) (message.commit epoch p n))) (ackRecord epoch))
   commit-inv-at base [] opened consumed pending lost acks v first behind =
       absurd (no-commit consumed xs epoch p n opened (v .link .openedBefore) (ap (λ (l : List Message). consumed ++ l) (sym first) ∙ v .link .records))
   commit-inv-at base (c ∷ cs) opened consumed pending lost acks v first behind =
@@ -108,7 +109,7 @@ module _ (g : Settings) (b : Both) (epoch p n : ℕ) (xs : List Message) (on : i
       let now = effects (g .u) base (c .records) in
       let same : effects (g .u) base consumed ≡ now = ap (effects (g .u) base) (split .front) in
       let off : b .plain .activated ≡ false = sym (t .modeIs) ∙ receiving-not-active (s .mode) on in
-      let readable : All (Readable (g .u)) (message.commit epoch p n ∷ xs) = subst (All (Readable (g .u))) first (v .link .readable) in
+      let readable : All (Readable (g .u) (isWide (g .m))) (message.commit epoch p n ∷ xs) = subst (All (Readable (g .u) (isWide (g .m)))) first (v .link .readable) in
       let few = slots-fit g e k .few in
       let is-next : epoch ≡ r + 1 = next ∙ ap (λ (m : ℕ). m + 1) (t .receivedIs) in
       let memory : installed (e .memory) (e .stagedPages) (e .stagedMarks) (g .u) (g .m) ≡ now .memory = t .stagedMemory on ∙ ap (λ (y : Checkpoint). y .memory) same in
@@ -172,8 +173,8 @@ module _ (g : Settings) (b : Both) (epoch p n : ℕ) (xs : List Message) (on : i
       }
 
   pub commit-inv : (i : Inv g b) → i .ghost .pending ≡ message.commit epoch p n ∷ xs
-      → drop (length (encode (message.commit epoch p n))) (b .world .link) ++ (take (b .world .primary .state .waiting) (b .world .primary .stream) ++ i .ghost .lost) ≡ encodeAll xs
-      → Inv g (commitAfter b epoch (ofStandby g) (length (encode (message.commit epoch p n))) (ackRecord epoch))
+      → drop (length (encode (isWide (g .m)) (message.commit epoch p n))) (b .world .link) ++ (take (b .world .primary .state .waiting) (b .world .primary .stream) ++ i .ghost .lost) ≡ encodeAll (isWide (g .m)) xs
+      → Inv g (commitAfter b epoch (ofStandby g) (length (encode (isWide (g .m)) (message.commit epoch p n))) (ackRecord epoch))
   commit-inv i first behind =
       let h = i .ghost in
       commit-inv-at (h .base) (h .ahead) (h .opened) (h .consumed) (h .pending) (h .lost) (h .acks) (i .holds) first behind

@@ -8,6 +8,7 @@ use lib.ListN.{length, take, drop}
 use lib.Seq.{append-snoc}
 use Rattle.lists.specs.Page.{withPage}
 use Rattle.lists.proofs.PageLaws.{page-end, length-with-page}
+use Rattle.records.specs.Kind.{isWide}
 use Rattle.records.specs.Message.{Message, encode, encodeAll}
 use Rattle.records.specs.Message as message
 use Rattle.settings.specs.declared.Settings.{Settings}
@@ -44,20 +45,20 @@ stagedAfter b e used =
 -- the next record sent, and what lies behind it
 pub record Next (g : Settings) (b : Both) (i : Inv g b) (x : Message) (xs : List Message) : Type 0 where
   pub first : i .ghost .pending ≡ x ∷ xs
-  pub behind : drop (length (encode x)) (b .world .link) ++ (take (b .world .primary .state .waiting) (b .world .primary .stream) ++ i .ghost .lost) ≡ encodeAll xs
+  pub behind : drop (length (encode (isWide (g .m)) x)) (b .world .link) ++ (take (b .world .primary .state .waiting) (b .world .primary .stream) ++ i .ghost .lost) ≡ encodeAll (isWide (g .m)) xs
   pub before : Before x
-  pub fits : message.Fits (g .u) x
+  pub fits : message.Fits (g .u) (isWide (g .m)) x
   pub receives : isReceiving (b .world .standby .state .mode) ≡ true
 
 module _ (g : Settings) (b : Both) (i : Inv g b) where
   -- every group but those of the standby
   module _ (x : Message) (xs : List Message) (n : Next g b i x xs) where
     pub staged-inv : (e : StandbyEnd) → Taker (g .u) (g .m) e (b .plain .activated) (b .plain .standbyMemory) (b .plain .standbyDisk) (i .ghost .base) (i .ghost .consumed ++ (x ∷ [])) (b .plain .r)
-        → StandbyKept g e → Inv g (stagedAfter b e (length (encode x)))
+        → StandbyKept g e → Inv g (stagedAfter b e (length (encode (isWide (g .m)) x)))
     staged-inv e t k =
         let v = i .holds in
         let h = i .ghost in
-        let readable : All (Readable (g .u)) (x ∷ xs) = subst (All (Readable (g .u))) (n .first) (v .link .readable) in
+        let readable : All (Readable (g .u) (isWide (g .m))) (x ∷ xs) = subst (All (Readable (g .u) (isWide (g .m)))) (n .first) (v .link .readable) in
         record {
           ghost = record { base = h .base; ahead = h .ahead; opened = h .opened; consumed = h .consumed ++ (x ∷ []); pending = xs; lost = h .lost; acks = h .acks };
           holds = record {
@@ -100,7 +101,7 @@ module _ (g : Settings) (b : Both) (i : Inv g b) where
       stagedEnd e (withPagesNext (e .state) (e .state .pages + 1) (p + 1)) (withPage v (e .stagedPages) p bs) (withMark (e .stagedMarks) p) (e .stagedBlocks)
 
   pub page-inv : (epoch p : ℕ) (bs : List ℕ) (xs : List Message) → Next g b i (message.page epoch p bs) xs → PageTests (b .world .standby .state) epoch p
-      → Inv g (stagedAfter b (pageEnd (g .u) p bs) (length (encode (message.page epoch p bs))))
+      → Inv g (stagedAfter b (pageEnd (g .u) p bs) (length (encode (isWide (g .m)) (message.page epoch p bs))))
   page-inv epoch p bs xs n f =
       let x = message.page epoch p bs in
       let e = b .world .standby in
@@ -148,7 +149,7 @@ module _ (g : Settings) (b : Both) (i : Inv g b) where
       stagedEnd e (withSlotsBlocks (e .state) (withBlock (e .state .slots) n) (e .state .blocks + 1)) (e .stagedPages) (e .stagedMarks) (withBlockBytes v (e .state .slots) (e .stagedBlocks) bs)
 
   pub block-inv : (epoch m : ℕ) (bs : List ℕ) (xs : List Message) → Next g b i (message.block epoch m bs) xs → BlockTests (b .world .standby .state) epoch m
-      → Inv g (stagedAfter b (blockEnd (g .u) m bs) (length (encode (message.block epoch m bs))))
+      → Inv g (stagedAfter b (blockEnd (g .u) m bs) (length (encode (isWide (g .m)) (message.block epoch m bs))))
   unfolding withBlockBytes withBlock storeAll
   block-inv epoch m bs xs n f =
       let x = message.block epoch m bs in
@@ -201,7 +202,7 @@ module _ (g : Settings) (b : Both) (i : Inv g b) where
   stateEnd bs = let e = b .world .standby in stagedEnd e (withPendingSeen (e .state) bs) (e .stagedPages) (e .stagedMarks) (e .stagedBlocks)
 
   pub state-inv : (epoch : ℕ) (bs : List ℕ) (xs : List Message) → Next g b i (message.state epoch bs) xs
-      → Inv g (stagedAfter b (stateEnd bs) (length (encode (message.state epoch bs))))
+      → Inv g (stagedAfter b (stateEnd bs) (length (encode (isWide (g .m)) (message.state epoch bs))))
   state-inv epoch bs xs n =
       let x = message.state epoch bs in
       let e = b .world .standby in

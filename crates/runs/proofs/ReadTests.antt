@@ -5,23 +5,23 @@ use mathlib.Core.Logic.{_⊎_, inl, inr}
 use mathlib.Core.Bool.{Bool, true, false, _||_, not, or-true}
 use mathlib.Core.List.{List, [], _∷_}
 use native.Mathlib.Omega.{arith}
-use lib.Dec.{leb, ltb}
+use lib.Dec.{leb, ltb, eqb}
 use lib.ListN.{length, take}
 use borrow.Author.Tests.{le-leb}
 use Rattle.lists.specs.Refusal.{test, refusal}
-use Rattle.records.specs.Kind.{BLOCK, COMMIT, ACK, recordLength}
+use Rattle.records.specs.Kind.{BLOCK, ACK, isCommit, recordLength}
 use Rattle.records.specs.Read.{cutShort}
 use Rattle.records.specs.Number.{noRoom, slotsFull}
 use Rattle.settings.specs.declared.Settings.{Settings}
 use Rattle.rules.specs.World.{World}
-use Rattle.runs.specs.Progress.{wholeRecord, isOfKind, readNumber}
+use Rattle.runs.specs.Progress.{wholeRecord, kindAt, readNumber}
 
 -- a COMMIT has room for its ACK; a BLOCK has a slot
 abbrev pub roomFor : Settings → List ℕ → List ℕ → Bool
-roomFor g bytes reply = not (isOfKind COMMIT bytes) || leb (recordLength (g .u) ACK) (length reply)
+roomFor g bytes reply = not (isCommit (kindAt bytes)) || leb (recordLength (g .u) ACK) (length reply)
 
 abbrev slotFor : Settings → World → List ℕ → Bool
-slotFor g w bytes = not (isOfKind BLOCK bytes) || ltb (w .standby .state .slots .staged) (g .s)
+slotFor g w bytes = not (eqb (kindAt bytes) BLOCK) || ltb (w .standby .state .slots .staged) (g .s)
 
 abbrev number : Bool → Bool → Bool → ℕ
 number whole room slot = refusal (test cutShort whole ∷ test noRoom room ∷ test slotsFull slot ∷ [])
@@ -56,4 +56,4 @@ module _ (g : Settings) (w : World) (n : ℕ) (reply : List ℕ) where
   read-accepts = accepted (wholeRecord (take n (w .link))) (roomFor g (take n (w .link)) reply) (slotFor g w (take n (w .link)))
 
 pub room-enough : (g : Settings) (bytes reply : List ℕ) → recordLength (g .u) ACK ≤ length reply → roomFor g bytes reply ≡ true
-room-enough g bytes reply room = rw (le-leb (recordLength (g .u) ACK) (length reply) room) (or-true (not (isOfKind COMMIT bytes)))
+room-enough g bytes reply room = rw (le-leb (recordLength (g .u) ACK) (length reply) room) (or-true (not (isCommit (kindAt bytes))))

@@ -2,7 +2,7 @@
 use Prim.Native.Nat.{ℕ, _≤_, _<_}
 use mathlib.Core.Path.{_≡_, refl, sym, ap, _∙_}
 use mathlib.Core.Logic.{⊎-elim}
-use mathlib.Core.Bool.{true}
+use mathlib.Core.Bool.{Bool, true}
 use mathlib.Core.List.{List, [], _∷_, _++_, append-assoc}
 use native.Mathlib.Omega.{arith}
 use lib.ListN.{length, take, drop, length-take, take-append-drop}
@@ -31,32 +31,32 @@ module _ (p q a b : List ℕ) (same : p ++ q ≡ a ++ b) where
   whole-rest h = sym (drop-append-le (length a) p q h) ∙ ap (drop (length a)) same ∙ drop-append-seam a b
 
 -- `bytes` is a first part of the unread bytes; behind these lies `rest`
-pub data Reading (reader : Reader) (u : ℕ) (pending : List Message) (unread rest bytes : List ℕ) : Type 0 where
-  none : (n : ℕ) → readRecord reader u bytes ≡ Short n → Reading reader u pending unread rest bytes
-  one : (x : Message) (xs : List Message) → pending ≡ x ∷ xs → readRecord reader u bytes ≡ readAs u x → bytes ≡ encode x ++ drop (length (encode x)) bytes
-      → drop (length (encode x)) unread ++ rest ≡ encodeAll xs → Reading reader u pending unread rest bytes
+pub data Reading (reader : Reader) (u : ℕ) (wide : Bool) (pending : List Message) (unread rest bytes : List ℕ) : Type 0 where
+  none : (n : ℕ) → readRecord reader u bytes ≡ Short n → Reading reader u wide pending unread rest bytes
+  one : (x : Message) (xs : List Message) → pending ≡ x ∷ xs → readRecord reader u bytes ≡ readAs u wide x → bytes ≡ encode wide x ++ drop (length (encode wide x)) bytes
+      → drop (length (encode wide x)) unread ++ rest ≡ encodeAll wide xs → Reading reader u wide pending unread rest bytes
 
-module _ (reader : Reader) (u : ℕ) (ok : unitOk u ≡ true) (rest : List ℕ) (k : ℕ) where
+module _ (reader : Reader) (u : ℕ) (wide : Bool) (ok : unitOk u ≡ true) (rest : List ℕ) (k : ℕ) where
   reading-none : (unread : List ℕ) → unread ++ rest ≡ [] → readRecord reader u (take k unread) ≡ Short headerLength
   reading-none [] h = rw take-nil (read-none reader u ok)
   reading-none (d ∷ ds) h = let z : _≡_ {A = ℕ} 0 1 = cc in absurd (omega arith)
 
-  pub read-next : (pending : List Message) (unread : List ℕ) → All (ReadableBy reader u) pending → unread ++ rest ≡ encodeAll pending
-      → Reading reader u pending unread rest (take k unread)
+  pub read-next : (pending : List Message) (unread : List ℕ) → All (ReadableBy reader u wide) pending → unread ++ rest ≡ encodeAll wide pending
+      → Reading reader u wide pending unread rest (take k unread)
   read-next [] unread f h = none headerLength (reading-none unread h)
   read-next (x ∷ xs) unread f h =
       let bytes = take k unread in
-      let same : bytes ++ (drop k unread ++ rest) ≡ encode x ++ encodeAll xs
+      let same : bytes ++ (drop k unread ++ rest) ≡ encode wide x ++ encodeAll wide xs
       = sym (append-assoc (take k unread) (drop k unread) rest) ∙ ap (λ (l : List ℕ). l ++ rest) (take-append-drop k unread) ∙ h in
       ⊎-elim
-      (λ (l : length bytes < length (encode x)).
-      none (missingFrom (length (encode x)) (length bytes))
-      (ap (readRecord reader u) (part-first bytes (drop k unread ++ rest) (encode x) (encodeAll xs) same)
-      ∙ short-message reader u ok x (f .0 .0) (f .0 .1) (length bytes) (encodeAll xs) l))
-      (λ (l : length (encode x) ≤ length bytes).
-      let w = whole-first bytes (drop k unread ++ rest) (encode x) (encodeAll xs) same l in
+      (λ (l : length bytes < length (encode wide x)).
+      none (missingFrom (length (encode wide x)) (length bytes))
+      (ap (readRecord reader u) (part-first bytes (drop k unread ++ rest) (encode wide x) (encodeAll wide xs) same)
+      ∙ short-message reader u ok wide x (f .0 .0) (f .0 .1) (length bytes) (encodeAll wide xs) l))
+      (λ (l : length (encode wide x) ≤ length bytes).
+      let w = whole-first bytes (drop k unread ++ rest) (encode wide x) (encodeAll wide xs) same l in
       one x xs refl
-      (ap (readRecord reader u) w ∙ read-message reader u ok x (f .0 .0) (f .0 .1) (drop (length (encode x)) bytes))
+      (ap (readRecord reader u) w ∙ read-message reader u ok wide x (f .0 .0) (f .0 .1) (drop (length (encode wide x)) bytes))
       w
-      (whole-rest unread rest (encode x) (encodeAll xs) h (omega (arith, length-take k unread))))
-      (lt-or-ge (length bytes) (length (encode x)))
+      (whole-rest unread rest (encode wide x) (encodeAll wide xs) h (omega (arith, length-take k unread))))
+      (lt-or-ge (length bytes) (length (encode wide x)))

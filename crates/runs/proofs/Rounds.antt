@@ -3,16 +3,16 @@
 use Prim.Native.Nat.{ℕ, zero, suc, _+_, _-_, _*_, _≤_, _<_}
 use mathlib.Core.Path.{_≡_, refl, sym, ap, ap₂, _∙_}
 use mathlib.Core.Logic.{⊎-elim}
-use mathlib.Core.Bool.{true, false, not}
+use mathlib.Core.Bool.{Bool, true, false, not}
 use mathlib.Core.List.{List, [], _∷_, _++_, append-nil}
 use native.Mathlib.Omega.{arith}
 use lib.ListN.{length, take, replicate, length-append}
 use Rattle.lists.proofs.TestLaws.{eq-or-ne}
 use Rattle.records.specs.declared.Reader.the-variants as reader
-use Rattle.records.specs.Kind.{PAGE, COMMIT, ACK, bodyLength, recordLength}
+use Rattle.records.specs.Kind.{ACK, isWide, pageKind, commitKind, bodyLength, recordLength}
 use Rattle.records.specs.Message.{Message, messageKind, encode, encodeAll}
 use Rattle.records.proofs.MessageLaws.{length-message}
-use Rattle.records.proofs.ReadLaws.{for-test, kind-cases}
+use Rattle.records.proofs.KindLaws.{standby-cases, width-range, page-length, commit-length}
 use Rattle.settings.specs.declared.Settings.{Settings}
 use Rattle.rules.specs.StandbyState.{isReceiving}
 use Rattle.rules.specs.PrimaryState.{protected}
@@ -37,17 +37,17 @@ use Rattle.runs.proofs.ProgressProved.{call-agree}
 use Rattle.runs.proofs.ExchangeLaws.{Still, stillOf, read-still, read-primary, read-less, ack-still, ack-link, flush-still, flush-primary}
 
 -- no record is longer than a PAGE
-record-few : (u : ℕ) (x : Message) → 64 ≤ u → Readable u x → length (encode x) ≤ recordLength u PAGE
+record-few : (u : ℕ) (wide : Bool) (x : Message) → 64 ≤ u → Readable u wide x → length (encode wide x) ≤ recordLength u (pageKind wide)
 unfolding recordLength bodyLength
-record-few u x h f =
-    let k = messageKind x in
-    let l = kind-cases (λ (k : ℕ). recordLength u k ≤ recordLength u PAGE) (omega arith) (omega arith) (omega arith) (omega arith) (omega arith) k (for-test reader.Standby k (f .1)) in
-    omega (arith, length-message u x (f .0))
+record-few u wide x h f =
+    let r = width-range wide in
+    let p = page-length u wide in
+    let l = standby-cases wide (λ (k : ℕ). recordLength u k ≤ recordLength u (pageKind wide)) (omega arith) (omega arith) (omega arith) (omega (arith, commit-length u wide)) (messageKind wide x) (f .1) in
+    omega (arith, length-message u wide x (f .0))
 
-none-pending : (u : ℕ) (ms : List Message) → 64 ≤ u → All (Readable u) ms → length (encodeAll ms) ≤ 0 → ms ≡ []
-unfolding recordLength bodyLength
-none-pending u [] low f h = refl
-none-pending u (x ∷ xs) low f h = absurd (omega (arith, length-append (encode x) (encodeAll xs), least-bytes u x low (f .0)))
+none-pending : (u : ℕ) (wide : Bool) (ms : List Message) → 64 ≤ u → All (Readable u wide) ms → length (encodeAll wide ms) ≤ 0 → ms ≡ []
+none-pending u wide [] low f h = refl
+none-pending u wide (x ∷ xs) low f h = absurd (omega (arith, length-append (encode wide x) (encodeAll wide xs), least-bytes u wide x low (f .0), commit-length u wide))
 
 -- ---- from the drain on: nothing waits, both ends take part, the open epoch stays
 module _ (g : Settings) (s : Still) (nothing : s .out ≡ []) (protects : s .alone ≡ false) (receives : s .receiving ≡ true) where
@@ -59,7 +59,7 @@ module _ (g : Settings) (s : Still) (nothing : s .out ≡ []) (protects : s .alo
   on b d = ap (λ (x : Still). x .receiving) (d .still) ∙ receives
 
   -- the link is what is pending
-  link-is : (b : Both) (d : Drained b) → b .world .link ≡ encodeAll (d .agree .pending .flight .records)
+  link-is : (b : Both) (d : Drained b) → b .world .link ≡ encodeAll (isWide (g .m)) (d .agree .pending .flight .records)
   link-is b d =
       let p = d .agree .pending in
       let out = ap (λ (x : Still). x .out) (d .still) ∙ nothing in
@@ -70,12 +70,12 @@ module _ (g : Settings) (s : Still) (nothing : s .out ≡ []) (protects : s .alo
   pub received-is : (b : Both) → Drained b → length (b .world .link) ≤ 0 → b .world .standby .state .received + 1 ≡ s .epoch
   received-is b d l =
       let p = d .agree .pending in
-      let none = none-pending (g .u) (p .flight .records) (standby-settings g (b .world .standby) (d .agree .inv .holds .standbyKept) .shared .u-low) (p .flight .readable) (omega (arith, ap length (link-is b d))) in
+      let none = none-pending (g .u) (isWide (g .m)) (p .flight .records) (standby-settings g (b .world .standby) (d .agree .inv .holds .standbyKept) .shared .u-low) (p .flight .readable) (omega (arith, ap length (link-is b d))) in
       let walk : countsOf (b .world .standby .state) ≡ blocksOnly (b .world .primary .state .epoch) (b .world .primary .state .blocks) = rw none at (p .walk (on b d)) in
       ap (λ (c : Counts). c .epoch) walk ∙ ap (λ (x : Still). x .epoch) (d .still)
 
   -- ---- rounds
-  module _ (budget given : ℕ) (reply : List ℕ) (some : 0 < budget) (long : recordLength (g .u) PAGE ≤ given) (room : recordLength (g .u) ACK ≤ length reply) where
+  module _ (budget given : ℕ) (reply : List ℕ) (some : 0 < budget) (long : recordLength (g .u) (pageKind (isWide (g .m))) ≤ given) (room : recordLength (g .u) ACK ≤ length reply) where
     abbrev flushed : Both → Both
     flushed b = runCall steps (g .u) b (call.flush budget)
 
@@ -83,18 +83,18 @@ module _ (g : Settings) (s : Still) (nothing : s .out ≡ []) (protects : s .alo
     roundOf b = runCall steps (g .u) (flushed b) (call.read given reply)
 
     -- a round leaves a record less on the link, or none was there
-    shorter : (b : Both) (d : Drained b) (ms : List Message) → d .agree .pending .flight .records ≡ ms → length (roundOf b .world .link) ≤ length (b .world .link) - recordLength (g .u) COMMIT
+    shorter : (b : Both) (d : Drained b) (ms : List Message) → d .agree .pending .flight .records ≡ ms → length (roundOf b .world .link) ≤ length (b .world .link) - recordLength (g .u) (commitKind (isWide (g .m)))
     shorter b d [] e =
         let link = ap (λ (v : View). v .link) (same-view g b (d .agree) budget) in
-        omega (arith, read-less (flushed b .world) given reply, ap length link, ap length (link-is b d ∙ ap encodeAll e))
+        omega (arith, read-less (flushed b .world) given reply, ap length link, ap length (link-is b d ∙ ap (encodeAll (isWide (g .m))) e))
     shorter b d (x ∷ xs) e =
         let a = d .agree in
         let k = a .inv .holds .standbyKept in
-        let is : b .world .link ≡ encode x ++ encodeAll xs = link-is b d ∙ ap encodeAll e in
-        let readable : All (Readable (g .u)) (x ∷ xs) = rw e at (a .pending .flight .readable) in
-        let few = record-few (g .u) x (standby-settings g (b .world .standby) k .shared .u-low) (readable .0) in
+        let is : b .world .link ≡ encode (isWide (g .m)) x ++ encodeAll (isWide (g .m)) xs = link-is b d ∙ ap (encodeAll (isWide (g .m))) e in
+        let readable : All (Readable (g .u) (isWide (g .m))) (x ∷ xs) = rw e at (a .pending .flight .readable) in
+        let few = record-few (g .u) (isWide (g .m)) x (standby-settings g (b .world .standby) k .shared .u-low) (readable .0) in
         let whole : wholeRecord (take given (b .world .link)) ≡ true
-        = ap (λ (l : List ℕ). wholeRecord (take given l)) is ∙ whole-given reader.Standby (g .u) (standby-unit g (b .world .standby) k) given x (encodeAll xs) (readable .0) (omega arith) in
+        = ap (λ (l : List ℕ). wholeRecord (take given l)) is ∙ whole-given (reader.Standby (isWide (g .m))) (g .u) (isWide (g .m)) (standby-unit g (b .world .standby) k) given x (encodeAll (isWide (g .m)) xs) (readable .0) (omega arith) in
         let made = read-flushed g b a (on b d) given reply budget some whole (room-enough g (take given (b .world .link)) reply room) in
         let f = flush-agree g b a budget in
         let on′ = ap (λ (x : Still). x .receiving) (flush-still g b a budget) ∙ on b d in
@@ -116,7 +116,7 @@ module _ (g : Settings) (s : Still) (nothing : s .out ≡ []) (protects : s .alo
       pub primary : next .world .primary ≡ b .world .primary
       pub none : length (next .world .link) ≤ 0
 
-    pub rounds-law : (k : ℕ) (b : Both) → Drained b → length (b .world .link) ≤ recordLength (g .u) COMMIT * k → Rounds b (run steps (g .u) b (rounds k budget given reply))
+    pub rounds-law : (k : ℕ) (b : Both) → Drained b → length (b .world .link) ≤ recordLength (g .u) (commitKind (isWide (g .m))) * k → Rounds b (run steps (g .u) b (rounds k budget given reply))
     unfolding recordLength bodyLength
     rounds-law zero b d l = record { drained = d; primary = refl; none = omega arith }
     rounds-law (suc k) b d l =

@@ -8,6 +8,7 @@ use native.Mathlib.Omega.{arith}
 use lib.Dec.{ltb}
 use lib.ListN.{length, getD}
 use Rattle.lists.specs.Part.{put}
+use Rattle.records.specs.Kind.{isWide}
 use Rattle.records.specs.Write.{commitRecord}
 use Rattle.records.specs.Number.{streamFull, queueFull, slotsFull, nothingFree}
 use Rattle.rules.specs.PrimaryState.{withWaiting}
@@ -89,7 +90,7 @@ abbrev pub sendsCommit : World → Call → Stepped → Stepped
 sendsCommit w c s =
     let p = w .primary in
     let n = s .next .primary in
-    let bytes = commitRecord (p .state .epoch) (dirtyCount (p .state) (p .dirty)) (p .state .blocks) in
+    let bytes = commitRecord (isWide (p .state .settings .m)) (p .state .epoch) (dirtyCount (p .state) (p .dirty)) (p .state .blocks) in
     cond (ltb 1 (p .state .epoch))
     (leaving s (primaryWith (s .next) (withWaiting (n .state) (p .state .waiting + length bytes)) (n .dirty) (put (p .stream) (p .state .waiting) bytes)))
     s

@@ -14,7 +14,8 @@ use Rattle.records.specs.declared.Record.the-variants.{Short, Refused}
 use Rattle.records.specs.declared.Reader.{Reader}
 use Rattle.records.specs.Kind.{unitOk, bodyLength, recordLength, headerLength, isFor}
 use Rattle.records.specs.Read.{fieldsOf, readRecord, numberOf, kindOf, cutShort}
-use Rattle.records.proofs.ReadLaws.{for-test, fields-cases}
+use Rattle.records.proofs.KindLaws.{for-test}
+use Rattle.records.proofs.ReadLaws.{fields-cases}
 use Rattle.runs.specs.Progress.{wholeRecord}
 
 -- what an answer says of the bytes: `whole` is whether they begin with a whole record, `kind` its kind, `size` its body's
@@ -37,7 +38,7 @@ module _ (reader : Reader) (u : ℕ) (s : List ℕ) where
   fields-tell : isFor reader (leAt 2 s 2) ≡ true → (numberOf (fieldsOf u (leAt 2 s 2) s) ≡ 0) × (leAt 2 s 2 ≡ kindOf (fieldsOf u (leAt 2 s 2) s))
   fields-tell k =
       let kind = leAt 2 s 2 in
-      fields-cases (λ (r : Record). (numberOf r ≡ 0) × (leAt 2 s 2 ≡ kindOf r)) u kind s (for-test reader kind k) (λ e. (refl, e)) (λ e. (refl, e)) (λ e. (refl, e)) (λ e. (refl, e)) (λ e. (refl, e))
+      fields-cases (λ (r : Record). (numberOf r ≡ 0) × (leAt 2 s 2 ≡ kindOf r)) u kind s (for-test reader kind k) (λ wide e. (refl, e)) (λ e. (refl, e)) (λ e. (refl, e)) (λ wide e. (refl, e)) (λ e. (refl, e))
 
   body-is : eqb (leAt 2 s 0) (bodyLength u (leAt 2 s 2)) ≡ true
       → (leb (headerLength + leAt 2 s 0) (length s) ≡ leb (recordLength u (leAt 2 s 2)) (length s)) × (leAt 2 s 0 ≡ bodyLength u (leAt 2 s 2))

@@ -6,7 +6,7 @@ use lib.Dec.{leb, eqb}
 use lib.ListN.{length, getD}
 use Rattle.lists.specs.Refusal.{pick}
 use Rattle.lists.specs.Page.{withPage}
-use Rattle.records.specs.Kind.{COMMIT}
+use Rattle.records.specs.Kind.{isCommit}
 use Rattle.pages.specs.Write.{written}
 use Rattle.rules.specs.World.{Call}
 use Rattle.rules.specs.World as call
@@ -104,7 +104,7 @@ plainAccepted u (call.drain n destination) value p = p
 plainAccepted u (call.ack n) value p = withCounts p (p .r) value 0
 plainAccepted u (call.take destination) value p = withPackets p (p .accepted) (p .taken + 1)
 plainAccepted u call.primaryTick value p = withCounts p (p .r) (p .a) (cond (unacknowledged p) (p .count + 1) (p .count))
-plainAccepted u (call.read n reply) value p = withCounts p (cond (eqb value COMMIT) (p .r + 1) (p .r)) (p .a) (p .count)
+plainAccepted u (call.read n reply) value p = withCounts p (cond (isCommit value) (p .r + 1) (p .r)) (p .a) (p .count)
 plainAccepted u (call.flush n) value p = p
 plainAccepted u call.standbyTick value p = p
 plainAccepted u call.activation value p = withActivatedStandbyImages p true (receivedCheckpoint p .memory) (receivedCheckpoint p .disk)

@@ -10,7 +10,7 @@ use lib.Dec.{leb, ltb, eqb}
 use lib.ListN.{length, take, drop, replicate}
 use Rattle.lists.specs.LittleEndian.{leAt}
 use Rattle.lists.specs.Refusal.{Test, test, refusal}
-use Rattle.records.specs.Kind.{PAGE, BLOCK, COMMIT, ACK, headerLength, recordLength}
+use Rattle.records.specs.Kind.{BLOCK, ACK, isWide, pageKind, commitKind, isCommit, headerLength, recordLength}
 use Rattle.records.specs.Read.{cutShort}
 use Rattle.records.specs.Number.{noRoom, slotsFull}
 use Rattle.settings.specs.declared.Settings.{Settings}
@@ -37,8 +37,8 @@ wholeRecord bytes = leb headerLength (length bytes) && leb (headerLength + leAt 
 abbrev pub withoutFirst : List ℕ → List ℕ
 withoutFirst bytes = drop (headerLength + leAt 2 bytes 0) bytes
 
-abbrev pub isOfKind : ℕ → List ℕ → Bool
-isOfKind kind bytes = eqb (leAt 2 bytes 2) kind
+abbrev pub kindAt : List ℕ → ℕ
+kindAt bytes = leAt 2 bytes 2
 
 -- ---- the number of a call that reads one
 
@@ -49,8 +49,8 @@ abbrev pub readTests : Settings → World → ℕ → List ℕ → List Test
 readTests g w n reply =
     let bytes = take n (w .link) in
     test cutShort (wholeRecord bytes)
-    ∷ test noRoom (not (isOfKind COMMIT bytes) || leb (recordLength (g .u) ACK) (length reply))
-    ∷ test slotsFull (not (isOfKind BLOCK bytes) || ltb (w .standby .state .slots .staged) (g .s))
+    ∷ test noRoom (not (isCommit (kindAt bytes)) || leb (recordLength (g .u) ACK) (length reply))
+    ∷ test slotsFull (not (eqb (kindAt bytes) BLOCK) || ltb (w .standby .state .slots .staged) (g .s))
     ∷ []
 
 abbrev pub readNumber : Settings → World → ℕ → List ℕ → ℕ
@@ -120,9 +120,9 @@ pub record Enough (g : Settings) (w : World) (x : Exchange) : Type 0 where
   pub drain : w .primary .state .waiting ≤ min (x .drained) (length (x .destination))
   -- more than enough rounds: one for each record to read if all were COMMITs, the shortest. Each flush has a budget of
   -- one or more, each read is given a whole record and has room for the ACK
-  pub turns : length (w .link) + w .primary .state .waiting ≤ recordLength (g .u) COMMIT * x .turns
+  pub turns : length (w .link) + w .primary .state .waiting ≤ recordLength (g .u) (commitKind (isWide (g .m))) * x .turns
   pub flush : 0 < x .budget
-  pub read : recordLength (g .u) PAGE ≤ x .given
+  pub read : recordLength (g .u) (pageKind (isWide (g .m))) ≤ x .given
   pub room : recordLength (g .u) ACK ≤ length (x .reply)
   -- there are as many ACK calls as closed epochs are not acknowledged; each is given a whole ACK
   pub ackTurns : w .primary .state .epoch ≤ w .primary .state .acknowledged + 1 + x .ackTurns

@@ -16,7 +16,7 @@ use Rattle.records.specs.declared.Record.{Record}
 use Rattle.records.specs.declared.Record.the-variants.{Page, Block, State, Commit, Ack, Short, Refused}
 use Rattle.records.specs.Kind.{ACK, bodyLength, recordLength}
 use Rattle.records.specs.Write.{ackRecord}
-use Rattle.records.specs.declared.Reader.the-variants as reader
+use Rattle.records.proofs.KindLaws.{page-no-commit, commit-is-commit}
 use Rattle.records.proofs.ReadLaws.{read-within}
 use Rattle.records.proofs.FrameLaws.{length-epoch}
 use Rattle.records.proofs.WriteLaws.{ack-written}
@@ -28,7 +28,7 @@ use Rattle.rules.specs.declared.StandbyAnswer.{StandbyAnswer}
 use Rattle.rules.specs.declared.ReadLent.{ReadLent}
 use Rattle.rules.specs.Reply.{answerOf, numberOf, valueOf, usedOf}
 use Rattle.rules.specs.Stream.{drainRefusal, drainCount, drainReply, drainStream, drainDestination, ackReply}
-use Rattle.rules.specs.Judge.{judged}
+use Rattle.rules.specs.Judge.{readerOf, judged}
 use Rattle.rules.specs.Read.{readState, replyAfter, readReply, readMemory, readStagedPages, readStagedMarks, readStagedBlocks, readReplyBytes}
 use Rattle.rules.specs.World as call
 use Rattle.rules.specs.Step.{step, outcome, ackWritten}
@@ -152,7 +152,7 @@ module _ (s : Standby) (l : ReadLent) (bytes : List ℕ) where
   unfolding readReply
   used-inside =
       judged-cases s l bytes (λ r. usedOf (answerOf r) ≤ length bytes) (λ n h. omega arith)
-      (λ ready z. rw (answers _ .used-is) (read-within reader.Standby (s .settings .u) bytes))
+      (λ ready z. rw (answers _ .used-is) (read-within (readerOf s) (s .settings .u) bytes))
 
   abbrev readBy : Record → StandbyAnswer
   readBy r = record { state = readState s bytes r; answer = answerOf r }
@@ -164,10 +164,10 @@ module _ (s : Standby) (l : ReadLent) (bytes : List ℕ) where
   reply-is reply long = go (judged s l bytes) (judged-facts s l bytes)
     where
       go : (r : Record) → JudgedFacts s l bytes r → replyAfter reply r ≡ cond (isCommit (answerOf r)) (ackRecord (readState s bytes r .received)) reply
-      go (Page e p c) f = refl
+      go (Page w e p c) f = rw (page-no-commit w)
       go (Block e n c) f = refl
       go (State e c) f = refl
-      go (Commit e p b c) f = put-whole reply (ackRecord e) (length-epoch ACK e ∙ sym long)
+      go (Commit w e p b c) f = rw (commit-is-commit w) (put-whole reply (ackRecord e) (length-epoch ACK e ∙ sym long))
       go (Ack e c) f = absurd f
       go (Short n) f = refl
       go (Refused n) f = rw (and-false (eqb n 0))
@@ -183,10 +183,10 @@ module _ (s : Standby) (l : ReadLent) (bytes : List ℕ) where
   acks-after unread reply = go (judged s l bytes) (judged-facts s l bytes)
     where
       go : (r : Record) → JudgedFacts s l bytes r → AcksAfter unread reply r
-      go (Page e p c) f = sym (append-nil _)
+      go (Page w e p c) f = rw (page-no-commit w) (sym (append-nil _))
       go (Block e n c) f = sym (append-nil _)
       go (State e c) f = sym (append-nil _)
-      go (Commit e p b c) f = rw (ack-written (s .settings .u) e reply, f .tests .epoch-next) (acks-next unread (s .received))
+      go (Commit w e p b c) f = rw (commit-is-commit w, ack-written (s .settings .u) e reply, f .tests .epoch-next) (acks-next unread (s .received))
       go (Ack e c) f = absurd f
       go (Short n) f = sym (append-nil _)
       go (Refused n) f = rw (and-false (eqb n 0)) (sym (append-nil _))

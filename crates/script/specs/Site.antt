@@ -4,7 +4,7 @@ use mathlib.Core.Bool.{Bool, _&&_}
 use mathlib.Core.List.{List, [], _++_}
 use lib.Dec.{eqb}
 use lib.ListN.{take, replicate}
-use Rattle.records.specs.Kind.{COMMIT}
+use Rattle.records.specs.Kind.{isCommit as isCommitKind}
 use Rattle.records.specs.Write.{ackRecord}
 use Rattle.rules.specs.declared.Answer.{Answer}
 use Rattle.rules.specs.declared.ReadLent.{ReadLent}
@@ -56,7 +56,7 @@ linkBytes = pairSettings .l
 
 -- a COMMIT was accepted
 abbrev pub isCommit : Answer → Bool
-isCommit a = eqb (numberOf a) 0 && eqb (valueOf a) COMMIT
+isCommit a = eqb (numberOf a) 0 && isCommitKind (valueOf a)
 
 -- the lengths of what the read is lent: the box's buffers, and a reply buffer of an ACK's bytes
 abbrev pub boxLent : StandbyBox → ReadLent

@@ -13,6 +13,7 @@ ghost use Rattle.rules.specs.Step.{outcome, step};
 ghost use Rattle.rules.specs.World as call;
 ghost use Rattle.script.specs.declared.Command.the-variants.{Move, Acknowledge};
 ghost use Rattle.script.specs.Pair.{ackBytes, done, drained, perform, refused};
+ghost use Rattle.records.specs.Kind.{isCommit as isCommitKind};
 ghost use Rattle.script.specs.Site.{doneOf, isCommit, linkBytes, standbyRead, worldOf};
 use crate::LINK_BYTES;
 use crate::Performed;
@@ -25,8 +26,10 @@ use records::HEADER_LENGTH;
 use records::number::NOTHING_FREE;
 use rules::Answer;
 
-// The value of an accepted COMMIT: its kind.
+// The value of an accepted COMMIT: its kind, of either width.
 const COMMIT_VALUE: u64 = records::COMMIT as u64;
+
+const WIDE_COMMIT_VALUE: u64 = records::WIDE_COMMIT as u64;
 
 // The number, the value and the bytes used of an answer.
 fn number_of(a: Answer) -> u64
@@ -128,6 +131,13 @@ fn in_link(linked: usize) -> usize
     linked
 }
 
+// Whether the value of an accepted read is that of a COMMIT.
+fn is_commit(value: u64) -> bool
+    ensures { λ r. ⌜ r ≡ isCommitKind value ⌝ }
+{
+    (value == COMMIT_VALUE) | (value == WIDE_COMMIT_VALUE)
+}
+
 // The epoch of the first unread ACK after a read, by the last received epoch: a COMMIT's ACK is the last.
 fn first_unread(unread: u64, a: Answer, received: u32) -> u64
     ensures { λ r. ⌜ r ≡ cond (isCommit a) (min unread received) unread ⌝ }
@@ -138,7 +148,7 @@ fn first_unread(unread: u64, a: Answer, received: u32) -> u64
     if number != 0 {
         return unread;
     }
-    if value != COMMIT_VALUE {
+    if !is_commit(value) {
         return unread;
     }
     if last < unread {

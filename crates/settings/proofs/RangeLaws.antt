@@ -8,8 +8,8 @@ use lib.Dec.{eqb}
 use borrow.Author.Tests.{leb-true, le-leb, eqb-true, eq-eqb}
 use Rattle.lists.specs.Refusal.{within}
 use Rattle.lists.proofs.TestLaws.{both, join, within-facts, within-of}
-use Rattle.records.specs.Kind.{unitOk, PAGE, BLOCK, STATE, COMMIT, bodyLength, recordLength}
-use Rattle.records.proofs.ReadLaws.{unit-le}
+use Rattle.records.specs.Kind.{unitOk, BLOCK, STATE, isWide, pageKind, commitKind, numberWidth, bodyLength, recordLength}
+use Rattle.records.proofs.KindLaws.{unit-le, width-range, page-length, commit-length}
 use Rattle.settings.specs.declared.Settings.{Settings}
 use Rattle.settings.specs.declared.PrimarySettings.{PrimarySettings}
 use Rattle.settings.specs.declared.StandbySettings.{StandbySettings}
@@ -26,7 +26,7 @@ pub record SharedFacts (u m d b : ℕ) : Type 0 where
   pub u-high : u ≤ 4096
   pub u-whole : u % 64 ≡ 0
   pub m-low : 1 ≤ m
-  pub m-high : m ≤ 4096
+  pub m-high : m ≤ 65536
   pub d-high : d ≤ 4096
   pub b-high : b ≤ 64
 
@@ -39,7 +39,7 @@ pub record SlotsFacts (b s : ℕ) : Type 0 where
 pub record StreamFacts (u m b q l : ℕ) : Type 0 where
   pub q-high : q ≤ 32768
   pub l-low : leastStream u m b ≤ l
-  pub l-high : l ≤ 33554432
+  pub l-high : l ≤ 536870912
 
 pub record SettingsFacts (g : Settings) : Type 0 where
   pub shared : SharedFacts (g .u) (g .m) (g .d) (g .b)
@@ -74,7 +74,7 @@ module _ (u m d b : ℕ) where
       let q = both (unitOk u && memoryPagesOk m) (diskBlocksOk d) (p .0) in
       let r = both (unitOk u) (memoryPagesOk m) (q .0) in
       let v = unit-le u (r .0) in
-      let w = within-facts 1 4096 m (r .1) in
+      let w = within-facts 1 65536 m (r .1) in
       record {
         u-low = v .0;
         u-high = v .1;
@@ -88,7 +88,7 @@ module _ (u m d b : ℕ) where
   pub shared-of : SharedFacts u m d b → sharedOk u m d b ≡ true
   shared-of f =
       join _ _
-      (join _ _ (join _ _ (shared-unit f) (within-of 1 4096 m (f .m-low) (f .m-high))) (le-leb d 4096 (f .d-high)))
+      (join _ _ (join _ _ (shared-unit f) (within-of 1 65536 m (f .m-low) (f .m-high))) (le-leb d 4096 (f .d-high)))
       (le-leb b 64 (f .b-high))
 
 module _ (b s : ℕ) where
@@ -98,7 +98,7 @@ module _ (b s : ℕ) where
 module _ (u m b q l : ℕ) where
   pub stream-facts : heldBytesOk q ≡ true → streamOk u m b l ≡ true → StreamFacts u m b q l
   stream-facts h e =
-      let p = within-facts (leastStream u m b) 33554432 l e in
+      let p = within-facts (leastStream u m b) 536870912 l e in
       record { q-high = leb-true q 32768 h; l-low = p .0; l-high = p .1 }
 
   module _ (f : StreamFacts u m b q l) where
@@ -106,7 +106,7 @@ module _ (u m b q l : ℕ) where
     held-of = le-leb q 32768 (f .q-high)
 
     pub stream-of : streamOk u m b l ≡ true
-    stream-of = within-of (leastStream u m b) 33554432 l (f .l-low) (f .l-high)
+    stream-of = within-of (leastStream u m b) 536870912 l (f .l-low) (f .l-high)
 
 module _ (g : PrimarySettings) where
   pub primary-settings-facts : primarySettingsOk g ≡ true → PrimarySettingsFacts g
@@ -160,41 +160,49 @@ module _ (g : Settings) (e : settingsOk g ≡ true) where
 -- ---- the least length of the stream
 
 -- the bytes of each kind that a checkpoint sends
-pub page-record : (u : ℕ) → recordLength u PAGE ≡ u + 10
-unfolding recordLength bodyLength
-page-record u = omega arith
+pub page-record : (u : ℕ) (wide : Bool) → recordLength u (pageKind wide) ≡ u + (8 + numberWidth wide)
+page-record u wide = omega (arith, page-length u wide)
 
 pub block-record : (u : ℕ) → recordLength u BLOCK ≡ u + 10
 unfolding recordLength bodyLength
 block-record u = omega arith
 
-pub state-commit-records : (u : ℕ) → recordLength u STATE + recordLength u COMMIT ≡ 84
+pub state-commit-records : (u : ℕ) (wide : Bool) → recordLength u STATE + recordLength u (commitKind wide) ≡ 72 + (8 + numberWidth wide + numberWidth wide)
 unfolding recordLength bodyLength
-state-commit-records u = refl
+state-commit-records u wide = omega (arith, commit-length u wide)
 
--- document 01's form of the least L
-pub least-stream : (u m b : ℕ) → leastStream u m b ≡ m * (u + 10) + b * (u + 10) + 84
+pub least-stream : (u m b : ℕ) → leastStream u m b ≡ m * (u + (8 + numberWidth (isWide m))) + b * (u + 10) + (72 + (8 + numberWidth (isWide m) + numberWidth (isWide m)))
 unfolding leastStream
-least-stream u m b = rw (page-record u, block-record u, state-commit-records u)
+least-stream u m b = rw (page-record u (isWide m), block-record u, state-commit-records u (isWide m))
+
+-- document 01's form, and document 02's
+pub least-stream-narrow : (u m b : ℕ) → isWide m ≡ false → leastStream u m b ≡ m * (u + 10) + b * (u + 10) + 84
+least-stream-narrow u m b e = least-stream u m b ∙ rw e
+
+pub least-stream-wide : (u m b : ℕ) → isWide m ≡ true → leastStream u m b ≡ m * (u + 12) + b * (u + 10) + 88
+least-stream-wide u m b e = least-stream u m b ∙ rw e
 
 -- ---- lengths in bytes, far below 2 ^ 64
-pub bytes-le : (u n : ℕ) → u ≤ 4096 → n ≤ 4096 → n * u ≤ 4096 * 4096
+pub bytes-le : (u n : ℕ) → u ≤ 4096 → n ≤ 65536 → n * u ≤ 65536 * 4096
 bytes-le u n h k = mul-le-mul k h
 
 -- memory, and the staged pages
-pub memory-bytes : {u m d b : ℕ} → SharedFacts u m d b → m * u ≤ 4096 * 4096
+pub memory-bytes : {u m d b : ℕ} → SharedFacts u m d b → m * u ≤ 65536 * 4096
 memory-bytes f = bytes-le _ _ (f .u-high) (f .m-high)
 
 -- the disk
-pub disk-bytes : {u m d b : ℕ} → SharedFacts u m d b → d * u ≤ 4096 * 4096
-disk-bytes f = bytes-le _ _ (f .u-high) (f .d-high)
+pub disk-bytes : {u m d b : ℕ} → SharedFacts u m d b → d * u ≤ 65536 * 4096
+disk-bytes f = bytes-le _ _ (f .u-high) (omega (arith, f .d-high))
 
 -- the staged blocks
-pub slots-bytes : {u m d b s : ℕ} → SharedFacts u m d b → SlotsFacts b s → s * u ≤ 4096 * 4096
-slots-bytes f g = bytes-le _ _ (f .u-high) (omega arith)
+pub slots-bytes : {u m d b s : ℕ} → SharedFacts u m d b → SlotsFacts b s → s * u ≤ 65536 * 4096
+slots-bytes f g = bytes-le _ _ (f .u-high) (omega (arith, g .s-high))
 
--- the lower end of L
-pub least-stream-le : (u m b : ℕ) → u ≤ 4096 → m ≤ 4096 → b ≤ 64 → m * (u + 10) + b * (u + 10) + 84 ≤ 4096 * 4106 + 64 * 4106 + 84
-least-stream-le u m b h j k =
-    let r : u + 10 ≤ 4106 = omega arith in
-    omega (arith, mul-le-mul j r, mul-le-mul k r)
+-- the lower end of L: the largest is far below its upper end
+pub least-stream-le : (u m b : ℕ) (wide : Bool) → u ≤ 4096 → m ≤ 65536 → b ≤ 64
+    → m * (u + (8 + numberWidth wide)) + b * (u + 10) + (72 + (8 + numberWidth wide + numberWidth wide)) ≤ 65536 * 4108 + 64 * 4106 + 88
+least-stream-le u m b wide h j k =
+    let w = width-range wide in
+    let r : u + (8 + numberWidth wide) ≤ 4108 = omega arith in
+    let q : u + 10 ≤ 4106 = omega arith in
+    omega (arith, mul-le-mul j r, mul-le-mul k q)

@@ -1,9 +1,9 @@
--- The ranges of the settings (document 01, "Settings"). Assumes nothing.
+-- The ranges of the settings (document 01, "Settings"; M and L: document 02, Job 7). Assumes nothing.
 use Prim.Native.Nat.{ℕ, _+_, _*_}
 use mathlib.Core.Bool.{Bool, _&&_}
 use lib.Dec.{leb}
 use Rattle.lists.specs.Refusal.{within}
-use Rattle.records.specs.Kind.{unitOk, PAGE, BLOCK, STATE, COMMIT, recordLength}
+use Rattle.records.specs.Kind.{unitOk, BLOCK, STATE, isWide, pageKind, commitKind, recordLength}
 use Rattle.settings.specs.declared.Settings.{Settings}
 use Rattle.settings.specs.declared.PrimarySettings.{PrimarySettings}
 use Rattle.settings.specs.declared.StandbySettings.{StandbySettings}
@@ -24,7 +24,7 @@ mostEpoch = 4294967295
 
 -- M, D, B, S, Q, L, T, at most
 abbrev pub mostPages : ℕ
-mostPages = 4096
+mostPages = 65536
 
 abbrev pub mostBlocks : ℕ
 mostBlocks = 4096
@@ -39,7 +39,7 @@ abbrev pub mostHeld : ℕ
 mostHeld = 32768
 
 abbrev pub mostStream : ℕ
-mostStream = 33554432
+mostStream = 536870912
 
 abbrev pub mostPatience : ℕ
 mostPatience = 60000
@@ -62,9 +62,11 @@ heldBytesOk q = leb q mostHeld
 abbrev pub patienceOk : ℕ → Bool
 patienceOk t = within 1 mostPatience t
 
--- L: room for a checkpoint of every page and every block allowed, STATE and COMMIT
+-- L: room for a checkpoint of every page and every block allowed, STATE and COMMIT, of the width that M calls for
 unfoldable pub leastStream : ℕ → ℕ → ℕ → ℕ
-leastStream u m b = m * recordLength u PAGE + b * recordLength u BLOCK + (recordLength u STATE + recordLength u COMMIT)
+leastStream u m b =
+    let wide = isWide m in
+    m * recordLength u (pageKind wide) + b * recordLength u BLOCK + (recordLength u STATE + recordLength u (commitKind wide))
 
 abbrev pub streamOk : ℕ → ℕ → ℕ → ℕ → Bool
 streamOk u m b l = within (leastStream u m b) mostStream l

@@ -1,12 +1,14 @@
 // The settings of a pair, what each end keeps of them, and whether they are in their ranges.
 ghost use mathlib.Core.Path.{_≡_};
 ghost use mathlib.Core.Bool.{_&&_};
-ghost use Prim.Native.Nat.{_≤_};
-ghost use Rattle.records.specs.Kind.{unitOk};
+ghost use Prim.Native.Nat.{_+_, _≤_};
+ghost use Rattle.records.specs.Kind.{unitOk, numberWidth};
 ghost use Rattle.settings.specs.Range.{memoryPagesOk, diskBlocksOk, allowanceOk, blockSlotsOk, heldBytesOk, streamOk, patienceOk, settingsOk, primarySettingsOk, standbySettingsOk};
-use records::COMMIT_RECORD;
 use records::STATE_RECORD;
 use records::UNIT_RECORD;
+use records::kinds::commit_length;
+use records::kinds::is_wide;
+use records::kinds::page_head;
 use records::reading::unit_ok;
 
 // "At most 64 packets are held, each of 1 to 1,514 bytes".
@@ -17,8 +19,8 @@ pub const MOST_PACKET_BYTES: usize = 1514;
 // The last epoch that there is.
 pub const MOST_EPOCH: u32 = 4294967295;
 
-// M, D, B, S, Q, L and T, at most (document 01, "Settings").
-pub const MOST_PAGES: usize = 4096;
+// M, D, B, S, Q, L and T, at most (document 01, "Settings"; M and L: document 02, Job 7).
+pub const MOST_PAGES: usize = 65536;
 
 pub const MOST_BLOCKS: usize = 4096;
 
@@ -28,12 +30,9 @@ pub const MOST_SLOTS: usize = 64;
 
 pub const MOST_HELD: usize = 32768;
 
-pub const MOST_STREAM: usize = 33554432;
+pub const MOST_STREAM: usize = 536870912;
 
 pub const MOST_PATIENCE: u32 = 60000;
-
-// What a checkpoint has besides its pages: STATE and COMMIT.
-pub const CHECKPOINT_END: usize = STATE_RECORD + COMMIT_RECORD;
 
 // What start is told (document 01, "Settings").
 pub struct Settings {
@@ -90,14 +89,22 @@ fn held_ok(q: usize) -> bool
     q <= MOST_HELD
 }
 
+// What a checkpoint has besides its pages: STATE and COMMIT.
+pub fn checkpoint_end(wide: bool) -> usize
+    ensures { λ r. ⌜ r ≡ 72 + (8 + numberWidth wide + numberWidth wide) ⌝ }
+{
+    STATE_RECORD + commit_length(wide)
+}
+
 // L, once U, M and B are in their ranges, so that its lower end does not wrap.
 fn stream_ok(u: usize, m: usize, b: usize, l: usize) -> bool
-    requires { ⌜ (u ≤ 4096) × (m ≤ 4096) × (b ≤ 64) ⌝ }
+    requires { ⌜ (u ≤ 4096) × (m ≤ 65536) × (b ≤ 64) ⌝ }
     ensures { λ r. ⌜ r ≡ streamOk u m b l ⌝ }
 {
-    let pages = m * (u + UNIT_RECORD);
+    let wide = is_wide(m);
+    let pages = m * (u + page_head(wide));
     let blocks = b * (u + UNIT_RECORD);
-    let least = pages + blocks + CHECKPOINT_END;
+    let least = pages + blocks + checkpoint_end(wide);
     (least <= l) & (l <= MOST_STREAM)
 }
 

@@ -17,10 +17,10 @@ use Rattle.rules.specs.Read.{readState, memoryAfter, stagedPagesAfter, stagedMa
 -- behind PAGE, BLOCK, STATE and COMMIT
 other-arm : {A : Type 0} (page block : ℕ → ℕ → Cursor → A) (state : ℕ → Cursor → A) (commit : ℕ → ℕ → ℕ → Cursor → A) (rest : A) (r : Record)
     → OneOf (4 ∷ 5 ∷ 6 ∷ []) (tagOf the-type r) → byKind r page block state commit rest ≡ rest
-other-arm page block state commit rest (Page e p c) k = absurd (miss (4 ∷ 5 ∷ 6 ∷ []) 0 tt k)
+other-arm page block state commit rest (Page w e p c) k = absurd (miss (4 ∷ 5 ∷ 6 ∷ []) 0 tt k)
 other-arm page block state commit rest (Block e n c) k = absurd (miss (4 ∷ 5 ∷ 6 ∷ []) 1 tt k)
 other-arm page block state commit rest (State e c) k = absurd (miss (4 ∷ 5 ∷ 6 ∷ []) 2 tt k)
-other-arm page block state commit rest (Commit e p b c) k = absurd (miss (4 ∷ 5 ∷ 6 ∷ []) 3 tt k)
+other-arm page block state commit rest (Commit w e p b c) k = absurd (miss (4 ∷ 5 ∷ 6 ∷ []) 3 tt k)
 other-arm page block state commit rest (Ack e c) k = refl
 other-arm page block state commit rest (Short n) k = refl
 other-arm page block state commit rest (Refused n) k = refl
@@ -39,10 +39,10 @@ module _ (s : Standby) (bytes memory pages marks blocks reply : List ℕ) where
       × ((marks ≡ stagedMarksAfter s marks r)
       × ((blocks ≡ stagedBlocksAfter s bytes blocks r)
       × (reply ≡ replyAfter reply r))))
-  buffers-arm (Page e p c) k = absurd (miss (2 ∷ 4 ∷ 5 ∷ 6 ∷ []) 0 tt k)
+  buffers-arm (Page w e p c) k = absurd (miss (2 ∷ 4 ∷ 5 ∷ 6 ∷ []) 0 tt k)
   buffers-arm (Block e n c) k = absurd (miss (2 ∷ 4 ∷ 5 ∷ 6 ∷ []) 1 tt k)
   buffers-arm (State e c) k = (refl, (refl, (refl, (refl, refl))))
-  buffers-arm (Commit e p b c) k = absurd (miss (2 ∷ 4 ∷ 5 ∷ 6 ∷ []) 3 tt k)
+  buffers-arm (Commit w e p b c) k = absurd (miss (2 ∷ 4 ∷ 5 ∷ 6 ∷ []) 3 tt k)
   buffers-arm (Ack e c) k = (refl, (refl, (refl, (refl, refl))))
   buffers-arm (Short n) k = (refl, (refl, (refl, (refl, refl))))
   buffers-arm (Refused n) k = (refl, (refl, (refl, (refl, refl))))

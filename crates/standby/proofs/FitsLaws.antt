@@ -8,7 +8,7 @@ use Rattle.lists.proofs.PageLaws.{page-end}
 use Rattle.records.specs.declared.Cursor.{Cursor}
 use Rattle.records.specs.declared.Record.{Record}
 use Rattle.records.specs.declared.Record.the-variants.{Page, Block, State, Commit, Ack, Short, Refused}
-use Rattle.records.specs.declared.Reader.the-variants as reader
+use Rattle.records.specs.declared.Reader.{Reader}
 use Rattle.records.proofs.ReadLaws.{RecordFacts}
 use Rattle.rules.specs.declared.Standby.{Standby}
 use Rattle.rules.specs.declared.ReadLent.{ReadLent}
@@ -23,12 +23,12 @@ use Rattle.standby.specs.Fits.{FieldFits, StateFits, BuffersFit}
 pub field-length : (bytes : List ℕ) (size : ℕ) (c : Cursor) → FieldFits (length bytes) size c → length (bytesAt c bytes) ≡ size
 field-length bytes size c f = bytes-length c bytes size (f .span) (f .inside)
 
-field-fits : {u kind size : ℕ} {bytes : List ℕ} {c : Cursor} → RecordFacts reader.Standby u bytes kind size c → FieldFits (length bytes) size c
+field-fits : {for : Reader} {u kind size : ℕ} {bytes : List ℕ} {c : Cursor} → RecordFacts for u bytes kind size c → FieldFits (length bytes) size c
 field-fits f = record { span = f .span; inside = f .inside }
 
 module _ (s : Standby) (l : ReadLent) (bytes : List ℕ) where
   state-fits : (r : Record) → JudgedFacts s l bytes r → StateFits s (length bytes) r
-  state-fits (Page e p c) f =
+  state-fits (Page w e p c) f =
       let t = standby-facts s (f .ready .ok) in
       let g = t .settings .shared in
       let h = f .tests .page-low in
@@ -42,13 +42,13 @@ module _ (s : Standby) (l : ReadLent) (bytes : List ℕ) where
       let w = f .tests .slot-free in
       (omega arith, omega arith)
   state-fits (State e c) f = field-fits (f .field)
-  state-fits (Commit e p b c) f = tt
+  state-fits (Commit w e p b c) f = tt
   state-fits (Ack e c) f = tt
   state-fits (Short n) f = tt
   state-fits (Refused n) f = tt
 
   buffers-fit : (r : Record) → JudgedFacts s l bytes r → BuffersFit s l (length bytes) r
-  buffers-fit (Page e p c) f =
+  buffers-fit (Page w e p c) f =
       let h = page-end p (s .settings .m) (s .settings .u) (f .tests .page-low) in
       let k = f .ready .lent .pages-is in
       (omega arith, field-fits (f .field))
@@ -58,7 +58,7 @@ module _ (s : Standby) (l : ReadLent) (bytes : List ℕ) where
       let k = f .ready .lent .blocks-is in
       (omega arith, field-fits (f .field))
   buffers-fit (State e c) f = tt
-  buffers-fit (Commit e p b c) f = (f .ready .lent .memory-is, f .ready .lent .pages-is, f .tests .room)
+  buffers-fit (Commit w e p b c) f = (f .ready .lent .memory-is, f .ready .lent .pages-is, f .tests .room)
   buffers-fit (Ack e c) f = tt
   buffers-fit (Short n) f = tt
   buffers-fit (Refused n) f = tt

@@ -73,7 +73,7 @@ fn installed_state(s: Standby, epoch: u32) -> Standby
     parts::with_received_slots_processor(s, epoch, due, pending)
 }
 
-// The state after a record: the count "returns to 0 at each accepted record of kinds 1 to 4". The detector is replaced in
+// The state after a record: the count "returns to 0 at each accepted record of kinds 1 to 4", and of 8 and 9. The detector is replaced in
 // each arm: where it was replaced before the match, a read of a PAGE of 64 bytes took a third longer
 // (docs/BENCHMARKS.md).
 pub(crate) fn read_state(s: Standby, bytes: &[u8], r: Record) -> Standby
@@ -84,6 +84,7 @@ pub(crate) fn read_state(s: Standby, bytes: &[u8], r: Record) -> Standby
     let reset = detector::reset(detector);
     match r {
         Record::Page {
+            wide: _,
             epoch: _,
             page,
             at: _,
@@ -97,6 +98,7 @@ pub(crate) fn read_state(s: Standby, bytes: &[u8], r: Record) -> Standby
             parts::with_pending_seen(parts::with_detector(s, reset), processor(bytes, at))
         }
         Record::Commit {
+            wide: _,
             epoch,
             pages: _,
             blocks: _,
@@ -184,13 +186,19 @@ pub(crate) fn apply(
     let u = g.u;
     let m = g.m;
     match r {
-        Record::Page { epoch: _, page, at } => stage_page(pages, marks, bytes, u, page, at),
+        Record::Page {
+            wide: _,
+            epoch: _,
+            page,
+            at,
+        } => stage_page(pages, marks, bytes, u, page, at),
         Record::Block {
             epoch: _,
             block: _,
             at,
         } => stage_block(blocks, bytes, k, u, at),
         Record::Commit {
+            wide: _,
             epoch,
             pages: _,
             blocks: _,

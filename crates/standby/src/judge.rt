@@ -7,6 +7,7 @@ use crate::ranges;
 use records::EPOCH_RECORD;
 use records::Reader;
 use records::Record;
+use records::kinds::is_wide;
 use records::number;
 use records::reading::other_refusal;
 use rules::ReadLent;
@@ -125,7 +126,12 @@ fn record_refusal(s: Standby, reply: usize, r: Record) -> u64
     ensures { λ n. ⌜ n ≡ recordRefusal s reply r ⌝ }
 {
     match r {
-        Record::Page { epoch, page, at: _ } => page_refusal(s, epoch, page),
+        Record::Page {
+            wide: _,
+            epoch,
+            page,
+            at: _,
+        } => page_refusal(s, epoch, page),
         Record::Block {
             epoch,
             block,
@@ -133,6 +139,7 @@ fn record_refusal(s: Standby, reply: usize, r: Record) -> u64
         } => block_refusal(s, epoch, block),
         Record::State { epoch, at: _ } => state_refusal(s, epoch),
         Record::Commit {
+            wide: _,
             epoch,
             pages,
             blocks,
@@ -161,6 +168,7 @@ pub(crate) fn judged(s: Standby, l: ReadLent, bytes: &[u8]) -> Record
     let g = s.settings;
     let mode = s.mode;
     let u = g.u;
+    let m = g.m;
     let reply = l.reply;
     if !ranges::standby_ok(s) {
         return Record::Refused {
@@ -177,7 +185,8 @@ pub(crate) fn judged(s: Standby, l: ReadLent, bytes: &[u8]) -> Record
             number: number::WRONG_MODE,
         };
     }
-    let r = records::reading::read(Reader::Standby, u, bytes);
+    let reader = Reader::Standby { wide: is_wide(m) };
+    let r = records::reading::read(reader, u, bytes);
     let n = record_refusal(s, reply, r);
     if n != 0 {
         return Record::Refused { number: n };

@@ -151,7 +151,7 @@ pub fn activate(s: Standby, area: &mut [u8]) -> StandbyReply
 
 // What a guest's write is refused with, of a page or block, its number, and whether the bytes have their size: 1 13 2 3.
 fn write_refusal(s: Standby, lent: usize, units: usize, unit: usize, sized: bool) -> u64
-    requires { ⌜ (standbyOk s ≡ true → units ≤ 4096) ⌝ }
+    requires { ⌜ (standbyOk s ≡ true → units ≤ 65536) ⌝ }
     ensures { λ r. ⌜ r ≡ refusal (activeWriteTests s lent units unit sized) ⌝ }
 {
     let g = s.settings;
@@ -185,7 +185,7 @@ fn write(
     bytes: &[u8],
     sized: bool,
 ) -> StandbyReply
-    requires { ⌜ (standbyOk s ≡ true → units ≤ 4096) ⌝ }
+    requires { ⌜ (standbyOk s ≡ true → units ≤ 65536) ⌝ }
     requires { ⌜ (sized ≡ true → offset + length (now bytes) ≤ s .settings .u) ⌝ }
     ensures { λ r. ⌜ r ≡ standbyReply (refusal (activeWriteTests s (length (now (image .entry))) units unit sized)) s s (s .received) ⌝ }
     ensures { λ _. ⌜ now (image .exit) ≡ pick (refusal (activeWriteTests s (length (now (image .entry))) units unit sized)) (written (s .settings .u) (now (image .entry)) unit offset (now (bytes .entry))) (now (image .entry)) ⌝ }

@@ -10,11 +10,11 @@ use Rattle.pages.proofs.write_dirty.Statement.{statement}
 use Rattle.pages.proofs.write_dirty.Tie as tie
 
 abbrev Inv-loop : tie.InvT-loop
-Inv-loop out₀ memory dirty u epoch m at₀ place₀ out at place =
-    (length out ≡ length out₀) × Writing memory dirty u epoch m out₀ out at (place .page) × (place .page < m → Behind dirty (place .page) (place .behind))
+Inv-loop out₀ memory dirty wide u epoch m at₀ place₀ out at place =
+    (length out ≡ length out₀) × Writing memory dirty wide u epoch m out₀ out at (place .page) × (place .page < m → Behind dirty (place .page) (place .behind))
 
 abbrev μ-loop : tie.MeasureT-loop
-μ-loop out₀ memory dirty u epoch m at₀ place₀ out at place = m - place .page
+μ-loop out₀ memory dirty wide u epoch m at₀ place₀ out at place = m - place .page
 
 marked-from-requires : tie.Need-marked-from-requires Inv-loop μ-loop
 marked-from-requires c κs = tt
@@ -23,7 +23,7 @@ loop-holds : tie.Need-loop-holds Inv-loop μ-loop
 loop-holds c =
     let a = c .before .before .before .before .args in
     let first = c .marked-from in
-    (refl, writing-start (a .memory .now) (a .dirty .now) (a .u) (a .epoch) (a .m) (a .out .now) (first .result .page) (first .ensures .0), first .ensures .1)
+    (refl, writing-start (a .memory .now) (a .dirty .now) (a .wide) (a .u) (a .epoch) (a .m) (a .out .now) (first .result .page) (first .ensures .0), first .ensures .1)
 
 write-one-requires : tie.Need-write-one-requires Inv-loop μ-loop
 write-one-requires c κs =
@@ -32,7 +32,7 @@ write-one-requires c κs =
     let at = c .before .before .before .loop in
     let l = c .before .if1 .taken in
     let e = page-end (at .place .page) (a .m) (a .u) l in
-    let room = writing-room (a .memory .now) (a .dirty .now) (a .u) (a .epoch) (a .m) (a .out .now) (start .pre .0) (start .pre .3) (at .out) (at .at) (at .place .page) (at .inv .1) l in
+    let room = writing-room (a .memory .now) (a .dirty .now) (a .wide) (a .u) (a .epoch) (a .m) (a .out .now) (start .pre .0) (start .pre .3) (at .out) (at .at) (at .place .page) (at .inv .1) l in
     (omega (arith, room, at .inv .0), omega (arith, e, start .pre .0), omega (arith, l, start .pre .1), start .pre .2)
 
 marked-after-requires : tie.Need-marked-after-requires Inv-loop μ-loop
@@ -51,7 +51,7 @@ loop-again c =
     let call = c .before .before .before .write-one in
     let next = c .marked-after in (
       call .kept .0 ∙ at .inv .0,
-      writing-more (a .memory .now) (a .dirty .now) (a .u) (a .epoch) (a .m) (a .out .now) (start .pre .0) (start .pre .3) (at .out) (at .at) (at .place .page) (at .inv .1) (call .last .0) (call .result) (next .result .page)
+      writing-more (a .memory .now) (a .dirty .now) (a .wide) (a .u) (a .epoch) (a .m) (a .out .now) (start .pre .0) (start .pre .3) (at .out) (at .at) (at .place .page) (at .inv .1) (call .last .0) (call .result) (next .result .page)
           (c .before .before .before .before .before .if1 .taken) (call .ensures) (next .ensures .0),
       next .ensures .1,
     )
@@ -64,7 +64,7 @@ returns c =
     let start = c .before .before .before .before .before .before .before in
     let a = start .args in
     let at = c .before .before .loop in
-    writing-end (a .memory .now) (a .dirty .now) (a .u) (a .epoch) (a .m) (a .out .now) (start .pre .0) (start .pre .3) (at .out) (at .at) (at .place .page) (at .inv .1) (omega arith)
+    writing-end (a .memory .now) (a .dirty .now) (a .wide) (a .u) (a .epoch) (a .m) (a .out .now) (start .pre .0) (start .pre .3) (at .out) (at .at) (at .place .page) (at .inv .1) (omega arith)
 
 pub write-dirty-spec : {M : Type 1} → statement M
 write-dirty-spec =

@@ -33,14 +33,14 @@ returns c =
     let a = start .args in
     let call = c .before .before .write-page in
     let body = c .before .before .before .before .part-of in
-    one-written (a .memory .now) (a .out .now) (body .result .now) (call .last .0) (a .at) (call .result) (a .u) (a .epoch) (a .p)
+    one-written (a .memory .now) (a .out .now) (body .result .now) (call .last .0) (a .at) (call .result) (a .wide) (a .u) (a .epoch) (a .p)
     (start .pre .0) (start .pre .1) (start .pre .2) (start .pre .3) (body .ensures) (call .ensures)
 
 add-result : tie.Need-add-result
 add-result c =
     let start = c .before .before .before .before .before .before .before in
     let a = start .args in
-    omega (arith, returns c .position, length-page-record (a .u) (a .epoch) (a .p) (page (a .u) (a .memory .now) (a .p)) (length-page (a .u) (a .p) (a .memory .now) (start .pre .1)))
+    omega (arith, returns c .position, length-page-record (a .wide) (a .u) (a .epoch) (a .p) (page (a .u) (a .memory .now) (a .p)) (length-page (a .u) (a .p) (a .memory .now) (start .pre .1)))
 
 pub write-one-spec : {M : Type 1} → statement M
 write-one-spec =

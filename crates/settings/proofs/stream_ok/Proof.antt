@@ -1,16 +1,36 @@
+use mathlib.Core.Path.{_≡_}
 use Prim.Native.Nat.{_+_, _*_, _≤_}
 use native.Mathlib.Omega.{arith}
-use borrow.Author.Needs.{needs}
+use Rattle.records.specs.Kind.{isWide, numberWidth}
+use Rattle.records.proofs.KindLaws.{width-range}
 use Rattle.settings.proofs.RangeLaws.{least-stream, least-stream-le}
+use borrow.Author.Needs.{needs}
 use Rattle.settings.proofs.stream_ok.Statement.{statement}
 use Rattle.settings.proofs.stream_ok.Tie as tie
 
+is-wide-requires : tie.Need-is-wide-requires
+is-wide-requires c κs = search needs
+
+page-head-requires : tie.Need-page-head-requires
+page-head-requires c κs = search needs
+
+head : (c : tie.After-page-head) → c .page-head .result ≡ 8 + numberWidth (isWide (c .before .before .args .m))
+head c = rw (← c .before .is-wide .ensures) (c .page-head .ensures)
+
+end-is : (c : tie.After-checkpoint-end) → let n = numberWidth (isWide (c .before .before .before .args .m)) in c .checkpoint-end .result ≡ 72 + (8 + n + n)
+end-is c = rw (← c .before .before .is-wide .ensures) (c .checkpoint-end .ensures)
+
 -- the lower end of L is far below 2 ^ 64, and so are its parts
-small : (c : tie.Start) → c .args .m * (c .args .u + 10) + c .args .b * (c .args .u + 10) + 84 ≤ 4096 * 4106 + 64 * 4106 + 84
-small c = least-stream-le (c .args .u) (c .args .m) (c .args .b) (c .pre .0) (c .pre .1) (c .pre .2)
+small : (c : tie.After-page-head) →
+    let a = c .before .before .args in
+    let n = numberWidth (isWide (a .m)) in
+    a .m * (a .u + c .page-head .result) + a .b * (a .u + 10) + (72 + (8 + n + n)) ≤ 65536 * 4108 + 64 * 4106 + 88
+small c =
+    let s = c .before .before in
+    rw (head c) (least-stream-le (s .args .u) (s .args .m) (s .args .b) (isWide (s .args .m)) (s .pre .0) (s .pre .1) (s .pre .2))
 
 add-pages : tie.Need-add-pages
-add-pages c = search needs
+add-pages c = let w = width-range (isWide (c .before .before .args .m)) in omega (arith, head c)
 
 mul-pages : tie.Need-mul-pages
 mul-pages c = omega (arith, small c)
@@ -24,12 +44,28 @@ mul-blocks c = omega (arith, small c)
 add-least : tie.Need-add-least
 add-least c = omega (arith, small c)
 
+checkpoint-end-requires : tie.Need-checkpoint-end-requires
+checkpoint-end-requires c κs = search needs
+
 add-least-2 : tie.Need-add-least-2
-add-least-2 c = omega (arith, small c)
+add-least-2 c = let w = width-range (isWide (c .before .before .before .args .m)) in omega (arith, small (c .before), end-is c)
 
 returns : tie.Need-returns
-returns c = rw (least-stream (c .args .u) (c .args .m) (c .args .b))
+returns c =
+    let a = c .before .before .before .args in
+    rw (least-stream (a .u) (a .m) (a .b), head (c .before), end-is c)
 
 pub stream-ok-spec : {M : Type 1} → statement M
 stream-ok-spec =
-    tie.close (tie.spec add-pages mul-pages add-blocks mul-blocks add-least add-least-2 returns)
+    tie.close
+    (tie.spec
+    is-wide-requires
+    page-head-requires
+    add-pages
+    mul-pages
+    add-blocks
+    mul-blocks
+    add-least
+    checkpoint-end-requires
+    add-least-2
+    returns)

@@ -28,7 +28,7 @@ returns c =
     let start = c .before .before .before .before .before .before .before in
     let a = start .args in
     let call = c .before .before .write-dirty in
-    pages-done (a .memory .now) (a .dirty .now) (a .stream .now) (call .last .0) (a .u) (a .epoch) (a .m) (a .at) (call .result) (start .pre .0) (omega arith) (call .ensures)
+    pages-done (a .memory .now) (a .dirty .now) (a .stream .now) (call .last .0) (a .wide) (a .u) (a .epoch) (a .m) (a .at) (call .result) (start .pre .0) (omega arith) (call .ensures)
 
 pub append-pages-spec : {M : Type 1} → statement M
 append-pages-spec =

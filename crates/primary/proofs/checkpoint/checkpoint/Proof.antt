@@ -6,6 +6,7 @@ use native.Mathlib.Omega.{arith}
 use lib.ListN.{length}
 use denote.Ref.{now}
 use Rattle.lists.proofs.TestLaws.{pick-accepted, pick-refused}
+use Rattle.records.specs.Kind.{isWide}
 use Rattle.marks.proofs.MarkLaws.{count-le}
 use Rattle.rules.specs.Checkpoint.{dirtyCount, checkpointLength, checkpointNumber, checkpointState, checkpointReply, checkpointDirty, checkpointStream}
 use Rattle.rules.proofs.ReplyLaws.{primary-accepts, primary-refuses}
@@ -80,7 +81,7 @@ returns-2 c =
     let a = c .before .before .before .before .before .before .before .before .before .before .before .before .before .before .before .before .before .before .args in
     let z = accepted (c .before .before .before .before .before .before .before .before .before .before) in
     let done = c .before .before .before .before .before .before .before .append-checkpoint in
-    let w : done .result ≡ a .p .waiting + checkpointLength (a .p .settings .u) (dirtyCount (a .p) (now (a .dirty))) =
+    let w : done .result ≡ a .p .waiting + checkpointLength (a .p .settings .u) (isWide (a .p .settings .m)) (dirtyCount (a .p) (now (a .dirty))) =
     done .ensures .position ∙ ap (λ n. a .p .waiting + n) (length-checkpoint (a .p) (now (a .memory)) (now (a .dirty)) (a .processor) (facts (c .before .before .before .before .before .before .before .before .before .before) .memory-is) (size (c .before .before .before .before .before .before .before .before .before .before .before .before .before .before .before .before .before .before))) in (
       rw (c .with-epoch-blocks-waiting .ensures, w) (primary-accepts _ _ _ _ _ (number (c .before .before .before .before .before .before .before .before .before .before .before)) (c .before .before .before .before .before .before .before .before .before .before .if1 .left)),
       (marks-left (c .before .before .before), done .ensures .bytes ∙ sym (pick-accepted _ _ _ z)),

@@ -43,9 +43,9 @@ returns-2 c =
     let h = room (c .before .before .before .before) in
     let s = now (a .stream) in
     let bs = now (a .bytes) in
-    let fits : unitFits (a .block) bs ≡ true = join _ _ (lt-ltb _ _ (c .before .before .before .before .before .before .before .pre .0)) (lt-ltb _ _ (c .before .before .before .before .before .before .before .pre .1)) in
-    written-done (unitFits (a .block) bs) (blockRecord (a .epoch) (a .block) bs) s (c .before .before .write-block .last .0) (a .waiting) (c .before .before .write-block .result) fits
-    (omega (arith, length-unit BLOCK (a .epoch) (a .block) bs)) (c .before .before .write-block .ensures) .bytes
+    let fits : unitFits 2 (a .block) bs ≡ true = join _ _ (lt-ltb _ _ (c .before .before .before .before .before .before .before .pre .0)) (lt-ltb _ _ (c .before .before .before .before .before .before .before .pre .1)) in
+    written-done (unitFits 2 (a .block) bs) (blockRecord (a .epoch) (a .block) bs) s (c .before .before .write-block .last .0) (a .waiting) (c .before .before .write-block .result) fits
+    (omega (arith, length-unit BLOCK 2 (a .epoch) (a .block) bs)) (c .before .before .write-block .ensures) .bytes
     ∙ sym (cond-false _ _ _ (c .before .before .before .before .if1 .left))
 
 pub append-block-spec : {M : Type 1} → statement M

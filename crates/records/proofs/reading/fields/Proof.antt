@@ -1,9 +1,9 @@
 use mathlib.Core.Path.{_≡_}
 use Prim.Native.Nat.{_+_}
 use native.Mathlib.Omega.{arith}
-use Rattle.records.specs.Kind.{PAGE, BLOCK, bodyLength, recordLength}
+use Rattle.records.specs.Kind.{BLOCK, bodyLength, recordLength}
 use Rattle.records.specs.Read.{fieldsOf}
-use Rattle.records.proofs.ReadLaws.{other-ack, record-ge}
+use Rattle.records.proofs.KindLaws.{page-or, commit-or, other-ack, record-ge}
 use borrow.Author.Needs.{needs}
 use Rattle.records.proofs.reading.fields.Statement.{statement}
 use Rattle.records.proofs.reading.fields.Tie as tie
@@ -14,88 +14,79 @@ get4-requires c κs =
     let h = record-ge (s .args .u) (s .args .kind) (s .pre .1) in
     omega arith
 
-add-unit-end : tie.Need-add-unit-end
-add-unit-end c = search needs
+page-at-requires : tie.Need-page-at-requires
+page-at-requires c κs = (c .before .before .before .pre .0, rw (c .match .keys1) at (c .before .before .before .pre .2))
 
 get2-requires : tie.Need-get2-requires
 unfolding recordLength bodyLength
 get2-requires c κs =
-    let h = rw (c .match .keys1) at (c .before .before .before .pre .2) in
-    omega arith
-
-cast-t8 : tie.Need-cast-t8
-cast-t8 c = search needs
-
-get2-requires-2 : tie.Need-get2-requires-2
-unfolding recordLength bodyLength
-get2-requires-2 c κs =
     let h = rw (c .match .keys2) at (c .before .before .before .pre .2) in
     omega arith
 
-cast-t11 : tie.Need-cast-t11
-cast-t11 c = search needs
+cast-t7 : tie.Need-cast-t7
+cast-t7 c = search needs
 
-get2-requires-3 : tie.Need-get2-requires-3
-unfolding recordLength bodyLength
-get2-requires-3 c κs =
-    let h = rw (c .match .keys4) at (c .before .before .before .pre .2) in
-    omega arith
+add-t8 : tie.Need-add-t8
+add-t8 c = search needs
 
-cast-t15 : tie.Need-cast-t15
-cast-t15 c = search needs
+commit-at-requires : tie.Need-commit-at-requires
+commit-at-requires c κs = rw (c .match .keys4) at (c .before .before .before .pre .2)
 
-get2-requires-4 : tie.Need-get2-requires-4
-unfolding recordLength bodyLength
-get2-requires-4 c κs =
-    let h = rw (c .before .match .keys4) at (c .before .before .before .before .pre .2) in
-    omega arith
+page-at-requires-2 : tie.Need-page-at-requires-2
+page-at-requires-2 c κs = (c .before .before .before .pre .0, rw (c .match .keys5) at (c .before .before .before .pre .2))
 
-cast-t17 : tie.Need-cast-t17
-cast-t17 c = search needs
+commit-at-requires-2 : tie.Need-commit-at-requires-2
+commit-at-requires-2 c κs = rw (c .match .keys6) at (c .before .before .before .pre .2)
 
 returns : tie.Need-returns
-unfolding fieldsOf recordLength bodyLength
-returns c =
-    let e : c .before .before .before .before .args .u + 10 ≡ recordLength (c .before .before .before .before .args .u) PAGE = omega arith in
-    rw (c .before .match .keys1, c .before .before .get4 .ensures, c .get2 .ensures, e)
+unfolding fieldsOf
+returns c = rw (c .before .match .keys1) (c .page-at .ensures)
 
 returns-2 : tie.Need-returns-2
 unfolding fieldsOf recordLength bodyLength
 returns-2 c =
     let e : c .before .before .before .before .args .u + 10 ≡ recordLength (c .before .before .before .before .args .u) BLOCK = omega arith in
-    rw (c .before .match .keys2, c .before .before .get4 .ensures, c .get22 .ensures, e)
+    rw (c .before .match .keys2, c .before .before .get4 .ensures, c .get2 .ensures, e)
 
 returns-3 : tie.Need-returns-3
 unfolding fieldsOf recordLength bodyLength
 returns-3 c = rw (c .match .keys3, c .before .get4 .ensures)
 
 returns-4 : tie.Need-returns-4
-unfolding fieldsOf recordLength bodyLength
-returns-4 c = rw (c .before .before .match .keys4, c .before .before .before .get4 .ensures, c .before .get23 .ensures, c .get24 .ensures)
+unfolding fieldsOf
+returns-4 c = rw (c .before .match .keys4) (c .commit-at .ensures)
 
 returns-5 : tie.Need-returns-5
+unfolding fieldsOf
+returns-5 c = rw (c .before .match .keys5) (c .page-at2 .ensures)
+
+returns-6 : tie.Need-returns-6
+unfolding fieldsOf
+returns-6 c = rw (c .before .match .keys6) (c .commit-at2 .ensures)
+
+returns-7 : tie.Need-returns-7
 unfolding fieldsOf recordLength bodyLength
-returns-5 c =
+returns-7 c =
     let s = c .before .before .before in
     let r = c .match .rest in
-    rw (other-ack (s .args .kind) (s .pre .1) (r .0 .0 .0 .1) (r .0 .0 .1) (r .0 .1) (r .1), c .before .get4 .ensures)
+    rw (other-ack (s .args .kind) (s .pre .1) (page-or (r .0 .0 .0 .0 .0 .1) (r .0 .1)) (r .0 .0 .0 .0 .1) (r .0 .0 .0 .1) (commit-or (r .0 .0 .1) (r .1)), c .before .get4 .ensures)
 
 pub fields-spec : {M : Type 1} → statement M
 fields-spec =
     tie.close
     (tie.spec
     get4-requires
-    add-unit-end
+    page-at-requires
     get2-requires
-    cast-t8
-    get2-requires-2
-    cast-t11
-    get2-requires-3
-    cast-t15
-    get2-requires-4
-    cast-t17
+    cast-t7
+    add-t8
+    commit-at-requires
+    page-at-requires-2
+    commit-at-requires-2
     returns
     returns-2
     returns-3
     returns-4
-    returns-5)
+    returns-5
+    returns-6
+    returns-7)

@@ -5,7 +5,8 @@ use denote.Ref.{now}
 use borrow.Author.Tests.{not-true, not-false}
 use Rattle.lists.specs.LittleEndian.{leAt}
 use Rattle.records.specs.Kind.{unitOk, bodyLength, recordLength, isFor}
-use Rattle.records.proofs.ReadLaws.{unit-le, for-test, Whole, read-unit, read-no-header, read-kind, read-length, BodyCut, read-no-body, read-whole}
+use Rattle.records.proofs.KindLaws.{unit-le, for-test}
+use Rattle.records.proofs.ReadLaws.{Whole, read-unit, read-no-header, read-kind, read-length, BodyCut, read-no-body, read-whole}
 use borrow.Author.Needs.{needs}
 use Rattle.records.proofs.reading.read.Statement.{statement}
 use Rattle.records.proofs.reading.read.Tie as tie

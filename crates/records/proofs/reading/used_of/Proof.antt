@@ -24,7 +24,7 @@ enum-told-2 : tie.Need-enum-told-2
 enum-told-2 c = search needs
 
 returns : tie.Need-returns
-returns c = search needs
+returns c = rw (c .before .r .given .1)
 
 returns-2 : tie.Need-returns-2
 returns-2 c = search needs

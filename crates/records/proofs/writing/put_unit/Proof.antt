@@ -1,10 +1,18 @@
-use mathlib.Core.Path.{refl}
+use Prim.Native.Nat.{_+_, _-_}
 use native.Mathlib.Omega.{arith}
+use lib.ListN.{length}
+use Rattle.records.specs.Kind.{numberWidth}
 use Rattle.records.specs.Write.{unitRecord}
 use Rattle.records.proofs.WriteLaws.{put-number-rest}
 use borrow.Author.Needs.{needs}
 use Rattle.records.proofs.writing.put_unit.Statement.{statement}
 use Rattle.records.proofs.writing.put_unit.Tie as tie
+
+page-head-requires : tie.Need-page-head-requires
+page-head-requires c κs = search needs
+
+sub-n : tie.Need-sub-n
+sub-n c = search needs
 
 add-n : tie.Need-add-n
 add-n c = search needs
@@ -12,20 +20,14 @@ add-n c = search needs
 cast-n : tie.Need-cast-n
 cast-n c = search needs
 
-bytes2-requires : tie.Need-bytes2-requires
-bytes2-requires c κs = search needs
-
 put-head-requires : tie.Need-put-head-requires
 put-head-requires c κs = search needs
 
-slice-aggregate-copy-into : tie.Need-slice-aggregate-copy-into
-slice-aggregate-copy-into c = search needs
+put-number-requires : tie.Need-put-number-requires
+put-number-requires c κs = search needs
 
 copy-into-requires : tie.Need-copy-into-requires
 copy-into-requires c κs = search needs
-
-copy-into-requires-2 : tie.Need-copy-into-requires-2
-copy-into-requires-2 c κs = search needs
 
 same-length : tie.Need-same-length
 same-length c = search needs
@@ -33,21 +35,21 @@ same-length c = search needs
 returns : tie.Need-returns
 unfolding unitRecord
 returns c =
-    let s = c .before .before .before .before .before .before .before .before .before .before .before .before .before .before .before .before in
-    let a = s .args in
-    let body = a .body .now in
-    cc (put-number-rest _ (a .kind) (a .epoch) (a .out .now) (a .number) body refl (omega arith))
+    let a = c .before .before .before .before .before .before .before .before .before .before .before .before .before .before .before .args in
+    let h = c .before .before .before .before .before .before .before .before .before .before .before .before .page-head .ensures in
+    let e = put-number-rest (length (a .body .now) + (c .before .before .before .before .before .before .before .before .before .before .before .before .page-head .result - 4)) (a .kind) (a .epoch) (a .out .now) (numberWidth (a .wide)) (a .number) (a .body .now) (omega arith) (omega arith) in
+    cc (e, h)
 
 pub put-unit-spec : {M : Type 1} → statement M
 put-unit-spec =
     tie.close
     (tie.spec
+    page-head-requires
+    sub-n
     add-n
     cast-n
-    bytes2-requires
     put-head-requires
-    slice-aggregate-copy-into
+    put-number-requires
     copy-into-requires
-    copy-into-requires-2
     same-length
     returns)

@@ -19,7 +19,7 @@ with-detector-requires c κs = search needs
 
 with-page-requires : tie.Need-with-page-requires
 with-page-requires c κs =
-    subst (λ (x : Standby). (x .pages + 1 < 2 ^ 64) × (c .before .before .r .given .0 .1 .0 + 1 < 2 ^ 64)) (sym (c .with-detector .ensures))
+    subst (λ (x : Standby). (x .pages + 1 < 2 ^ 64) × (c .before .before .r .given .0 .1 .1 .0 + 1 < 2 ^ 64)) (sym (c .with-detector .ensures))
     (rw (c .before .before .r .given .1) at (c .before .before .before .before .before .before .before .pre))
 
 enum-known-r-2 : tie.Need-enum-known-r-2

@@ -14,7 +14,7 @@ use Rattle.standby.proofs.takeover.disk_write.Tie as tie
 write-requires : tie.Need-write-requires
 write-requires c κs =
     let a = c .before .before .before .before .before .args in
-    (λ e. standby-facts _ e .settings .shared .d-high, λ e. omega (arith, eqb-true (length (a .bytes .now)) (a .s .settings .u) e))
+    (λ e. omega (arith, standby-facts _ e .settings .shared .d-high), λ e. omega (arith, eqb-true (length (a .bytes .now)) (a .s .settings .u) e))
 
 same-length : tie.Need-same-length
 same-length c = search needs

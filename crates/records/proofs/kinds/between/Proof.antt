@@ -1,6 +1,6 @@
 use borrow.Author.Tests.{le-leb, lt-leb}
-use Rattle.records.proofs.reading.between.Statement.{statement}
-use Rattle.records.proofs.reading.between.Tie as tie
+use Rattle.records.proofs.kinds.between.Statement.{statement}
+use Rattle.records.proofs.kinds.between.Tie as tie
 
 returns : tie.Need-returns
 returns c = simp (lt-leb _ _ (c .if1 .taken))
