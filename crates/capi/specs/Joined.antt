@@ -1,10 +1,9 @@
 -- The ends of a world as a host lends them, and what it sends over the link. Assumes nothing.
 use Prim.Native.Nat.{ℕ}
-use mathlib.Core.Bool.{cond, _&&_}
+use mathlib.Core.Bool.{cond}
 use mathlib.Core.List.{List, []}
-use lib.Dec.{eqb}
 use lib.ListN.{take}
-use Rattle.records.specs.Kind.{isCommit}
+use Rattle.rules.specs.Reply.{commitAccepted}
 use Rattle.rules.specs.World.{World, PrimaryEnd, StandbyEnd}
 use Rattle.rules.specs.Step.{Stepped, stepped}
 use Rattle.capi.specs.Word.{answerNumber, answerValue}
@@ -40,4 +39,4 @@ toldStep κ answer = stepped κ (answerNumber answer) (answerValue answer)
 
 -- what a host sends back of a read: the first 8 bytes of the reply where a COMMIT was accepted, else nothing
 abbrev pub ackSent : (answer : ℕ) (reply : List ℕ) → List ℕ
-ackSent answer reply = cond (eqb (answerNumber answer) 0 && isCommit (answerValue answer)) (take 8 reply) []
+ackSent answer reply = cond (commitAccepted (answerNumber answer) (answerValue answer)) (take 8 reply) []

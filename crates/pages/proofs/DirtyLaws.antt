@@ -18,7 +18,7 @@ use Rattle.lists.proofs.PageLaws.{page-end, gather-none, gather-more, length-pa
 use Rattle.records.specs.Kind.{pageKind, numberWidth, recordLength}
 use Rattle.records.specs.Write.{pageRecord, fitsIn, unitFits, Written}
 use Rattle.records.proofs.FrameLaws.{length-unit}
-use Rattle.records.proofs.KindLaws.{width-range, page-length}
+use Rattle.records.proofs.KindLaws.{page-length}
 use Rattle.records.proofs.WriteLaws.{written-done}
 use Rattle.marks.specs.Mark.{marked, countMarks}
 use Rattle.marks.specs.Next.{NextMarked}
@@ -70,13 +70,12 @@ module _ (memory dirty : List ℕ) (wide : Bool) (u epoch : ℕ) where
   length-dirty m e = length-dirty-part m (omega arith)
 
 -- ---- one record: what comes back of the whole where the part from at on was lent to the writer of page p's record
-pub one-written : (memory out body after : List ℕ) (at n : ℕ) (wide : Bool) (u epoch p : ℕ) → at + recordLength u (pageKind wide) ≤ length out → p * u + u ≤ length memory → p < 256 ^ numberWidth wide → u ≤ 4096
+pub one-written : (memory out body after : List ℕ) (at n : ℕ) (wide : Bool) (u epoch p : ℕ) → at + recordLength u (pageKind wide) ≤ length out → p * u + u ≤ length memory → p < 256 ^ numberWidth wide → u + (4 + numberWidth wide) < 2 ^ 16
     → body ≡ part (p * u) u memory → Written (unitFits (numberWidth wide) p body) (pageRecord wide epoch p body) (midOf at (length out - at) out) after n
     → PutDone (pageRecord wide epoch p (page u memory p)) out at (putMid at (length out - at) out after) (at + n)
 unfolding page
 one-written memory out body after at n wide u epoch p room inside number size e w =
     let d = numberWidth wide in
-    let r = width-range wide in
     let k : length body ≡ u = rw e (length-part (p * u) u memory inside) in
     let j : length (pageRecord wide epoch p body) ≡ recordLength u (pageKind wide) = length-page-record wide u epoch p body k in
     let f : unitFits d p body ≡ true = join (fitsIn d p) (fitsIn 2 (length body + (4 + d))) (lt-ltb p (256 ^ d) number) (lt-ltb (length body + (4 + d)) (2 ^ 16) (omega arith)) in

@@ -21,7 +21,7 @@ fn write_one(
     epoch: u32,
     p: usize,
 ) -> usize
-    requires { ⌜ (at + recordLength u (pageKind wide) ≤ length (now out)) × (p * u + u ≤ length (now memory)) × (p < 256 ^ numberWidth wide) × (u ≤ 4096) ⌝ }
+    requires { ⌜ (at + recordLength u (pageKind wide) ≤ length (now out)) × (p * u + u ≤ length (now memory)) × (p < 256 ^ numberWidth wide) × (u + (4 + numberWidth wide) < 2 ^ 16) ⌝ }
     ensures { λ r. ⌜ PutDone (pageRecord wide epoch p (page u (now (memory .entry)) p)) (now (out .entry)) at (now (out .exit)) r ⌝ }
 {
     let body = lists::part_of(memory, p * u, u);
@@ -39,13 +39,18 @@ pub fn write_dirty(
     epoch: u32,
     m: usize,
 ) -> usize
-    requires { ⌜ (length (now memory) ≡ m * u) × (m ≤ 256 ^ numberWidth wide) × (u ≤ 4096) × (countMarks (now dirty) m * recordLength u (pageKind wide) ≤ length (now out)) ⌝ }
+    requires { ⌜ (length (now memory) ≡ m * u) × (m ≤ 256 ^ numberWidth wide) × (u + (4 + numberWidth wide) < 2 ^ 16) × (countMarks (now dirty) m * recordLength u (pageKind wide) ≤ length (now out)) ⌝ }
     ensures { λ r. ⌜ (now (out .exit) ≡ put (now (out .entry)) 0 (dirtyRecords (now (memory .entry)) (now (dirty .entry)) wide u epoch m)) × (r ≡ countMarks (now (dirty .entry)) m * recordLength u (pageKind wide)) ⌝ }
 {
     let mut at = 0;
     let mut place = marks::marked_from(dirty, 0, m);
     while place.page < m {
-        at = write_one(out, at, memory, wide, u, epoch, place.page);
+        // An arm for each width, which is then known to the compiler inside it (docs/BENCHMARKS.md).
+        if wide {
+            at = write_one(out, at, memory, true, u, epoch, place.page);
+        } else {
+            at = write_one(out, at, memory, false, u, epoch, place.page);
+        }
         place = marks::marked_after(dirty, place, m);
     }
     at

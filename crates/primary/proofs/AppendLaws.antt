@@ -9,11 +9,10 @@ use lib.ListN.{length}
 use borrow.Rule.Slice.PartMut.{putMid, midOf}
 use Rattle.lists.specs.Part.{put, PutDone}
 use Rattle.lists.proofs.PartLaws.{part-back-front, put-done-more, put-done-length}
-use Rattle.records.specs.Kind.{isWide, pageKind, numberWidth, processorBytes, recordLength}
+use Rattle.records.specs.Kind.{isWide, pageKind, numberWidth, processorBytes, recordLength, numberEnd, countsEnd}
 use Rattle.records.specs.Write.{stateRecord, commitRecord}
 use Rattle.records.proofs.FrameLaws.{length-state}
-use Rattle.records.proofs.KindLaws.{width-range, number-fits, two-fits}
-use Rattle.settings.proofs.RangeLaws.{page-record, state-commit-records}
+use Rattle.records.proofs.KindLaws.{width-range, page-length, number-fits, two-fits}
 use Rattle.marks.specs.Mark.{countMarks}
 use Rattle.marks.proofs.MarkLaws.{count-le}
 use Rattle.pages.specs.Dirty.{dirtyRecords}
@@ -21,7 +20,7 @@ use Rattle.pages.proofs.DirtyLaws.{length-dirty}
 use Rattle.rules.specs.declared.Primary.{Primary}
 use Rattle.rules.specs.Checkpoint.{dirtyCount, checkpointLength, checkpointBytes}
 use Rattle.rules.proofs.PrimaryFacts.{PrimaryFacts, primary-facts}
-use Rattle.rules.proofs.CheckpointLaws.{CheckpointRoom}
+use Rattle.rules.proofs.CheckpointLaws.{CheckpointRoom, checkpoint-length}
 
 -- the dirty pages, written into the part from at on
 pub pages-done : (memory dirty s after : List ℕ) (wide : Bool) (u epoch m at r : ℕ) → length memory ≡ m * u → at ≤ length s
@@ -33,16 +32,11 @@ pages-done memory dirty s after wide u epoch m at r e h w =
       position = ap (λ (x : ℕ). at + x) (w .1 ∙ sym (length-dirty memory dirty wide u epoch m e));
     }
 
--- the bytes of a checkpoint as the code reckons them
-pub checkpoint-length : (u : ℕ) (wide : Bool) (pages : ℕ) → checkpointLength u wide pages ≡ pages * (u + (8 + numberWidth wide)) + (72 + (8 + numberWidth wide + numberWidth wide))
-unfolding checkpointLength
-checkpoint-length u wide pages = rw (page-record u wide, state-commit-records u wide)
-
--- far below 2 ^ 64
+-- the bytes of a checkpoint, far below 2 ^ 64
 pub checkpoint-length-le : (u : ℕ) (wide : Bool) (pages : ℕ) → u ≤ 4096 → pages ≤ 65536 → checkpointLength u wide pages ≤ 65536 * 4108 + 88
 checkpoint-length-le u wide pages h k =
     let w = width-range wide in
-    let r : u + (8 + numberWidth wide) ≤ 4108 = omega arith in
+    let r : u + numberEnd wide ≤ 4108 = omega arith in
     omega (arith, checkpoint-length u wide pages, mul-le-mul k r)
 
 -- ---- an accepted checkpoint: each part has room behind those before it
@@ -60,15 +54,12 @@ module _ {p : Primary} {memory dirty stream processor : List ℕ} (fits : Checkp
   abbrev wide : Bool
   wide = isWide (p .settings .m)
 
-  abbrev end : ℕ
-  end = 8 + numberWidth wide + numberWidth wide
+  room : p .waiting + (dirtyCount p dirty * recordLength (p .settings .u) (pageKind wide) + (72 + countsEnd wide)) ≤ length stream
+  room = rw (page-length (p .settings .u) wide) (omega (arith, f .room, f .stream-is, checkpoint-length (p .settings .u) wide (dirtyCount p dirty)))
 
-  room : p .waiting + (dirtyCount p dirty * recordLength (p .settings .u) (pageKind wide) + (72 + end)) ≤ length stream
-  room = rw (page-record (p .settings .u) wide) (omega (arith, f .room, f .stream-is, checkpoint-length (p .settings .u) wide (dirtyCount p dirty)))
-
-  pub pages-room : (length memory ≡ p .settings .m * p .settings .u) × (p .settings .m ≤ 256 ^ numberWidth (isWide (p .settings .m))) × (p .settings .u ≤ 4096)
+  pub pages-room : (length memory ≡ p .settings .m * p .settings .u) × (p .settings .m ≤ 256 ^ numberWidth (isWide (p .settings .m))) × (p .settings .u + (4 + numberWidth (isWide (p .settings .m))) < 2 ^ 16)
       × (p .waiting + dirtyCount p dirty * recordLength (p .settings .u) (pageKind (isWide (p .settings .m))) ≤ length stream)
-  pages-room = let g = facts .settings .shared in (f .memory-is, omega (arith, number-fits (p .settings .m) (p .settings .m) (g .m-high) (omega arith)), g .u-high, omega (arith, room))
+  pages-room = let g = facts .settings .shared in (f .memory-is, omega (arith, number-fits (p .settings .m) (p .settings .m) (g .m-high) (omega arith)), omega (arith, width-range wide, g .u-high), omega (arith, room))
 
   -- the counts fit their fields
   pub counts-fit : (dirtyCount p dirty < 256 ^ numberWidth (isWide (p .settings .m))) × (p .blocks < 256 ^ numberWidth (isWide (p .settings .m)))
@@ -102,7 +93,7 @@ module _ {p : Primary} {memory dirty stream processor : List ℕ} (fits : Checkp
     state-fit = omega (arith, state-room, length-state (p .epoch) processor, fits .size)
 
     module _ (s₂ : List ℕ) (n₂ : ℕ) (d₂ : PutDone state s₁ n₁ s₂ n₂) where
-      pub commit-room : n₂ + (8 + numberWidth (isWide (p .settings .m)) + numberWidth (isWide (p .settings .m))) ≤ length s₂
+      pub commit-room : n₂ + countsEnd (isWide (p .settings .m)) ≤ length s₂
       commit-room =
           omega (arith, room, pages-length, d₁ .position, same₁, d₂ .position, length-state (p .epoch) processor, fits .size, put-done-length state s₁ s₂ n₁ n₂ state-fit d₂)
 

@@ -3,7 +3,7 @@ ghost use mathlib.Core.Path.{_≡_};
 ghost use Prim.Native.Nat.{_+_, _*_, _^_, _≤_, _<_};
 ghost use lib.ListN.{length};
 ghost use Rattle.lists.specs.Part.{PutDone};
-ghost use Rattle.records.specs.Kind.{pageKind, numberWidth, recordLength};
+ghost use Rattle.records.specs.Kind.{pageKind, numberWidth, recordLength, countsEnd};
 ghost use Rattle.records.specs.Write.{stateRecord, commitRecord};
 ghost use Rattle.marks.specs.Mark.{countMarks};
 ghost use Rattle.pages.specs.Dirty.{dirtyRecords};
@@ -11,7 +11,7 @@ ghost use Rattle.rules.specs.PrimaryState.{withEpochBlocksWaiting};
 ghost use Rattle.rules.specs.Checkpoint.{dirtyCount, checkpointLength, checkpointBytes, checkpointRefusal, checkpointNumber, checkpointReply, checkpointDirty, checkpointStream};
 use crate::ranges::memory_ok;
 use records::kinds::is_wide;
-use records::kinds::page_head;
+use records::kinds::number_end;
 use records::number;
 use rules::Primary;
 use rules::PrimaryReply;
@@ -23,7 +23,7 @@ fn checkpoint_length(u: usize, wide: bool, pages: usize) -> usize
     requires { ⌜ (u ≤ 4096) × (pages ≤ 65536) ⌝ }
     ensures { λ r. ⌜ r ≡ checkpointLength u wide pages ⌝ }
 {
-    pages * (u + page_head(wide)) + checkpoint_end(wide)
+    pages * (u + number_end(wide)) + checkpoint_end(wide)
 }
 
 // What a checkpoint of this many dirty pages is refused with: 1 13 15 19.
@@ -67,7 +67,7 @@ fn append_pages(
     epoch: u32,
     m: usize,
 ) -> usize
-    requires { ⌜ (length (now memory) ≡ m * u) × (m ≤ 256 ^ numberWidth wide) × (u ≤ 4096) × (at + countMarks (now dirty) m * recordLength u (pageKind wide) ≤ length (now stream)) ⌝ }
+    requires { ⌜ (length (now memory) ≡ m * u) × (m ≤ 256 ^ numberWidth wide) × (u + (4 + numberWidth wide) < 2 ^ 16) × (at + countMarks (now dirty) m * recordLength u (pageKind wide) ≤ length (now stream)) ⌝ }
     ensures { λ r. ⌜ PutDone (dirtyRecords (now (memory .entry)) (now (dirty .entry)) wide u epoch m) (now (stream .entry)) at (now (stream .exit)) r ⌝ }
 {
     let n = pages::write_dirty(&mut stream[at..], memory, dirty, wide, u, epoch, m);
@@ -92,7 +92,7 @@ fn append_commit(
     pages: usize,
     blocks: usize,
 ) -> usize
-    requires { ⌜ (pages < 256 ^ numberWidth wide) × (blocks < 256 ^ numberWidth wide) × (at + (8 + numberWidth wide + numberWidth wide) ≤ length (now stream)) ⌝ }
+    requires { ⌜ (pages < 256 ^ numberWidth wide) × (blocks < 256 ^ numberWidth wide) × (at + countsEnd wide ≤ length (now stream)) ⌝ }
     ensures { λ r. ⌜ PutDone (commitRecord wide epoch pages blocks) (now (stream .entry)) at (now (stream .exit)) r ⌝ }
 {
     let n = records::writing::write_commit(&mut stream[at..], wide, epoch, pages, blocks);

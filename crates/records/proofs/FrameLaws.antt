@@ -7,7 +7,7 @@ use native.Mathlib.Omega.{arith}
 use lib.ListN.{length, length-append}
 use Rattle.lists.specs.LittleEndian.{leBytes}
 use Rattle.lists.proofs.LittleEndianLaws.{length-leBytes}
-use Rattle.records.specs.Kind.{numberWidth}
+use Rattle.records.specs.Kind.{countsEnd}
 use Rattle.records.specs.Write.{frame, unitRecord, stateRecord, commitRecord, epochRecord}
 
 pub length-frame : (kind : ℕ) (body : List ℕ) → length (frame kind body) ≡ 4 + length body
@@ -22,7 +22,7 @@ pub length-state : (epoch : ℕ) (bytes : List ℕ) → length (stateRecord epoc
 unfolding stateRecord
 length-state epoch bytes = simp (length-frame, length-append, length-leBytes) (omega arith)
 
-pub length-commit : (wide : Bool) (epoch pages blocks : ℕ) → length (commitRecord wide epoch pages blocks) ≡ 8 + numberWidth wide + numberWidth wide
+pub length-commit : (wide : Bool) (epoch pages blocks : ℕ) → length (commitRecord wide epoch pages blocks) ≡ countsEnd wide
 unfolding commitRecord
 length-commit wide epoch pages blocks = simp (length-frame, length-append, length-leBytes) (omega arith)
 

@@ -1,17 +1,17 @@
 -- Laws of the kinds and their lengths: the range of U, which kinds go to which reader, and the two widths of PAGE and
 -- COMMIT. Assumes nothing.
 use mathlib.Core.Path.{_≡_, refl, sym, subst}
-use mathlib.Core.Bool.{Bool, true, false, _||_}
+use mathlib.Core.Bool.{Bool, true, false, _||_, not}
 use mathlib.Core.Logic.{_⊎_, inl, inr, ⊎-elim}
 use Prim.Native.Nat.{ℕ, zero, suc, _+_, _%_, _^_, _≤_, _<_}
 use native.Mathlib.Omega.{arith}
 use lib.Dec.{eqb}
-use borrow.Author.Tests.{ltb-false, eqb-true}
+use borrow.Author.Tests.{ltb-false, lt-ltb, le-ltb, eqb-true}
 use Rattle.lists.specs.Refusal.{within}
 use Rattle.lists.proofs.TestLaws.{both, eq-or-ne, within-facts}
 use Rattle.records.specs.declared.Reader.{Reader}
 use Rattle.records.specs.declared.Reader.the-variants.{Test, Standby, Primary}
-use Rattle.records.specs.Kind.{unitOk, PAGE, BLOCK, STATE, COMMIT, ACK, WIDEPAGE, WIDECOMMIT, isWide, pageKind, commitKind, numberWidth, isCommit, bodyLength, recordLength, isFor}
+use Rattle.records.specs.Kind.{unitOk, PAGE, BLOCK, STATE, COMMIT, ACK, WIDEPAGE, WIDECOMMIT, isWide, pageKind, commitKind, numberWidth, numberEnd, isCommit, bodyLength, recordLength, isFor, countsEnd}
 
 -- ---- the range of U, and the kinds
 pub unit-le : (u : ℕ) → unitOk u ≡ true → (64 ≤ u) × (u ≤ 4096)
@@ -101,7 +101,7 @@ kind-range = kind-cases (λ (k : ℕ). (PAGE ≤ k) × (k ≤ WIDECOMMIT)) page 
     commit false = (omega arith, omega arith)
     commit true = (omega arith, omega arith)
 
--- a kind that is neither of the two widths'
+-- a kind that is a PAGE, or a COMMIT, of neither width
 pub page-or : {kind : ℕ} → (kind ≡ PAGE → ⊥) → (kind ≡ WIDEPAGE → ⊥) → (wide : Bool) → kind ≡ pageKind wide → ⊥
 page-or f g false = f
 page-or f g true = g
@@ -133,6 +133,15 @@ pub commit-no-block : (wide : Bool) → eqb (commitKind wide) BLOCK ≡ false
 commit-no-block false = refl
 commit-no-block true = refl
 
+-- the other width's kinds are not for a standby
+pub other-page : (wide : Bool) → isFor (Standby wide) (pageKind (not wide)) ≡ false
+other-page false = refl
+other-page true = refl
+
+pub other-commit : (wide : Bool) → isFor (Standby wide) (commitKind (not wide)) ≡ false
+other-commit false = refl
+other-commit true = refl
+
 -- an ACK is not for a standby
 pub ack-not-for : (wide : Bool) → isFor (Standby wide) ACK ≡ false
 ack-not-for false = refl
@@ -145,15 +154,22 @@ width-range false = (omega arith, omega arith)
 width-range true = (omega arith, omega arith)
 
 -- the bytes of a PAGE and of a COMMIT
-pub page-length : (u : ℕ) (wide : Bool) → recordLength u (pageKind wide) ≡ 8 + numberWidth wide + u
+pub page-length : (u : ℕ) (wide : Bool) → recordLength u (pageKind wide) ≡ u + numberEnd wide
 unfolding recordLength bodyLength
 page-length u false = omega arith
 page-length u true = omega arith
 
-pub commit-length : (u : ℕ) (wide : Bool) → recordLength u (commitKind wide) ≡ 8 + numberWidth wide + numberWidth wide
+pub commit-length : (u : ℕ) (wide : Bool) → recordLength u (commitKind wide) ≡ countsEnd wide
 unfolding recordLength bodyLength
 commit-length u false = refl
 commit-length u true = refl
+
+-- up to 4,096 memory pages are narrow, more are wide
+pub narrow-of : (m : ℕ) → m ≤ 4096 → isWide m ≡ false
+narrow-of m h = le-ltb 4096 m h
+
+pub wide-of : (m : ℕ) → 4096 < m → isWide m ≡ true
+wide-of m h = lt-ltb 4096 m h
 
 -- what is at most M fits the field that M calls for
 pub number-fits : (m n : ℕ) → m ≤ 65536 → n ≤ m → n < 256 ^ numberWidth (isWide m)
@@ -168,7 +184,7 @@ pub two-fits : (wide : Bool) (n : ℕ) → n < 2 ^ 16 → n < 256 ^ numberWidth 
 two-fits false n h = h
 two-fits true n h = omega arith
 
--- each kind has an epoch, and none is longer than a PAGE of the largest U
+-- each kind has an epoch, and none is longer than a wide PAGE of the largest U
 pub record-ge : (u kind : ℕ) → isFor Test kind ≡ true → 8 ≤ recordLength u kind
 unfolding recordLength bodyLength
 record-ge u =

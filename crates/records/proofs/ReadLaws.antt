@@ -19,10 +19,10 @@ use Rattle.records.specs.declared.Reader.the-variants.{Test}
 use Rattle.records.specs.declared.Record.{Record}
 use Rattle.records.specs.declared.Record.the-variants.{Page, Block, State, Commit, Ack, Short, Refused}
 use Rattle.records.specs.Number.{badKind, badLength}
-use Rattle.records.specs.Kind.{unitOk, PAGE, BLOCK, STATE, ACK, WIDECOMMIT, pageKind, commitKind, numberWidth, processorBytes, bodyLength, headerLength, recordLength, isFor}
+use Rattle.records.specs.Kind.{unitOk, PAGE, BLOCK, STATE, ACK, WIDECOMMIT, pageKind, commitKind, numberWidth, numberEnd, processorBytes, bodyLength, headerLength, recordLength, isFor}
 use Rattle.records.specs.Cases.{onAck, byKind, onFound}
 use Rattle.records.specs.Read.{cursor, pageAt, commitAt, fieldsOf, readRecord, cutShort, numberOf, otherRefusal, kindOf, cursorOf, usedOf, missingOf}
-use Rattle.records.proofs.KindLaws.{for-test, kind-cases, kind-range, page-length, commit-length, record-le}
+use Rattle.records.proofs.KindLaws.{for-test, kind-cases, kind-range, page-length, record-le}
 use Rattle.records.proofs.Record.{the-type}
 
 -- ---- the order of reading: one law for each answer
@@ -231,10 +231,10 @@ read-facts reader u s =
     (λ v h. (v, inl (h, refl)))
     (λ c. (c .unit, inr (c, refl)))
     (λ w. fields-cases (ReadFacts reader u s) u (leAt 2 s 2) s (for-test reader (leAt 2 s 2) (w .kind))
-    (λ wide e. found w e (8 + numberWidth wide) u (page-length u wide))
+    (λ wide e. found w e (numberEnd wide) u (omega (arith, page-length u wide)))
     (λ e. found w e 10 u (omega arith))
     (λ e. found w e 8 processorBytes refl)
-    (λ wide e. found w e (8 + numberWidth wide + numberWidth wide) 0 (omega (arith, commit-length u wide)))
+    (λ wide e. found w e (recordLength u (commitKind wide)) 0 (omega arith))
     (λ e. found w e 8 0 refl))
   where
     found : Whole reader u s → {kind : ℕ} → leAt 2 s 2 ≡ kind → (start size : ℕ) → recordLength u kind ≡ start + size
@@ -280,10 +280,10 @@ read-within reader u s = read-ranges reader u s .within
 
 -- of bytes, each number that is read fits its field
 abbrev pub FieldsFit : Record → Type 0
-FieldsFit (Page w e p c) = (e < 2 ^ 32) × (p < 2 ^ 32)
+FieldsFit (Page w e p c) = (e < 2 ^ 32) × (p < 256 ^ numberWidth w)
 FieldsFit (Block e n c) = (e < 2 ^ 32) × (n < 2 ^ 16)
 FieldsFit (State e c) = e < 2 ^ 32
-FieldsFit (Commit w e p b c) = (e < 2 ^ 32) × (p < 2 ^ 32) × (b < 2 ^ 32)
+FieldsFit (Commit w e p b c) = (e < 2 ^ 32) × (p < 256 ^ numberWidth w) × (b < 256 ^ numberWidth w)
 FieldsFit (Ack e c) = e < 2 ^ 32
 FieldsFit (Short n) = Unit {0}
 FieldsFit (Refused n) = Unit {0}
@@ -293,8 +293,5 @@ read-fits reader u s h =
     let e = leAt-lt 4 4 s h in
     read-cases FieldsFit reader u s (λ v. tt) (λ v k. tt) (λ v k. tt) (λ v h. tt) (λ c. tt)
     (λ w. fields-cases FieldsFit u (leAt 2 s 2) s (for-test reader (leAt 2 s 2) (w .kind))
-    (λ wide k. (e, number wide 8)) (λ k. (e, leAt-lt 2 8 s h)) (λ k. e) (λ wide k. (e, number wide 8, number wide (8 + numberWidth wide))) (λ k. e))
-  where
-    number : (wide : Bool) (i : ℕ) → leAt (numberWidth wide) s i < 2 ^ 32
-    number false i = omega (arith, leAt-lt 2 i s h)
-    number true i = leAt-lt 4 i s h
+    (λ wide k. (e, leAt-lt (numberWidth wide) 8 s h)) (λ k. (e, leAt-lt 2 8 s h)) (λ k. e)
+    (λ wide k. (e, leAt-lt (numberWidth wide) 8 s h, leAt-lt (numberWidth wide) (numberEnd wide) s h)) (λ k. e))

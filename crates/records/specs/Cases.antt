@@ -1,6 +1,6 @@
 -- The cases of a record: one kind with its own fields, and the rest once. A definition that some kinds matter to is
--- written with these; a new kind adds a case to each line here. The width of a PAGE or a COMMIT is not handed on: "Every
--- other rule treats 8 as 1 and 9 as 4" (document 02, Job 7). Assumes nothing.
+-- written with these; a new kind adds a case to each line here. The width of a PAGE or a COMMIT is not handed on:
+-- "Every other rule treats 8 as 1 and 9 as 4" (document 02, Job 7). Assumes nothing.
 use Prim.Native.Nat.{ℕ}
 use Rattle.records.specs.declared.Cursor.{Cursor}
 use Rattle.records.specs.declared.Record.{Record}

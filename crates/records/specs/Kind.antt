@@ -1,4 +1,5 @@
--- The kinds of records and their lengths (document 01, "Records"), and the range of U. Assumes nothing.
+-- The kinds of records and their lengths (document 01, "Records"; document 02, Job 7), and the range of U. Assumes
+-- nothing.
 use Prim.Native.Nat.{ℕ, _+_, _%_}
 use mathlib.Core.Bool.{Bool, true, false, cond, _&&_, _||_}
 use lib.Dec.{ltb, eqb}
@@ -62,6 +63,14 @@ abbrev pub numberWidth : (wide : Bool) → ℕ
 numberWidth false = 2
 numberWidth true = 4
 
+-- where the first of them ends: behind the header, the epoch and itself
+abbrev pub numberEnd : (wide : Bool) → ℕ
+numberEnd wide = 8 + numberWidth wide
+
+-- and the second, with which a COMMIT ends
+abbrev pub countsEnd : (wide : Bool) → ℕ
+countsEnd wide = numberEnd wide + numberWidth wide
+
 -- a kind is a COMMIT, of either width: "Every other rule treats 8 as 1 and 9 as 4"
 abbrev pub isCommit : ℕ → Bool
 isCommit kind = eqb kind COMMIT || eqb kind WIDECOMMIT
@@ -70,8 +79,8 @@ isCommit kind = eqb kind COMMIT || eqb kind WIDECOMMIT
 abbrev pub processorBytes : ℕ
 processorBytes = 64
 
--- the lengths of the bodies: of a PAGE or a BLOCK besides its U bytes, of a STATE, a COMMIT, and of a record with an
--- epoch alone
+-- the lengths of the bodies: of a PAGE or a BLOCK besides its U bytes, of a STATE, a COMMIT, of a wide PAGE besides its
+-- U bytes, a wide COMMIT, and of a record with an epoch alone
 abbrev pub unitBody : ℕ
 unitBody = 6
 

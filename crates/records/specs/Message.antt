@@ -1,13 +1,13 @@
 -- A record as it is meant, with its bytes: for statements about whole streams. It has no width: what is sent has one,
 -- that which M calls for (document 02, Job 7). Assumes nothing.
-use Prim.Native.Nat.{ℕ, _+_, _<_, _^_}
+use Prim.Native.Nat.{ℕ, _<_, _^_}
 use mathlib.Core.Path.{_≡_}
 use mathlib.Core.Bool.{Bool}
 use mathlib.Core.List.{List, [], _∷_, _++_}
 use lib.ListN.{length}
 use Rattle.records.specs.declared.Record.{Record}
 use Rattle.records.specs.declared.Record.the-variants.{Page, Block, State, Commit, Ack}
-use Rattle.records.specs.Kind.{BLOCK, STATE, ACK, pageKind, commitKind, numberWidth, processorBytes, recordLength}
+use Rattle.records.specs.Kind.{BLOCK, STATE, ACK, pageKind, commitKind, numberWidth, numberEnd, processorBytes, recordLength}
 use Rattle.records.specs.Read.{cursor}
 use Rattle.records.specs.Write.{pageRecord, blockRecord, stateRecord, commitRecord, ackRecord}
 
@@ -40,11 +40,10 @@ encodeAll wide (m ∷ ms) = encode wide m ++ encodeAll wide ms
 
 -- what reading it answers
 abbrev pub readAs : ℕ → (wide : Bool) → Message → Record
-readAs u wide (page e p bs) = Page wide e p (cursor (8 + numberWidth wide) (recordLength u (pageKind wide)))
+readAs u wide (page e p bs) = Page wide e p (cursor (numberEnd wide) (recordLength u (pageKind wide)))
 readAs u wide (block e n bs) = Block e n (cursor 10 (recordLength u BLOCK))
 readAs u wide (state e bs) = State e (cursor 8 (recordLength u STATE))
-readAs u wide (commit e p b) =
-    Commit wide e p b (cursor (8 + numberWidth wide + numberWidth wide) (recordLength u (commitKind wide)))
+readAs u wide (commit e p b) = let end = recordLength u (commitKind wide) in Commit wide e p b (cursor end end)
 readAs u wide (ack e) = Ack e (cursor 8 (recordLength u ACK))
 
 -- its numbers fit their fields, and its bytes are as many as they should be

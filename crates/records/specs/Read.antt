@@ -1,5 +1,5 @@
 -- Reading one record: what stands at the head of some bytes, for a reader. Assumes nothing.
-use Prim.Native.Nat.{ℕ, _+_, _-_}
+use Prim.Native.Nat.{ℕ, _-_}
 use mathlib.Core.Bool.{Bool, true, false, cond}
 use mathlib.Core.List.{List}
 use lib.Dec.{leb, eqb}
@@ -11,7 +11,7 @@ use Rattle.records.specs.declared.Record.{Record}
 use Rattle.records.specs.declared.Record.the-variants.{Page, Block, State, Commit, Ack, Short, Refused}
 use Rattle.records.specs.Number.{outOfRange, badKind, badLength}
 use Rattle.records.specs.Cases.{onAck, onFound}
-use Rattle.records.specs.Kind.{unitOk, PAGE, BLOCK, STATE, COMMIT, ACK, WIDEPAGE, WIDECOMMIT, pageKind, commitKind, numberWidth, bodyLength, recordLength, headerLength, isFor}
+use Rattle.records.specs.Kind.{unitOk, PAGE, BLOCK, STATE, COMMIT, ACK, WIDEPAGE, WIDECOMMIT, pageKind, commitKind, numberWidth, numberEnd, bodyLength, recordLength, headerLength, isFor}
 
 -- a field of bytes from start on, up to the end of its record
 abbrev pub cursor : ℕ → ℕ → Cursor
@@ -20,13 +20,13 @@ cursor start end = record { start = start; end = end }
 -- a PAGE, and a COMMIT, of either width
 abbrev pub pageAt : ℕ → Bool → List ℕ → Record
 pageAt u wide s =
-    let n = numberWidth wide in
-    Page wide (leAt 4 s 4) (leAt n s 8) (cursor (8 + n) (recordLength u (pageKind wide)))
+    Page wide (leAt 4 s 4) (leAt (numberWidth wide) s 8) (cursor (numberEnd wide) (recordLength u (pageKind wide)))
 
 abbrev pub commitAt : ℕ → Bool → List ℕ → Record
 commitAt u wide s =
     let n = numberWidth wide in
-    Commit wide (leAt 4 s 4) (leAt n s 8) (leAt n s (8 + n)) (cursor (8 + n + n) (recordLength u (commitKind wide)))
+    let end = recordLength u (commitKind wide) in
+    Commit wide (leAt 4 s 4) (leAt n s 8) (leAt n s (numberEnd wide)) (cursor end end)
 
 -- the record of a kind whose bytes are all there: each kind with its own fields
 unfoldable pub fieldsOf : ℕ → ℕ → List ℕ → Record

@@ -2,7 +2,7 @@
 ghost use mathlib.Core.Path.{_≡_};
 ghost use Prim.Native.Nat.{_+_, _^_, _<_};
 ghost use Rattle.lists.specs.Refusal.{within};
-ghost use Rattle.records.specs.Kind.{isWide, pageKind, commitKind, numberWidth, isFor};
+ghost use Rattle.records.specs.Kind.{isWide, pageKind, commitKind, numberWidth, numberEnd, isFor, countsEnd};
 use crate::ACK;
 use crate::BLOCK;
 use crate::COMMIT;
@@ -38,16 +38,16 @@ pub(crate) fn commit_kind(wide: bool) -> u32
     if wide { WIDE_COMMIT } else { COMMIT }
 }
 
-// The bytes of a PAGE in front of its U bytes.
-pub fn page_head(wide: bool) -> usize
-    ensures { λ r. ⌜ r ≡ 8 + numberWidth wide ⌝ }
+// Where the first number of a record ends: a PAGE's U bytes, and a COMMIT's second count, stand from here on.
+pub fn number_end(wide: bool) -> usize
+    ensures { λ r. ⌜ r ≡ numberEnd wide ⌝ }
 {
     if wide { WIDE_PAGE_RECORD } else { UNIT_RECORD }
 }
 
 // The bytes of a COMMIT.
 pub fn commit_length(wide: bool) -> usize
-    ensures { λ r. ⌜ r ≡ 8 + numberWidth wide + numberWidth wide ⌝ }
+    ensures { λ r. ⌜ r ≡ countsEnd wide ⌝ }
 {
     if wide {
         WIDE_COMMIT_RECORD

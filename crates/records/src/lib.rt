@@ -11,7 +11,8 @@ pub struct Cursor {
     pub end: usize,
 }
 
-// Who reads: the record test passes kinds 1 to 5, 8 and 9; the standby 1 to 4, or, where it is wide, 8, 2, 3 and 9; the primary 5.
+// Who reads: the record test passes kinds 1 to 5, 8 and 9, the standby 1 to 4 or, where it is wide, 8, 2, 3 and 9, the
+// primary 5.
 pub enum Reader {
     Test,
     Standby { wide: bool },
@@ -85,7 +86,8 @@ pub const MOST_NARROW_PAGES: usize = 4096;
 // Bytes of a processor state.
 pub const PROCESSOR_BYTES: usize = 64;
 
-// The lengths of the bodies: of a PAGE or a BLOCK besides its U bytes, of a STATE, a COMMIT, and of a record with an epoch alone.
+// The lengths of the bodies: of a PAGE or a BLOCK besides its U bytes, of a STATE, a COMMIT, of a wide PAGE besides its
+// U bytes, a wide COMMIT, and of a record with an epoch alone.
 pub const UNIT_BODY: usize = 6;
 
 pub const STATE_BODY: usize = 68;

@@ -31,7 +31,7 @@ use crate::WIDE_PAGE_BODY;
 use crate::kinds::commit_kind;
 use crate::kinds::commit_length;
 use crate::kinds::is_for;
-use crate::kinds::page_head;
+use crate::kinds::number_end;
 use crate::kinds::page_kind;
 use crate::number;
 use lists::field::get2;
@@ -85,7 +85,7 @@ fn page_at(u: usize, wide: bool, s: &[u8]) -> Record
     requires { ⌜ (u ≤ 4096) × (recordLength u (pageKind wide) ≤ length (now s)) ⌝ }
     ensures { λ r. ⌜ r ≡ pageAt u wide (now (s .entry)) ⌝ }
 {
-    let start = page_head(wide);
+    let start = number_end(wide);
     Record::Page {
         wide,
         epoch: get4(s, 4),
@@ -106,7 +106,7 @@ fn commit_at(u: usize, wide: bool, s: &[u8]) -> Record
         wide,
         epoch: get4(s, 4),
         pages: number_at(s, EPOCH_RECORD, wide),
-        blocks: number_at(s, page_head(wide), wide),
+        blocks: number_at(s, number_end(wide), wide),
         at: Cursor { start: end, end },
     }
 }

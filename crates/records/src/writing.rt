@@ -7,7 +7,7 @@ ghost use mathlib.Core.List.{_++_};
 ghost use lib.ListN.{length};
 ghost use Rattle.lists.specs.LittleEndian.{leBytes};
 ghost use Rattle.lists.specs.Part.{put};
-ghost use Rattle.records.specs.Kind.{numberWidth};
+ghost use Rattle.records.specs.Kind.{numberWidth, numberEnd};
 ghost use Rattle.records.specs.Write.{unitRecord, pageRecord, blockRecord, stateRecord, commitRecord, epochRecord, ackRecord, activationRecord, unitFits, countsFit, Written};
 use crate::ACK;
 use crate::ACTIVATION;
@@ -22,7 +22,7 @@ use crate::STATE_RECORD;
 use crate::kinds::commit_kind;
 use crate::kinds::commit_length;
 use crate::kinds::most_number;
-use crate::kinds::page_head;
+use crate::kinds::number_end;
 use crate::kinds::page_kind;
 use lists::field::bytes2;
 use lists::field::bytes4;
@@ -60,10 +60,10 @@ fn put_number(out: &mut [u8], at: usize, wide: bool, number: u32)
 }
 
 fn put_unit(out: &mut [u8], kind: u32, wide: bool, epoch: u32, number: u32, body: &[u8])
-    requires { ⌜ (length (now body) + (4 + numberWidth wide) < 2 ^ 16) × (length (now body) + (8 + numberWidth wide) ≤ length (now out)) ⌝ }
+    requires { ⌜ (length (now body) + (4 + numberWidth wide) < 2 ^ 16) × (length (now body) + numberEnd wide ≤ length (now out)) ⌝ }
     ensures { λ _. ⌜ now (out .exit) ≡ put (now (out .entry)) 0 (unitRecord kind (numberWidth wide) epoch number (now (body .entry))) ⌝ }
 {
-    let head = page_head(wide);
+    let head = number_end(wide);
     let n = (body.len() + (head - HEADER_LENGTH)) as u32;
     put_head(out, n, kind, epoch);
     put_number(out, EPOCH_RECORD, wide, number);
@@ -81,7 +81,7 @@ fn write_unit(
     ensures { λ r. ⌜ Written (unitFits (numberWidth wide) number (now (body .entry))) (unitRecord kind (numberWidth wide) epoch number (now (body .entry))) (now (out .entry)) (now (out .exit)) r ⌝ }
 {
     let n = body.len();
-    let head = page_head(wide);
+    let head = number_end(wide);
     if most_number(wide) < number {
         return 0;
     }
@@ -139,7 +139,7 @@ pub fn write_commit(out: &mut [u8], wide: bool, epoch: u32, pages: usize, blocks
     }
     put_head(out, (n - HEADER_LENGTH) as u32, commit_kind(wide), epoch);
     put_number(out, EPOCH_RECORD, wide, pages as u32);
-    put_number(out, page_head(wide), wide, blocks as u32);
+    put_number(out, number_end(wide), wide, blocks as u32);
     n
 }
 

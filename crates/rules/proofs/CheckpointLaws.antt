@@ -1,15 +1,16 @@
 -- Laws of the checkpoint: what acceptance says and what it needs, how many bytes are appended, and that the ranges are kept. Assumes nothing.
 use mathlib.Core.Path.{_≡_, refl, _∙_}
-use mathlib.Core.Bool.{true, _&&_}
+use mathlib.Core.Bool.{Bool, true, false, _&&_}
 use mathlib.Core.List.{List, _++_}
-use Prim.Native.Nat.{ℕ, _+_, _≤_, _<_}
+use Prim.Native.Nat.{ℕ, _+_, _*_, _≤_, _<_}
 use native.Mathlib.Omega.{arith}
 use lib.Dec.{eqb}
 use lib.ListN.{length, length-append}
 use borrow.Author.Tests.{leb-true, le-leb, ltb-true, lt-ltb, eqb-true, eq-eqb}
 use Rattle.lists.proofs.TestLaws.{both, join, accepted, accepts}
-use Rattle.records.specs.Kind.{isWide, processorBytes}
+use Rattle.records.specs.Kind.{isWide, numberEnd, countsEnd, processorBytes}
 use Rattle.records.specs.Write.{stateRecord, commitRecord}
+use Rattle.records.proofs.KindLaws.{page-length}
 use Rattle.records.proofs.FrameLaws.{length-state, length-commit}
 use Rattle.settings.specs.Range.{mostEpoch}
 use Rattle.settings.proofs.RangeLaws.{state-commit-records}
@@ -84,6 +85,17 @@ module _ (p : Primary) (memory dirty stream pages : ℕ) where
   unfolding checkpointReply
   checkpoint-reached r =
       pick-cases PrimaryReached (checkpointRefusal p memory dirty stream pages) (checkpointState p pages) p (λ e. checkpoint-state-reached (checkpoint-accepted e) r) (λ e. r)
+
+-- the bytes in numbers, of either width
+pub checkpoint-length : (u : ℕ) (wide : Bool) (pages : ℕ) → checkpointLength u wide pages ≡ pages * (u + numberEnd wide) + (72 + countsEnd wide)
+unfolding checkpointLength
+checkpoint-length u wide pages = rw (page-length u wide, state-commit-records u wide)
+
+pub checkpoint-length-narrow : (u pages : ℕ) → checkpointLength u false pages ≡ pages * (u + 10) + 84
+checkpoint-length-narrow u pages = checkpoint-length u false pages
+
+pub checkpoint-length-wide : (u pages : ℕ) → checkpointLength u true pages ≡ pages * (u + 12) + 88
+checkpoint-length-wide u pages = checkpoint-length u true pages
 
 -- the bytes appended are as many as the refusal reckons
 pub length-checkpoint : (p : Primary) (memory dirty processor : List ℕ) → length memory ≡ memoryLength p → length processor ≡ processorBytes

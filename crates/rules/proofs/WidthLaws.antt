@@ -1,9 +1,9 @@
--- Laws of the two widths (document 02, Job 7): a header of a kind that the standby's M does not call for is refused with
--- 6, whatever follows. Assumes nothing.
+-- Laws of the two widths (document 02, Job 7): a header of a kind that the standby's M does not call for is refused
+-- with 6, whatever follows. Assumes nothing.
 use Prim.Native.Nat.{ℕ, _≤_}
 use mathlib.Core.Path.{_≡_, refl, sym, ap, _∙_}
 use mathlib.Core.Logic.{_⊎_, ⊎-elim}
-use mathlib.Core.Bool.{Bool, true, false, not}
+use mathlib.Core.Bool.{false, not}
 use mathlib.Core.List.{List}
 use lib.ListN.{length}
 use Rattle.lists.specs.LittleEndian.{leAt}
@@ -12,6 +12,7 @@ use Rattle.records.specs.declared.Record.the-variants as record-of
 use Rattle.records.specs.Kind.{isWide, pageKind, commitKind, headerLength, isFor}
 use Rattle.records.specs.Number.{badKind}
 use Rattle.records.specs.Read.{readRecord}
+use Rattle.records.proofs.KindLaws.{other-page, other-commit}
 use Rattle.records.proofs.ReadLaws.{read-kind}
 use Rattle.settings.proofs.RangeLaws.{shared-unit}
 use Rattle.rules.specs.declared.Standby.{Standby}
@@ -22,15 +23,6 @@ use Rattle.rules.specs.Judge.{readerOf}
 use Rattle.rules.specs.Read.{readReply}
 use Rattle.rules.proofs.StandbyFacts.{standby-facts}
 use Rattle.rules.proofs.JudgeLaws.{ReadReady, read-lent-of, judged-number}
-
--- the other width's kinds are not for it
-pub other-page : (wide : Bool) → isFor (reader.Standby wide) (pageKind (not wide)) ≡ false
-other-page false = refl
-other-page true = refl
-
-pub other-commit : (wide : Bool) → isFor (reader.Standby wide) (commitKind (not wide)) ≡ false
-other-commit false = refl
-other-commit true = refl
 
 module _ (s : Standby) (l : ReadLent) (bytes : List ℕ) (ready : ReadReady s l) (header : headerLength ≤ length bytes) where
   -- "the others give 6"

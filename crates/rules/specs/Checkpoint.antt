@@ -6,10 +6,10 @@ use lib.Dec.{leb, ltb, eqb}
 use lib.ListN.{length}
 use Rattle.lists.specs.Refusal.{Test, test, refusal, pick}
 use Rattle.lists.specs.Part.{put}
-use Rattle.records.specs.Kind.{STATE, isWide, pageKind, commitKind, recordLength}
+use Rattle.records.specs.Kind.{isWide, pageKind, recordLength}
 use Rattle.records.specs.Write.{stateRecord, commitRecord}
 use Rattle.records.specs.Number.{outOfRange, wrongMode, streamFull, lastEpoch}
-use Rattle.settings.specs.Range.{mostEpoch}
+use Rattle.settings.specs.Range.{mostEpoch, checkpointEnd}
 use Rattle.marks.specs.Mark.{countMarks, cleared}
 use Rattle.pages.specs.Dirty.{dirtyRecords}
 use Rattle.rules.specs.declared.Primary.{Primary}
@@ -23,7 +23,7 @@ dirtyCount p dirty = countMarks dirty (p .settings .m)
 
 -- the bytes that a checkpoint of this many pages appends
 unfoldable pub checkpointLength : ℕ → (wide : Bool) → ℕ → ℕ
-checkpointLength u wide pages = pages * recordLength u (pageKind wide) + (recordLength u STATE + recordLength u (commitKind wide))
+checkpointLength u wide pages = pages * recordLength u (pageKind wide) + checkpointEnd u wide
 
 -- "appends every dirty page, STATE and COMMIT", "COMMIT with the counts"
 unfoldable pub checkpointBytes : Primary → List ℕ → List ℕ → List ℕ → List ℕ

@@ -4,8 +4,9 @@
 use Prim.Native.Nat.{ℕ}
 use mathlib.Core.Path.{_≡_}
 use Rattle.lists.specs.Refusal.{pick}
-use mathlib.Core.Bool.{cond}
+use mathlib.Core.Bool.{Bool, cond, _&&_}
 use lib.Dec.{eqb}
+use Rattle.records.specs.Kind.{isCommit}
 use Rattle.records.specs.Cases.{onFound}
 use Rattle.records.specs.Read.{cutShort, numberOf as number, valueOf as value, usedOf as used, missingOf as missing}
 use Rattle.records.specs.declared.Record.{Record}
@@ -44,6 +45,10 @@ abbrev pub missingOf : Answer → ℕ
 missingOf (Accepted value used) = 0
 missingOf (Short missing) = missing
 missingOf (Refused number) = 0
+
+-- a COMMIT was accepted, by the number and the value of a read
+abbrev pub commitAccepted : (number value : ℕ) → Bool
+commitAccepted number value = eqb number 0 && isCommit value
 
 -- ---- calls that read a record: judged is the record where it is accepted, else cut short or the refusal
 

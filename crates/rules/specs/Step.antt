@@ -1,13 +1,12 @@
 -- One call on the world: the ends' definitions applied to it. What travels is what the buffers then hold. Assumes
 -- nothing.
 use Prim.Native.Nat.{ℕ}
-use mathlib.Core.Bool.{cond, _&&_}
+use mathlib.Core.Bool.{cond}
 use mathlib.Core.List.{List, [], _++_}
-use lib.Dec.{eqb}
 use lib.ListN.{length, take, drop}
-use Rattle.records.specs.Kind.{ACK, isCommit, recordLength}
+use Rattle.records.specs.Kind.{ACK, recordLength}
 use Rattle.rules.specs.declared.StandbyAnswer.{StandbyAnswer}
-use Rattle.rules.specs.Reply.{numberOf, valueOf, usedOf}
+use Rattle.rules.specs.Reply.{numberOf, valueOf, usedOf, commitAccepted}
 use Rattle.rules.specs.PrimaryWrites.{memoryWriteReply, memoryWriteMemory, memoryWriteDirty, diskWriteReply, diskWriteDisk, diskWriteStream}
 use Rattle.rules.specs.Packets.{packetReply, packetHeld, takeReply, takeHeld, takeDestination}
 use Rattle.rules.specs.Checkpoint.{dirtyCount, checkpointReply, checkpointDirty, checkpointStream}
@@ -174,7 +173,7 @@ stepPrimaryTick w =
 -- "the ACKs that accepted COMMITs wrote"
 abbrev pub ackWritten : StandbyAnswer → List ℕ → List ℕ
 ackWritten r reply =
-    cond (eqb (numberOf (r .answer)) 0 && isCommit (valueOf (r .answer))) (take (recordLength (r .state .settings .u) ACK) reply) []
+    cond (commitAccepted (numberOf (r .answer)) (valueOf (r .answer))) (take (recordLength (r .state .settings .u) ACK) reply) []
 
 abbrev pub stepRead : World → ℕ → List ℕ → Stepped
 stepRead w n reply =

@@ -1,8 +1,8 @@
 -- An accepted checkpoint keeps the invariant. Assumes nothing.
-use Prim.Native.Nat.{ℕ, _+_, _≤_, _<_, _^_}
+use Prim.Native.Nat.{ℕ, _+_, _≤_}
 use mathlib.Core.Path.{_≡_, refl, sym, ap, ap₂, _∙_, subst}
 use mathlib.Core.Bool.{false}
-use mathlib.Core.List.{List, [], _∷_, _++_, append-nil, append-assoc}
+use mathlib.Core.List.{List, [], _∷_, _++_}
 use native.Mathlib.Omega.{arith}
 use lib.ListN.{length, length-append}
 use lib.Seq.{drop-append-le}
@@ -10,21 +10,18 @@ use borrow.Author.Tests.{not-true, eq-eqb}
 use Rattle.lists.specs.Part.{put}
 use Rattle.lists.proofs.TestLaws.{accepted}
 use Rattle.lists.proofs.PartLaws.{length-put}
-use Rattle.records.specs.Kind.{isWide, numberWidth}
+use Rattle.records.specs.Kind.{isWide}
 use Rattle.records.specs.Write.{stateRecord, commitRecord}
-use Rattle.records.specs.Message.{Message, encode, encodeAll}
+use Rattle.records.specs.Message.{Message, encodeAll}
 use Rattle.records.specs.Message as message
-use Rattle.records.proofs.KindLaws.{for-state, for-commit, number-fits, two-fits}
-use Rattle.records.proofs.MessageLaws.{encodeAll-append}
 use Rattle.settings.specs.declared.Settings.{Settings}
 use Rattle.settings.specs.declared.PrimarySettings.{PrimarySettings}
 use Rattle.settings.specs.Range.{ofPrimary}
 use Rattle.marks.specs.Mark.{countMarks, cleared}
-use Rattle.marks.proofs.MarkLaws.{length-cleared, count-le}
+use Rattle.marks.proofs.MarkLaws.{length-cleared}
 use Rattle.pages.specs.Clean.{Clean}
 use Rattle.pages.specs.Dirty.{dirtyRecords}
 use Rattle.pages.specs.DirtyMessages.{dirtyMessages}
-use Rattle.pages.proofs.DirtyMessagesLaws.{dirty-encode, messages-fit}
 use Rattle.pages.proofs.CleanLaws.{clean-clear}
 use Rattle.rules.specs.PrimaryState.{withEpochBlocksWaiting}
 use Rattle.rules.specs.Checkpoint.{dirtyCount, checkpointLength, checkpointBytes, checkpointState, checkpointReply, checkpointDirty, checkpointStream}
@@ -40,8 +37,9 @@ use Rattle.runs.proofs.Effects.{effects, effects-append, Epoch, closed,
 use Rattle.runs.proofs.Invariant.{Link, Images, Inv}
 use Rattle.runs.proofs.Conclusions.{received-exists, acknowledged-received}
 use Rattle.runs.proofs.PacketsLaws.{packets-checkpoint}
-use Rattle.runs.proofs.LinkLaws.{sent-closed, before-more, all-readable, link-append}
+use Rattle.runs.proofs.LinkLaws.{sent-closed, before-more, link-append}
 use Rattle.runs.proofs.DirtyEffects.{effects-dirty, dirty-before}
+use Rattle.runs.proofs.CheckpointRecords.{beforeCommit, records-bytes, records-readable}
 use Rattle.runs.proofs.KeptLaws.{primary-settings}
 use Rattle.runs.proofs.Frame.{Accepted, KeepsAccepted}
 
@@ -96,7 +94,7 @@ module _ (processor : Processor) where
 
     -- the records before the COMMIT, and the epoch that it closes
     abbrev pub closing : List Message
-    closing = dirties ++ (message.state epoch (processor .bytes) ∷ [])
+    closing = beforeCommit (b .world .primary .memory) (b .world .primary .dirty) (processor .bytes) (g .u) (b .world .primary .state .epoch) (g .m)
 
     abbrev pub commit : Message
     commit = message.commit epoch count (b .world .primary .state .blocks)
@@ -126,13 +124,7 @@ module _ (processor : Processor) where
 
     -- the bytes appended are those of its records
     pub bytes-are : encodeAll (isWide (g .m)) (closing ++ (commit ∷ [])) ≡ bytesOf b (ofPrimary g)
-    bytes-are =
-        let p = b .world .primary in
-        let st = message.state epoch (processor .bytes) in
-        let w = isWide (g .m) in
-        encodeAll-append w closing (commit ∷ [])
-        ∙ ap₂ _++_ (encodeAll-append w dirties (st ∷ []) ∙ ap₂ _++_ (dirty-encode (p .memory) (p .dirty) (g .u) epoch w (g .m)) (append-nil (encode w st))) (append-nil (encode w commit))
-        ∙ append-assoc (dirtyRecords (p .memory) (p .dirty) w (g .u) epoch (g .m)) (encode w st) (encode w commit)
+    bytes-are = let p = b .world .primary in records-bytes (p .memory) (p .dirty) (processor .bytes) (g .u) epoch (g .m) (p .state .blocks) (isWide (g .m))
 
     -- in start's settings: their length, the room, and the state
     pub long : length (bytesOf b (ofPrimary g)) ≡ checkpointLength (g .u) (isWide (g .m)) count
@@ -160,17 +152,9 @@ module _ (processor : Processor) where
         let p = b .world .primary in
         let k = i .holds .primaryKept in
         let s = primary-settings g p k in
-        let wide = isWide (g .m) in
-        let fits : (n : ℕ) → n ≤ g .m → n < 256 ^ numberWidth wide = λ n h. number-fits (g .m) n (s .shared .m-high) h in
-        let low : epoch < 2 ^ 32 = omega (arith, f .next) in
-        let high : count ≤ g .m = count-le (p .dirty) (g .m) in
         let blocks = primary-facts (p .state) (f .ok) .blocks in
         let bs = ap (λ (x : PrimarySettings). x .b) (k .settings) in
-        all-append (Readable (g .u) (isWide (g .m))) closing (commit ∷ [])
-        (all-append (Readable (g .u) (isWide (g .m))) dirties (message.state epoch (processor .bytes) ∷ [])
-        (all-readable (g .u) wide dirties (messages-fit (p .memory) (p .dirty) (g .u) epoch wide low (g .m) (omega (arith, fits (g .m) (omega arith))) (k .memory)) (dirty-before (p .memory) (p .dirty) (g .u) epoch (g .m)))
-        (((low, processor .size), for-state wide), tt))
-        (((low, fits count high, two-fits wide (p .state .blocks) (omega (arith, s .shared .b-high))), for-commit wide), tt)
+        records-readable (p .memory) (p .dirty) (processor .bytes) (g .u) epoch (g .m) (p .state .blocks) (omega (arith, f .next)) (s .shared .m-high) (omega (arith, s .shared .b-high)) (k .memory) (processor .size)
 
     closing-before : All Before (i .ghost .opened ++ closing)
     closing-before =

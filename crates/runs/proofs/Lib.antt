@@ -37,6 +37,7 @@ pub mod Activation
 pub mod ActiveWrites
 pub mod LinkLaws
 pub mod DirtyEffects
+pub mod CheckpointRecords
 pub mod DiskWrite
 pub mod CheckpointCall
 pub mod StagedPages

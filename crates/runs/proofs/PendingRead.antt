@@ -9,7 +9,7 @@ use lib.ListN.{length, take, drop, length-drop}
 use Rattle.lists.specs.LittleEndian.{leAt}
 use Rattle.lists.proofs.TestLaws.{by-test, cond-true, cond-false}
 use Rattle.records.specs.declared.Reader.the-variants as reader
-use Rattle.records.specs.Kind.{isWide, commitKind, numberWidth, bodyLength, recordLength, headerLength}
+use Rattle.records.specs.Kind.{isWide, commitKind, numberWidth, countsEnd, bodyLength, recordLength, headerLength}
 use Rattle.records.specs.Read.{cutShort, usedOf}
 use Rattle.records.specs.Number.{slotsFull}
 use Rattle.records.specs.Message.{Message, messageKind, encode, encodeAll, readAs}
@@ -98,7 +98,7 @@ pub least-bytes : (u : ℕ) (wide : Bool) (x : Message) → 64 ≤ u → Readabl
 unfolding recordLength bodyLength
 least-bytes u wide x h f = go x f (width-range wide) (commit-length u wide) (length-message u wide x (f .0))
   where
-    go : (x : Message) → Readable u wide x → (2 ≤ numberWidth wide) × (numberWidth wide ≤ 4) → recordLength u (commitKind wide) ≡ 8 + numberWidth wide + numberWidth wide
+    go : (x : Message) → Readable u wide x → (2 ≤ numberWidth wide) × (numberWidth wide ≤ 4) → recordLength u (commitKind wide) ≡ countsEnd wide
         → length (encode wide x) ≡ recordLength u (messageKind wide x) → recordLength u (commitKind wide) ≤ length (encode wide x)
     go (message.page e p bs) f r c l = omega (arith, l, page-length u wide)
     go (message.block e n bs) f r c l = omega arith

@@ -1,14 +1,12 @@
 -- What a site stands for: the world of the step rules. Assumes nothing.
 use Prim.Native.Nat.{ℕ, zero, suc, _+_, _-_}
-use mathlib.Core.Bool.{Bool, _&&_}
+use mathlib.Core.Bool.{Bool}
 use mathlib.Core.List.{List, [], _++_}
-use lib.Dec.{eqb}
 use lib.ListN.{take, replicate}
-use Rattle.records.specs.Kind.{isCommit as isCommitKind}
 use Rattle.records.specs.Write.{ackRecord}
 use Rattle.rules.specs.declared.Answer.{Answer}
 use Rattle.rules.specs.declared.ReadLent.{ReadLent}
-use Rattle.rules.specs.Reply.{numberOf, valueOf}
+use Rattle.rules.specs.Reply.{commitAccepted, numberOf, valueOf}
 use Rattle.rules.specs.Read.{readLent, readReply, readMemory, readStagedPages, readStagedMarks, readStagedBlocks, readReplyBytes}
 use Rattle.rules.specs.World.{World, PrimaryEnd, StandbyEnd}
 use Rattle.rules.specs.Step.{outcome}
@@ -56,7 +54,7 @@ linkBytes = pairSettings .l
 
 -- a COMMIT was accepted
 abbrev pub isCommit : Answer → Bool
-isCommit a = eqb (numberOf a) 0 && isCommitKind (valueOf a)
+isCommit a = commitAccepted (numberOf a) (valueOf a)
 
 -- the lengths of what the read is lent: the box's buffers, and a reply buffer of an ACK's bytes
 abbrev pub boxLent : StandbyBox → ReadLent

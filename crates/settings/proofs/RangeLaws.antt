@@ -1,15 +1,15 @@
 -- Laws of the ranges: what each test of the settings says, by name, and back; what the ends keep is in its ranges; the least length of the stream; lengths. Assumes nothing.
 use mathlib.Core.Path.{_≡_, refl, sym, _∙_}
 use mathlib.Core.Bool.{Bool, true, false, _&&_, and-true, and-false}
-use Prim.Native.Nat.{ℕ, _+_, _*_, _%_, _≤_}
+use Prim.Native.Nat.{ℕ, _+_, _*_, _%_, _≤_, _<_}
 use native.Mathlib.Nat.{mul-le-mul}
 use native.Mathlib.Omega.{arith}
 use lib.Dec.{eqb}
 use borrow.Author.Tests.{leb-true, le-leb, eqb-true, eq-eqb}
 use Rattle.lists.specs.Refusal.{within}
 use Rattle.lists.proofs.TestLaws.{both, join, within-facts, within-of}
-use Rattle.records.specs.Kind.{unitOk, BLOCK, STATE, isWide, pageKind, commitKind, numberWidth, bodyLength, recordLength}
-use Rattle.records.proofs.KindLaws.{unit-le, width-range, page-length, commit-length}
+use Rattle.records.specs.Kind.{unitOk, BLOCK, STATE, isWide, commitKind, bodyLength, recordLength, numberEnd, countsEnd}
+use Rattle.records.proofs.KindLaws.{unit-le, width-range, page-length, commit-length, narrow-of, wide-of}
 use Rattle.settings.specs.declared.Settings.{Settings}
 use Rattle.settings.specs.declared.PrimarySettings.{PrimarySettings}
 use Rattle.settings.specs.declared.StandbySettings.{StandbySettings}
@@ -160,49 +160,46 @@ module _ (g : Settings) (e : settingsOk g ≡ true) where
 -- ---- the least length of the stream
 
 -- the bytes of each kind that a checkpoint sends
-pub page-record : (u : ℕ) (wide : Bool) → recordLength u (pageKind wide) ≡ u + (8 + numberWidth wide)
-page-record u wide = omega (arith, page-length u wide)
-
 pub block-record : (u : ℕ) → recordLength u BLOCK ≡ u + 10
 unfolding recordLength bodyLength
 block-record u = omega arith
 
-pub state-commit-records : (u : ℕ) (wide : Bool) → recordLength u STATE + recordLength u (commitKind wide) ≡ 72 + (8 + numberWidth wide + numberWidth wide)
+pub state-commit-records : (u : ℕ) (wide : Bool) → recordLength u STATE + recordLength u (commitKind wide) ≡ 72 + countsEnd wide
 unfolding recordLength bodyLength
 state-commit-records u wide = omega (arith, commit-length u wide)
 
-pub least-stream : (u m b : ℕ) → leastStream u m b ≡ m * (u + (8 + numberWidth (isWide m))) + b * (u + 10) + (72 + (8 + numberWidth (isWide m) + numberWidth (isWide m)))
+pub least-stream : (u m b : ℕ) → leastStream u m b ≡ m * (u + numberEnd (isWide m)) + b * (u + 10) + (72 + countsEnd (isWide m))
 unfolding leastStream
-least-stream u m b = rw (page-record u (isWide m), block-record u, state-commit-records u (isWide m))
+least-stream u m b = rw (page-length u (isWide m), block-record u, state-commit-records u (isWide m))
 
 -- document 01's form, and document 02's
-pub least-stream-narrow : (u m b : ℕ) → isWide m ≡ false → leastStream u m b ≡ m * (u + 10) + b * (u + 10) + 84
-least-stream-narrow u m b e = least-stream u m b ∙ rw e
+pub least-stream-narrow : (u m b : ℕ) → m ≤ 4096 → leastStream u m b ≡ m * (u + 10) + b * (u + 10) + 84
+least-stream-narrow u m b h = least-stream u m b ∙ rw (narrow-of m h)
 
-pub least-stream-wide : (u m b : ℕ) → isWide m ≡ true → leastStream u m b ≡ m * (u + 12) + b * (u + 10) + 88
-least-stream-wide u m b e = least-stream u m b ∙ rw e
+pub least-stream-wide : (u m b : ℕ) → 4096 < m → leastStream u m b ≡ m * (u + 12) + b * (u + 10) + 88
+least-stream-wide u m b h = least-stream u m b ∙ rw (wide-of m h)
 
 -- ---- lengths in bytes, far below 2 ^ 64
-pub bytes-le : (u n : ℕ) → u ≤ 4096 → n ≤ 65536 → n * u ≤ 65536 * 4096
-bytes-le u n h k = mul-le-mul k h
+pub bytes-le : (most u n : ℕ) → u ≤ 4096 → n ≤ most → n * u ≤ most * 4096
+bytes-le most u n h k = mul-le-mul k h
 
 -- memory, and the staged pages
 pub memory-bytes : {u m d b : ℕ} → SharedFacts u m d b → m * u ≤ 65536 * 4096
-memory-bytes f = bytes-le _ _ (f .u-high) (f .m-high)
+memory-bytes f = bytes-le 65536 _ _ (f .u-high) (f .m-high)
 
 -- the disk
-pub disk-bytes : {u m d b : ℕ} → SharedFacts u m d b → d * u ≤ 65536 * 4096
-disk-bytes f = bytes-le _ _ (f .u-high) (omega (arith, f .d-high))
+pub disk-bytes : {u m d b : ℕ} → SharedFacts u m d b → d * u ≤ 4096 * 4096
+disk-bytes f = bytes-le 4096 _ _ (f .u-high) (f .d-high)
 
 -- the staged blocks
-pub slots-bytes : {u m d b s : ℕ} → SharedFacts u m d b → SlotsFacts b s → s * u ≤ 65536 * 4096
-slots-bytes f g = bytes-le _ _ (f .u-high) (omega (arith, g .s-high))
+pub slots-bytes : {u m d b s : ℕ} → SharedFacts u m d b → SlotsFacts b s → s * u ≤ 64 * 4096
+slots-bytes f g = bytes-le 64 _ _ (f .u-high) (g .s-high)
 
--- the lower end of L: the largest is far below its upper end
+-- the lower end of L: the largest is about half of its upper end
 pub least-stream-le : (u m b : ℕ) (wide : Bool) → u ≤ 4096 → m ≤ 65536 → b ≤ 64
-    → m * (u + (8 + numberWidth wide)) + b * (u + 10) + (72 + (8 + numberWidth wide + numberWidth wide)) ≤ 65536 * 4108 + 64 * 4106 + 88
+    → m * (u + numberEnd wide) + b * (u + 10) + (72 + countsEnd wide) ≤ 65536 * 4108 + 64 * 4106 + 88
 least-stream-le u m b wide h j k =
     let w = width-range wide in
-    let r : u + (8 + numberWidth wide) ≤ 4108 = omega arith in
+    let r : u + numberEnd wide ≤ 4108 = omega arith in
     let q : u + 10 ≤ 4106 = omega arith in
     omega (arith, mul-le-mul j r, mul-le-mul k q)

@@ -62,11 +62,13 @@ heldBytesOk q = leb q mostHeld
 abbrev pub patienceOk : ℕ → Bool
 patienceOk t = within 1 mostPatience t
 
--- L: room for a checkpoint of every page and every block allowed, STATE and COMMIT, of the width that M calls for
+-- what a checkpoint has besides its pages: STATE and COMMIT
+abbrev pub checkpointEnd : ℕ → (wide : Bool) → ℕ
+checkpointEnd u wide = recordLength u STATE + recordLength u (commitKind wide)
+
+-- L: room for a checkpoint of every page and every block allowed, with PAGE and COMMIT of the width that M calls for
 unfoldable pub leastStream : ℕ → ℕ → ℕ → ℕ
-leastStream u m b =
-    let wide = isWide m in
-    m * recordLength u (pageKind wide) + b * recordLength u BLOCK + (recordLength u STATE + recordLength u (commitKind wide))
+leastStream u m b = m * recordLength u (pageKind (isWide m)) + b * recordLength u BLOCK + checkpointEnd u (isWide m)
 
 abbrev pub streamOk : ℕ → ℕ → ℕ → ℕ → Bool
 streamOk u m b l = within (leastStream u m b) mostStream l

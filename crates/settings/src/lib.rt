@@ -2,13 +2,13 @@
 ghost use mathlib.Core.Path.{_≡_};
 ghost use mathlib.Core.Bool.{_&&_};
 ghost use Prim.Native.Nat.{_+_, _≤_};
-ghost use Rattle.records.specs.Kind.{unitOk, numberWidth};
+ghost use Rattle.records.specs.Kind.{unitOk, countsEnd};
 ghost use Rattle.settings.specs.Range.{memoryPagesOk, diskBlocksOk, allowanceOk, blockSlotsOk, heldBytesOk, streamOk, patienceOk, settingsOk, primarySettingsOk, standbySettingsOk};
 use records::STATE_RECORD;
 use records::UNIT_RECORD;
 use records::kinds::commit_length;
 use records::kinds::is_wide;
-use records::kinds::page_head;
+use records::kinds::number_end;
 use records::reading::unit_ok;
 
 // "At most 64 packets are held, each of 1 to 1,514 bytes".
@@ -91,7 +91,7 @@ fn held_ok(q: usize) -> bool
 
 // What a checkpoint has besides its pages: STATE and COMMIT.
 pub fn checkpoint_end(wide: bool) -> usize
-    ensures { λ r. ⌜ r ≡ 72 + (8 + numberWidth wide + numberWidth wide) ⌝ }
+    ensures { λ r. ⌜ r ≡ 72 + countsEnd wide ⌝ }
 {
     STATE_RECORD + commit_length(wide)
 }
@@ -102,7 +102,7 @@ fn stream_ok(u: usize, m: usize, b: usize, l: usize) -> bool
     ensures { λ r. ⌜ r ≡ streamOk u m b l ⌝ }
 {
     let wide = is_wide(m);
-    let pages = m * (u + page_head(wide));
+    let pages = m * (u + number_end(wide));
     let blocks = b * (u + UNIT_RECORD);
     let least = pages + blocks + checkpoint_end(wide);
     (least <= l) & (l <= MOST_STREAM)

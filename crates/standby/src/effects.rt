@@ -73,9 +73,9 @@ fn installed_state(s: Standby, epoch: u32) -> Standby
     parts::with_received_slots_processor(s, epoch, due, pending)
 }
 
-// The state after a record: the count "returns to 0 at each accepted record of kinds 1 to 4", and of 8 and 9. The detector is replaced in
-// each arm: where it was replaced before the match, a read of a PAGE of 64 bytes took a third longer
-// (docs/BENCHMARKS.md).
+// The state after a record: the count "returns to 0 at each accepted record of kinds 1 to 4", and of 8 and 9. The
+// detector is replaced in each arm: where it was replaced before the match, a read of a PAGE of 64 bytes took a third
+// longer (docs/BENCHMARKS.md).
 pub(crate) fn read_state(s: Standby, bytes: &[u8], r: Record) -> Standby
     requires { ⌜ StateFits s (length (now bytes)) r ⌝ }
     ensures { λ n. ⌜ n ≡ readState s (now (bytes .entry)) r ⌝ }

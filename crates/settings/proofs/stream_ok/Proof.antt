@@ -1,7 +1,7 @@
 use mathlib.Core.Path.{_≡_}
 use Prim.Native.Nat.{_+_, _*_, _≤_}
 use native.Mathlib.Omega.{arith}
-use Rattle.records.specs.Kind.{isWide, numberWidth}
+use Rattle.records.specs.Kind.{isWide, numberEnd, countsEnd}
 use Rattle.records.proofs.KindLaws.{width-range}
 use Rattle.settings.proofs.RangeLaws.{least-stream, least-stream-le}
 use borrow.Author.Needs.{needs}
@@ -11,20 +11,19 @@ use Rattle.settings.proofs.stream_ok.Tie as tie
 is-wide-requires : tie.Need-is-wide-requires
 is-wide-requires c κs = search needs
 
-page-head-requires : tie.Need-page-head-requires
-page-head-requires c κs = search needs
+number-end-requires : tie.Need-number-end-requires
+number-end-requires c κs = search needs
 
-head : (c : tie.After-page-head) → c .page-head .result ≡ 8 + numberWidth (isWide (c .before .before .args .m))
-head c = rw (← c .before .is-wide .ensures) (c .page-head .ensures)
+head : (c : tie.After-number-end) → c .number-end .result ≡ numberEnd (isWide (c .before .before .args .m))
+head c = rw (← c .before .is-wide .ensures) (c .number-end .ensures)
 
-end-is : (c : tie.After-checkpoint-end) → let n = numberWidth (isWide (c .before .before .before .args .m)) in c .checkpoint-end .result ≡ 72 + (8 + n + n)
+end-is : (c : tie.After-checkpoint-end) → c .checkpoint-end .result ≡ 72 + countsEnd (isWide (c .before .before .before .args .m))
 end-is c = rw (← c .before .before .is-wide .ensures) (c .checkpoint-end .ensures)
 
 -- the lower end of L is far below 2 ^ 64, and so are its parts
-small : (c : tie.After-page-head) →
+small : (c : tie.After-number-end) →
     let a = c .before .before .args in
-    let n = numberWidth (isWide (a .m)) in
-    a .m * (a .u + c .page-head .result) + a .b * (a .u + 10) + (72 + (8 + n + n)) ≤ 65536 * 4108 + 64 * 4106 + 88
+    a .m * (a .u + c .number-end .result) + a .b * (a .u + 10) + (72 + countsEnd (isWide (a .m))) ≤ 65536 * 4108 + 64 * 4106 + 88
 small c =
     let s = c .before .before in
     rw (head c) (least-stream-le (s .args .u) (s .args .m) (s .args .b) (isWide (s .args .m)) (s .pre .0) (s .pre .1) (s .pre .2))
@@ -60,7 +59,7 @@ stream-ok-spec =
     tie.close
     (tie.spec
     is-wide-requires
-    page-head-requires
+    number-end-requires
     add-pages
     mul-pages
     add-blocks

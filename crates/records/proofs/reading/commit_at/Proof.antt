@@ -15,17 +15,17 @@ get4-requires c κs = let a = c .before .before in omega (arith, commit-length (
 number-at-requires : tie.Need-number-at-requires
 number-at-requires c κs = let a = c .before .before .before in omega (arith, commit-length (a .args .u) (a .args .wide), a .pre)
 
-page-head-requires : tie.Need-page-head-requires
-page-head-requires c κs = search needs
+number-end-requires : tie.Need-number-end-requires
+number-end-requires c κs = search needs
 
 number-at-requires-2 : tie.Need-number-at-requires-2
-number-at-requires-2 c κs = let a = c .before .before .before .before .before in omega (arith, commit-length (a .args .u) (a .args .wide), a .pre, c .page-head .ensures)
+number-at-requires-2 c κs = let a = c .before .before .before .before .before in omega (arith, commit-length (a .args .u) (a .args .wide), a .pre, c .number-end .ensures)
 
 returns : tie.Need-returns
 returns c =
     let a = c .before .before .before .before .before .before .args in
     let e : recordLength (a .u) (commitKind (a .wide)) ≡ c .before .before .before .before .commit-length .result = commit-length (a .u) (a .wide) ∙ sym (c .before .before .before .before .commit-length .ensures) in
-    rw (e, c .before .before .before .before .commit-length .ensures, c .before .before .before .get4 .ensures, c .before .before .number-at .ensures, c .number-at2 .ensures, c .before .page-head .ensures)
+    rw (e, c .before .before .before .before .commit-length .ensures, c .before .before .before .get4 .ensures, c .before .before .number-at .ensures, c .number-at2 .ensures, c .before .number-end .ensures)
 
 pub commit-at-spec : {M : Type 1} → statement M
 commit-at-spec =
@@ -34,6 +34,6 @@ commit-at-spec =
     commit-length-requires
     get4-requires
     number-at-requires
-    page-head-requires
+    number-end-requires
     number-at-requires-2
     returns)

@@ -8,8 +8,8 @@ use borrow.Author.Needs.{needs}
 use Rattle.records.proofs.writing.put_unit.Statement.{statement}
 use Rattle.records.proofs.writing.put_unit.Tie as tie
 
-page-head-requires : tie.Need-page-head-requires
-page-head-requires c κs = search needs
+number-end-requires : tie.Need-number-end-requires
+number-end-requires c κs = search needs
 
 sub-n : tie.Need-sub-n
 sub-n c = search needs
@@ -36,15 +36,15 @@ returns : tie.Need-returns
 unfolding unitRecord
 returns c =
     let a = c .before .before .before .before .before .before .before .before .before .before .before .before .before .before .before .args in
-    let h = c .before .before .before .before .before .before .before .before .before .before .before .before .page-head .ensures in
-    let e = put-number-rest (length (a .body .now) + (c .before .before .before .before .before .before .before .before .before .before .before .before .page-head .result - 4)) (a .kind) (a .epoch) (a .out .now) (numberWidth (a .wide)) (a .number) (a .body .now) (omega arith) (omega arith) in
+    let h = c .before .before .before .before .before .before .before .before .before .before .before .before .number-end .ensures in
+    let e = put-number-rest (length (a .body .now) + (c .before .before .before .before .before .before .before .before .before .before .before .before .number-end .result - 4)) (a .kind) (a .epoch) (a .out .now) (numberWidth (a .wide)) (a .number) (a .body .now) (omega arith) (omega arith) in
     cc (e, h)
 
 pub put-unit-spec : {M : Type 1} → statement M
 put-unit-spec =
     tie.close
     (tie.spec
-    page-head-requires
+    number-end-requires
     sub-n
     add-n
     cast-n

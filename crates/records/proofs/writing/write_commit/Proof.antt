@@ -60,8 +60,8 @@ cast-put-number c = let m = c .before .before .before .before .before .before .b
 put-number-requires : tie.Need-put-number-requires
 put-number-requires c κs = search needs
 
-page-head-requires : tie.Need-page-head-requires
-page-head-requires c κs = search needs
+number-end-requires : tie.Need-number-end-requires
+number-end-requires c κs = search needs
 
 cast-put-number-2 : tie.Need-cast-put-number-2
 cast-put-number-2 c = let m = c .before .before .before .before .before .before .before .before .before .before .before .before .before .most-number2 .ensures in search needs
@@ -97,7 +97,7 @@ write-commit-spec =
     put-head-requires
     cast-put-number
     put-number-requires
-    page-head-requires
+    number-end-requires
     cast-put-number-2
     put-number-requires-2
     same-length

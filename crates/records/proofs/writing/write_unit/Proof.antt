@@ -10,8 +10,8 @@ use borrow.Author.Needs.{needs}
 use Rattle.records.proofs.writing.write_unit.Statement.{statement}
 use Rattle.records.proofs.writing.write_unit.Tie as tie
 
-page-head-requires : tie.Need-page-head-requires
-page-head-requires c κs = search needs
+number-end-requires : tie.Need-number-end-requires
+number-end-requires c κs = search needs
 
 most-number-requires : tie.Need-most-number-requires
 most-number-requires c κs = search needs
@@ -69,7 +69,7 @@ pub write-unit-spec : {M : Type 1} → statement M
 write-unit-spec =
     tie.close
     (tie.spec
-    page-head-requires
+    number-end-requires
     most-number-requires
     returns
     sub-if2

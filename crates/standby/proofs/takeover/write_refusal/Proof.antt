@@ -25,7 +25,7 @@ returns : tie.Need-returns
 returns c = simp (sym (c .before .standby-ok .ensures) ∙ not-true (c .before .standby-ok .result) (c .if1 .taken))
 
 mul-if2 : tie.Need-mul-if2
-mul-if2 c = let p = c .before .before .before in omega (arith, bytes-le _ _ (standby-facts _ (ok c) .settings .shared .u-high) (p .pre (ok c)))
+mul-if2 c = let p = c .before .before .before in omega (arith, bytes-le 65536 _ _ (standby-facts _ (ok c) .settings .shared .u-high) (p .pre (ok c)))
 
 returns-2 : tie.Need-returns-2
 returns-2 c = simp (ok (c .before), ne-eqb _ _ (c .if2 .taken))
