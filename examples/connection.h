@@ -25,7 +25,7 @@ struct connection {
     size_t missing; /* bytes of the record still to come, by its last test; 0 before the first */
     int has_bytes;  /* by poll(2), until fewer come than are asked for */
     size_t most_moved; /* bytes sent or received at a time; 0: as many as the socket takes */
-    uint8_t in[4106], out[4096]; /* in: the longest record, U + 10 bytes with U 4096 */
+    uint8_t in[4108], out[4096]; /* in: the longest record of any pair, U + 12 with U 4096 */
 };
 
 /* Whether a whole record is there, tested and not read yet. */

@@ -173,6 +173,9 @@ static uint32_t flush(struct standby *s, size_t blocks)
                                   LENT(s->staged_blocks), LENT(s->disk), blocks), "flush");
 }
 
+/* receive does not ask whether what is missing fits: so the longest record of any pair must. */
+_Static_assert(sizeof((struct connection *)0)->in >= PAGE_BYTES(4096, 65536), "in is too short");
+
 /* Receives what is missing of a record until it is whole. Returns 0 where some has not come yet. */
 static int receive_record(struct connection *k)
 {
@@ -214,19 +217,19 @@ static int has_ack_space(const struct connection *k)
 static void read_records(struct standby *s)
 {
     struct connection *k = &s->link;
-    uint32_t kind = 0;
+    int committed = 0;
 
-    while (kind != RECORD_COMMIT && receive_record(k) && has_ack_space(k)) {
+    while (!committed && receive_record(k) && has_ack_space(k)) {
         uint64_t answer = read_record(s);
         if (answer_number(answer) != NUMBER_ACCEPTED) {
             drop(k);
             return;
         }
-        kind = answer_value(answer);
         k->in_length = 0; /* the record was all that had come */
-        if (kind == RECORD_COMMIT)
+        committed = record_is_commit(answer_value(answer));
+        if (committed)
             k->out_length += ACK_RECORD;
-        trial_record(s, kind);
+        trial_record(s, answer_value(answer));
     }
 }
 

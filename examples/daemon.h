@@ -9,8 +9,18 @@
 #include "connection.h"
 #include "standby_pair.h"
 
-/* The settings. */
-enum { U = 256, M = 64, D = 16, B = 4, S = 8, Q = 4096, L = 65536, T = 5 };
+/*
+ * The guest's memory pages, 1 to 65536: cc -DGUEST_PAGES=4097 gives it that many. Above
+ * MOST_NARROW_PAGES the PAGEs and COMMITs on the link are wide; daemon.c is the same for both.
+ */
+#ifndef GUEST_PAGES
+#define GUEST_PAGES 64
+#endif
+
+/* The settings. L has at least the bytes that a checkpoint of every page needs. */
+enum { U = 256, M = GUEST_PAGES, D = 16, B = 4, S = 8, Q = 4096, T = 5 };
+#define LEAST_L LEAST_STREAM(U, GUEST_PAGES, B)
+enum { L = LEAST_L > 65536 ? LEAST_L : 65536 };
 
 struct primary {
     uint64_t state[PRIMARY_WORDS], dirty[MARK_WORDS(M)];

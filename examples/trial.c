@@ -4,8 +4,9 @@
  * The parent process is the standby's box; the primary's box and the far side of the network are
  * its children. At the place that the command line says the primary is killed; the standby takes
  * over, and its memory, disk and processor state are compared with what the guest had at that
- * checkpoint. Every packet that had left must have been sent before that checkpoint. And no record
- * may have been tested before the bytes had come that were missing at its last test.
+ * checkpoint. Every packet that had left must have been sent before that checkpoint. No record may
+ * have been tested before the bytes had come that were missing at its last test, and every PAGE and
+ * COMMIT must have been of the width that the guest's pages call for.
  *
  *     daemon N           kills the primary after the standby has read N records
  *     daemon N KIND      the same after N records of a KIND: page, block, state or commit
@@ -13,8 +14,8 @@
  *     daemon random      kills it after a random number of records
  *     daemon .. pieces   any of these, and both ends send a few bytes at a time
  *
- * Exit status: 0 all is equal, 1 something differs or was tested too early, 2 the program could not
- * do its work.
+ * Exit status: 0 all is equal, 1 something differs, was tested too early or is of the wrong width,
+ * 2 the program could not do its work.
  */
 
 #define _GNU_SOURCE
@@ -37,9 +38,11 @@ enum {
     STEPS_AFTER = 200,    /* the guest's steps at the standby after the takeover */
     MOST_RANDOM = 2000,   /* records before a kill at random */
     MOST_PLACE = 1000000, /* records before a kill at all */
-    EPOCHS_KEPT = 65536,  /* above the checkpoints that the stream and the socket can hold */
     PIECE = 3,            /* bytes moved at a time: every header and every ACK is cut */
-    MOST_TESTS = 3        /* of a record: with no byte, with its header, whole */
+    MOST_TESTS = 3,       /* of a record: with no byte, with its header, whole */
+
+    /* above the checkpoints that the stream, by their least bytes, and the socket can hold */
+    EPOCHS_KEPT = L / (STATE_RECORD + COMMIT_BYTES(GUEST_PAGES)) + 65536
 };
 
 /* The place of the loss: after how many records of which kind, 0 is any; and by which signal. */
@@ -52,9 +55,10 @@ struct tests {
     unsigned all, now, most;
 };
 
-static unsigned records[RECORD_COMMIT + 1]; /* read so far: of each kind, and at 0 all of them */
-static struct tests tests;                  /* of these, and of the one that is not read yet */
-static int lost;                            /* whether the place was reached */
+static unsigned records[RECORD_WIDE_COMMIT + 1]; /* read so far: of each kind, at 0 all of them */
+static unsigned other_width;                     /* those of a width that M does not call for */
+static struct tests tests;                       /* of these, and of the one not read yet */
+static int lost;                                 /* whether the place was reached */
 static pid_t primary_process, network_process;
 
 /* What the children tell the parent. */
@@ -203,10 +207,26 @@ static void lose_primary(struct standby *s)
         drop(&s->link);
 }
 
+/* The kind that a record is counted as: a PAGE or a COMMIT of either width as the narrow one. */
+static unsigned counted_as(unsigned kind)
+{
+    return record_is_page(kind) ? RECORD_PAGE : record_is_commit(kind) ? RECORD_COMMIT : kind;
+}
+
+/* Whether this is a PAGE or a COMMIT of the width that M does not call for. */
+static int is_other_width(unsigned kind)
+{
+    if (GUEST_PAGES > MOST_NARROW_PAGES)
+        return kind == RECORD_PAGE || kind == RECORD_COMMIT;
+    return kind == RECORD_WIDE_PAGE || kind == RECORD_WIDE_COMMIT;
+}
+
 void trial_record(struct standby *s, unsigned kind)
 {
     records[0]++;
-    records[kind]++;
+    records[counted_as(kind)]++;
+    if (is_other_width(kind))
+        other_width++;
     tests.now = 0;
     if (!lost && records[place_kind] == place)
         lose_primary(s);
@@ -251,6 +271,15 @@ static int few_tests(const char *what, const struct tests *t)
     return 0;
 }
 
+/* Whether every PAGE and COMMIT was of the width that M calls for. */
+static int right_width(void)
+{
+    if (other_width == 0)
+        return 1;
+    printf("%u records are of the width that %d pages do not call for\n", other_width, M);
+    return 0;
+}
+
 /* The guest goes on from the processor state taken over; nothing holds its packets any more. */
 static uint64_t run_guest_at_standby(struct standby *s)
 {
@@ -290,7 +319,7 @@ int main(int argc, char **argv)
            records[0], tests.all, records[RECORD_BLOCK], records[RECORD_PAGE],
            records[RECORD_STATE], records[RECORD_COMMIT]);
     if (end_of(network_process) != 0 || !has_checkpoint(&primary, &standby, epoch) ||
-        !few_tests("record", &tests) || !few_tests("ACK", &shared->ack_tests) ||
+        !few_tests("record", &tests) || !few_tests("ACK", &shared->ack_tests) || !right_width() ||
         !images_equal(run_guest_at_standby(&standby), standby.memory, standby.disk))
         return 1;
     printf("took over checkpoint %u: memory, disk and processor state equal; "

@@ -22,7 +22,8 @@
  * - After 6 or 7 the place of the next record cannot be found again; 2, 8, 9, 10 and 14 of
  *   standby_read and 11 of primary_acknowledge say that bytes were lost or changed. Drop the link:
  *   it cannot be taken up again, and the pair is started anew.
- * - A record has at most U + 10 bytes, so that a buffer of U + 10 bytes always holds one.
+ * - A record has at most U + 12 bytes: a buffer of U + 12 bytes holds whatever record_test of
+ *   link.h, which has no M, asks for. Up to M 4096 standby_read takes none of more than U + 10.
  *
  * pair_disk_choice (and disk_choice of link.h) reads only the lengths of the two disks, never their
  * bytes.
@@ -137,12 +138,12 @@ static inline size_t answer_missing(uint64_t answer)
 /* Where each setting stands. */
 enum {
     SETTING_U = 0, /* bytes in a page and in a block: 64 to 4096, a multiple of 64 */
-    SETTING_M = 1, /* memory pages: 1 to 4096 */
+    SETTING_M = 1, /* memory pages: 1 to 65536 */
     SETTING_D = 2, /* disk blocks: 0 to 4096 */
     SETTING_B = 3, /* block writes allowed per epoch: 0 to 64 */
     SETTING_S = 4, /* block slots staged at the standby: B to 64 */
     SETTING_Q = 5, /* bytes of held packets: 0 to 32768 */
-    SETTING_L = 6, /* bytes of outgoing stream: LEAST_STREAM(U, M, B) to 33554432 */
+    SETTING_L = 6, /* bytes of outgoing stream: LEAST_STREAM(U, M, B) to 536870912 */
     SETTING_T = 7, /* ticks of patience: 1 to 60000 */
     SETTINGS_WORDS = 8
 };
@@ -154,18 +155,33 @@ enum {
     MOST_PACKET_BYTES = 1514,
     MOST_SLOTS = 64,
 
-    /* Whole records: a PAGE or BLOCK has U + UNIT_RECORD bytes, and none has more than these. */
+    /*
+     * Whole records: a BLOCK has U + UNIT_RECORD bytes, and so has a PAGE of kind 1. Above
+     * MOST_NARROW_PAGES pages PAGE and COMMIT are of kinds 8 and 9: a PAGE has U +
+     * WIDE_PAGE_RECORD bytes, a COMMIT WIDE_COMMIT_RECORD.
+     */
     UNIT_RECORD = 10,
     STATE_RECORD = 72,
     COMMIT_RECORD = 12,
-    ACK_RECORD = 8
+    ACK_RECORD = 8,
+    WIDE_PAGE_RECORD = 12,
+    WIDE_COMMIT_RECORD = 16,
+    MOST_NARROW_PAGES = 4096
 };
+
+/*
+ * The bytes of a PAGE, the longest record of this pair, and of a COMMIT, for m pages of u bytes.
+ * The unary + lets u and m be constants of any enum; m is evaluated more than once.
+ */
+#define PAGE_BYTES(u, m) ((u) + ((m) > +MOST_NARROW_PAGES ? +WIDE_PAGE_RECORD : +UNIT_RECORD))
+#define COMMIT_BYTES(m) ((m) > +MOST_NARROW_PAGES ? +WIDE_COMMIT_RECORD : +COMMIT_RECORD)
 
 /* Words of dirty marks, and of staged marks, for m pages. */
 #define MARK_WORDS(m) (((m) + 63) / 64)
 
 /* The least L: a checkpoint of every page, with all the blocks of its epoch. */
-#define LEAST_STREAM(u, m, b) (((m) + (b)) * ((u) + 10) + 84)
+#define LEAST_STREAM(u, m, b) \
+    ((m) * PAGE_BYTES(u, m) + (b) * ((u) + +UNIT_RECORD) + STATE_RECORD + COMMIT_BYTES(m))
 
 /* ---- The states, word by word. ---- */
 
@@ -338,10 +354,13 @@ uint64_t primary_tick(uint64_t *state, size_t state_len);
  * Read: reads one record at the head of bytes; bytes behind it are not looked at. A PAGE or BLOCK
  * is staged. A COMMIT copies the staged pages into memory, keeps the processor state, makes the
  * blocks due and writes the ACK into the first ACK_RECORD bytes of reply, for the host to send
- * back: only then is the checkpoint received.
+ * back: only then is the checkpoint received. A COMMIT was accepted where the number is 0 and
+ * record_is_commit (link.h) holds of the value: its kind is 4 or, with M above 4096, 9.
  * Gives 1 13, cut short (of its header), 6 7, cut short (of its body), 2, 5 (COMMIT only), 8 9 10
- * 14 17. After 17, flush and give the same record again. Value: the record's kind, RECORD_PAGE to
- * RECORD_COMMIT; used: its bytes; missing: 1 to 4 bytes of a header, or 1 to U + 6 of a body.
+ * 14 17. After 17, flush and give the same record again. 6 is given to PAGE and COMMIT of the width
+ * that M does not call for (link.h). Value: the record's own kind, 1 to 4, or with M above 4096 8 2
+ * 3 9; used: its bytes; missing: 1 to 4 bytes of a header, or 1 to U + 6 of a body, U + 8 with M
+ * above 4096.
  * Changes: state; by a PAGE staged_pages and staged_marks, by a BLOCK staged_blocks, by a STATE
  * pending, by a COMMIT processor, memory, staged_marks and reply.
  */

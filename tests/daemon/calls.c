@@ -1,7 +1,8 @@
 /*
  * Both headers in one program, which is C99 and C++ at once: the constants against what
  * tests/calls/FORM.md says, and every call once, at settings that are all different, with the words
- * of the states read by their names; the calls that read a record also with its first bytes only.
+ * of the states read by their names; the calls that read a record also with its first bytes only,
+ * and with the kinds that are for other settings.
  *
  * A failing check is printed; the last line is 'N passed, M failed'.
  */
@@ -45,6 +46,27 @@ STATIC_CHECK(PROCESSOR_BYTES == 64 && AREA_BYTES == 8 && MOST_PACKET_BYTES == 15
 STATIC_CHECK(MOST_PACKETS == 64 && MOST_SLOTS == 64);
 STATIC_CHECK(UNIT_RECORD == 10 && STATE_RECORD == 72 && COMMIT_RECORD == 12 && ACK_RECORD == 8);
 STATIC_CHECK(STATE_RECORD <= 64 + UNIT_RECORD);
+STATIC_CHECK(RECORD_PAGE == 1 && RECORD_BLOCK == 2 && RECORD_STATE == 3 && RECORD_COMMIT == 4);
+STATIC_CHECK(RECORD_ACK == 5);
+
+/* Document 02's Job 7: above M 4096 PAGE is kind 8 and U + 12 bytes, COMMIT kind 9 and 16 bytes. */
+STATIC_CHECK(RECORD_WIDE_PAGE == 8 && RECORD_WIDE_COMMIT == 9 && MOST_NARROW_PAGES == 4096);
+STATIC_CHECK(WIDE_PAGE_RECORD == 12 && WIDE_COMMIT_RECORD == 16);
+STATIC_CHECK(PAGE_BYTES(64, 1) == 74 && PAGE_BYTES(64, 4096) == 74);
+STATIC_CHECK(PAGE_BYTES(64, 4097) == 76 && PAGE_BYTES(4096, 65536) == 4108);
+STATIC_CHECK(COMMIT_BYTES(1) == 12 && COMMIT_BYTES(4096) == 12);
+STATIC_CHECK(COMMIT_BYTES(4097) == 16 && COMMIT_BYTES(65536) == 16);
+STATIC_CHECK(MARK_WORDS(4096) == 64 && MARK_WORDS(4097) == 65 && MARK_WORDS(65536) == 1024);
+
+/* Its lower end of L: M(U + 10) + B(U + 10) + 84 up to M 4096, M(U + 12) + B(U + 10) + 88 above. */
+STATIC_CHECK(LEAST_STREAM(64, 4096, 2) == 4096 * 74 + 2 * 74 + 84);
+STATIC_CHECK(LEAST_STREAM(64, 4097, 2) == 4097 * 76 + 2 * 74 + 88);
+STATIC_CHECK(LEAST_STREAM(64, 4097, 0) == 4097 * 76 + 88);
+STATIC_CHECK(LEAST_STREAM(4096, 65536, 64) == 269484760);
+
+/* The macros take expressions, and are parts of expressions. */
+STATIC_CHECK(2 * PAGE_BYTES(32 + 32, 4096 + 1) == 152 && 2 * COMMIT_BYTES(4096 + 1) == 32);
+STATIC_CHECK(2 * LEAST_STREAM(32 + 32, 4096 + 1, 1 + 1) == 2 * LEAST_STREAM(64, 4097, 2));
 
 /* Settings with M not a multiple of 64, and no two alike. */
 enum { U = 128, M = 70, D = 5, B = 3, S = 7, Q = 300, L = LEAST_STREAM(128, 70, 3), T = 9 };
@@ -105,11 +127,20 @@ static void check_word_cut_short(const char *what, uint64_t word, uint64_t missi
     check(what, record_used(word), 0);
 }
 
+/* What link.h reads from the word of a whole record. */
+static void check_word(uint64_t word, unsigned kind, size_t used)
+{
+    CHECK(record_number(word), 0);
+    CHECK(record_kind(word), kind);
+    CHECK(record_used(word), used);
+    CHECK(record_missing(word), 0);
+    CHECK((uint64_t)record_cut_short(word), 0);
+}
+
 /* What the headers read from given words. */
 static void accessors(void)
 {
     uint64_t answer = 0xfedcba9876543210, short_answer = 0xfedcba9876540100;
-    uint64_t page = UINT64_C(74) << 16 | 1 << 8;
 
     CHECK(answer_number(answer), 0x3210);
     CHECK(answer_used(answer), 0x7654);
@@ -122,18 +153,27 @@ static void accessors(void)
     check_cut_short("cut short, 1 missing", 256 + 65536, 1);
     check_cut_short("cut short, 4 missing", 256 + 65536 * 4, 4);
     check_cut_short("cut short, 4102 missing", 256 + 65536 * 4102, 4102);
+    check_cut_short("cut short, 4104 missing", 256 + 65536 * 4104, 4104);
     CHECK(answer_missing(UINT64_C(1) << 32 | 74 << 16), 0);
     CHECK(answer_missing(NUMBER_BAD_LENGTH) + answer_used(NUMBER_BAD_LENGTH), 0);
 
-    CHECK(record_number(page), 0);
-    CHECK(record_kind(page), RECORD_PAGE);
-    CHECK(record_used(page), 74);
-    CHECK(record_missing(page), 0);
-    CHECK((uint64_t)record_cut_short(page), 0);
+    check_word(65536 * 74 + 256 * 1, RECORD_PAGE, 74);
+    check_word(65536 * 4108 + 256 * 8, RECORD_WIDE_PAGE, 4108);
+    check_word(65536 * 16 + 256 * 9, RECORD_WIDE_COMMIT, 16);
     check_word_cut_short("a word of cut short, 1 missing", 65536, 1);
     check_word_cut_short("a word of cut short, 4102 missing", 65536 * 4102, 4102);
+    check_word_cut_short("a word of cut short, 4104 missing", 65536 * 4104, 4104);
     CHECK(record_missing(RECORD_BAD_KIND) + record_used(RECORD_BAD_KIND), 0);
     CHECK((uint64_t)record_cut_short(RECORD_BAD_KIND), 0);
+}
+
+/* Of all kinds that a word can hold, 1 and 8 are a PAGE, 4 and 9 a COMMIT. */
+static void kinds(void)
+{
+    for (unsigned kind = 0; kind < 256; kind++) {
+        CHECK(record_is_page(kind) != 0, kind == 1 || kind == 8);
+        CHECK(record_is_commit(kind) != 0, kind == 4 || kind == 9);
+    }
 }
 
 static uint64_t start(const uint64_t *words, size_t count)
@@ -374,6 +414,56 @@ static void headers_of_the_other_end(void)
                  0);
 }
 
+/* Bytes that begin a record of a kind that is for neither end: 6, and the standby stays. */
+static void refused_by_both(const uint8_t *from, size_t length)
+{
+    static uint8_t before[sizeof s];
+
+    memcpy(before, &s, sizeof s);
+    check_answer("a kind of another M", read_bytes(from, length), NUMBER_BAD_KIND, 0);
+    CHECK(memcmp(before, &s, sizeof s) == 0, 1);
+    check_answer("a kind of the standby", primary_acknowledge(LENT(p.state), from, length),
+                 NUMBER_BAD_KIND, 0);
+}
+
+/*
+ * A record of the wide kind with a body of so many bytes, and more bytes behind it. The record test
+ * passes it, since it has no M. The standby, with its M of 70, refuses it by its header. With the
+ * length that the narrow kind has, the record test gives 7, and the standby 6 as before.
+ */
+static void wide_record(uint8_t kind, uint8_t body, uint8_t narrow_body)
+{
+    uint8_t record[U + 13] = {body, 0, kind, 0};
+    const size_t length = 4 + (size_t)body;
+    const uint64_t word = 65536 * (uint64_t)length + 256 * kind;
+
+    for (size_t part = 0; part < 4; part++)
+        check_word_cut_short("part of a header", record_test(U, record, part), 4 - part);
+    check_word_cut_short("a wide header", record_test(U, record, 4), body);
+    check_word_cut_short("a wide record but one byte", record_test(U, record, length - 1), 1);
+    CHECK(record_test(U, record, length), word);
+    CHECK(record_test(U, LENT(record)), word);
+    refused_by_both(record, 4);
+    refused_by_both(record, length);
+
+    record[0] = narrow_body;
+    CHECK(record_test(U, LENT(record)), RECORD_BAD_LENGTH);
+    refused_by_both(LENT(record));
+}
+
+/* A PAGE and a COMMIT for M above 4096; and the narrow ones with the lengths of these. */
+static void wide_records(void)
+{
+    static const uint8_t page[] = {U + 8, 0, RECORD_PAGE, 0}, commit[] = {12, 0, RECORD_COMMIT, 0};
+
+    wide_record(RECORD_WIDE_PAGE, U + 8, U + 6);
+    wide_record(RECORD_WIDE_COMMIT, 12, 8);
+    CHECK(record_test(U, LENT(page)), RECORD_BAD_LENGTH);
+    CHECK(record_test(U, LENT(commit)), RECORD_BAD_LENGTH);
+    check_answer("a long PAGE", read_bytes(LENT(page)), NUMBER_BAD_LENGTH, 0);
+    check_answer("a long COMMIT", read_bytes(LENT(commit)), NUMBER_BAD_LENGTH, 0);
+}
+
 static void acknowledged(void)
 {
     uint64_t answer = primary_acknowledge(LENT(p.state), LENT(reply));
@@ -470,6 +560,7 @@ static void words_that_are_no_state(void)
 int main(void)
 {
     accessors();
+    kinds();
     refused_starts();
     accepted_start();
     first_epoch();
@@ -477,6 +568,7 @@ int main(void)
     records();
     acknowledge_parts();
     headers_of_the_other_end();
+    wide_records();
     acknowledged();
     takeover();
     active();
