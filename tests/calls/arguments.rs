@@ -4,13 +4,16 @@ use crate::model::*;
 use crate::random::Random;
 use crate::world::{Args, World};
 
-/// The most bytes that a buffer is given where the calls are many; large.rs has the longest ones.
+/// The most bytes that a buffer is given where the calls are many; large.rs and the files of wide.rs have longer ones.
 pub const MOST: u64 = 1 << 20;
 
+const MANY_PAGES: [u64; 9] = [255, 256, 257, 884, 1_024, 4_095, 4_096, 4_097, 4_098];
+
 fn with_stream(r: &Random, mut s: Settings) -> Settings {
-    let (record, least) = (s.u + 10, least_stream(s.u, s.m, s.b));
-    let more = [0, 0, 1, r.below(100), record, record * r.range(1, 4), 2 * record + 84, 3 * least];
-    s.l = (least + r.pick(&more)).min(33_554_432);
+    let (record, least) = (page_record(s.u, s.m), least_stream(s.u, s.m, s.b));
+    let checkpoint = 2 * record + state_and_commit(s.m);
+    let more = [0, 0, 1, r.below(100), record, record * r.range(1, 4), checkpoint, 3 * least];
+    s.l = (least + r.pick(&more)).min(MOST_STREAM);
     s
 }
 
@@ -53,12 +56,13 @@ pub fn limit_settings(r: &Random) -> Settings {
     s
 }
 
-/// Large pages, many pages or blocks, or much held.
+/// Large pages, many pages or blocks, or much held. Some M are about the end of the narrow kinds; wide.rs has the
+/// largest.
 pub fn large_settings(r: &Random) -> Settings {
     let mut s = small_settings(r);
     match r.below(6) {
         0 => (s.u, s.b, s.s) = (4_096, r.range(0, 3), r.range(3, 6)),
-        1 => (s.u, s.m, s.b, s.s) = (64, r.pick(&[255, 256, 257, 884, 1_024, 4_095, 4_096]), r.range(0, 2), 2),
+        1 => (s.u, s.m, s.b, s.s) = (64, r.pick(&MANY_PAGES), r.range(0, 2), 2),
         2 => s.q = r.pick(&[1_514, 1_515, 3_000, 32_768]),
         3 => (s.u, s.d) = (r.pick(&[1_024, 4_032, 4_096]), r.pick(&[1, 15, 16, 65])),
         4 => (s.u, s.m) = (r.pick(&[1_024, 4_032, 4_096]), r.pick(&[15, 16, 64, 65])),
@@ -140,7 +144,7 @@ fn number_below(r: &Random, limit: u64, odd: u64) -> u64 {
         return r.below(limit);
     }
     let wide = (1 << 32) + (limit / 2) % 65_536;
-    r.pick(&[limit, limit, limit.wrapping_add(1), 65_535, 65_536, 1 << 32, wide, 1 << 63, u64::MAX])
+    r.pick(&[limit, limit, limit.wrapping_add(1), 65_535, 65_536, 65_537, 1 << 32, wide, 1 << 63, u64::MAX])
 }
 
 fn sane(u: u64) -> u64 {
@@ -183,9 +187,10 @@ fn packet_bytes(r: &Random, p: &Primary, odd: u64) -> Vec<u8> {
 }
 
 fn drain_arguments(r: &Random, a: &mut Args, p: &Primary) {
-    let (waiting, record) = (p.waiting.min(MOST), sane(p.u) + 10);
+    let (waiting, record) = (p.waiting.min(MOST), page_record(sane(p.u), p.m));
     let some = r.below(waiting + 1);
-    a.n = r.pick(&[waiting, waiting, waiting, some, some, record, 72, 12, 1, 0, waiting + 1, 1 << 32, u64::MAX]);
+    let commit = commit_record(p.m);
+    a.n = r.pick(&[waiting, waiting, waiting, some, some, record, 72, commit, 1, 0, waiting + 1, 1 << 32, u64::MAX]);
     let fits = a.n.min(waiting);
     let room = r.pick(&[fits, fits, fits, fits, fits + 3, waiting, some, record, 0, 1]);
     a.out = r.bytes(room.min(MOST));
@@ -214,22 +219,30 @@ pub fn record(length: u64, kind: u64, epoch: u32, body: &[u8]) -> Vec<u8> {
     bytes
 }
 
-fn numbers(first: u64, second: u64) -> Vec<u8> {
-    [(first as u16).to_le_bytes(), (second as u16).to_le_bytes()].concat()
+/// A page or block number or a count, of 4 bytes in a wide record, else of 2; larger ones are cut.
+fn number(wide: bool, number: u64) -> Vec<u8> {
+    number.to_le_bytes()[..if wide { 4 } else { 2 }].to_vec()
 }
 
-/// A record for this standby, with field after field made wrong in `odd` of a hundred.
+/// Kinds to put in place of the right one: those of both widths, and some that no standby reads.
+const SOME_KINDS: [u64; 14] = [0, 1, 2, 3, 4, 5, 5, 6, 7, 8, 9, 10, 11, 65_535];
+
+/// A record for this standby, with field after field made wrong in `odd` of a hundred. In fewer of them PAGE and COMMIT
+/// are of the other width than M calls for, and right otherwise.
 pub fn made_up_record(r: &Random, s: &Standby, odd: u64) -> Vec<u8> {
     if r.percent(odd / 4) {
-        let length = r.pick(&[0, 1, 3, 4, 8, 12, 80]);
+        let length = r.pick(&[0, 1, 3, 4, 8, 12, 16, 80]);
         return r.bytes(length);
     }
-    let mut kind = if s.state_seen { r.pick(&[4, 4, 4, 4, 3, 1, 2]) } else { r.pick(&[1, 1, 2, 2, 3, 3, 4]) };
+    let wide = is_wide(s.m) != r.percent(odd / 2);
+    let (page, commit) = if wide { (8, 9) } else { (1, 4) };
+    let likely = [commit, commit, commit, commit, 3, page, 2];
+    let mut kind = if s.state_seen { r.pick(&likely) } else { r.pick(&[page, page, 2, 2, 3, 3, commit]) };
     let body = match kind {
-        1 => [numbers(page_number(r, s, odd), 0)[..2].to_vec(), r.bytes(sane(s.u))].concat(),
-        2 => [numbers(number_below(r, s.d.min(65_535), odd), 0)[..2].to_vec(), r.bytes(sane(s.u))].concat(),
+        1 | 8 => [number(wide, page_number(r, s, odd)), r.bytes(sane(s.u))].concat(),
+        2 => [number(false, number_below(r, s.d.min(65_535), odd)), r.bytes(sane(s.u))].concat(),
         3 => r.bytes(64),
-        _ => counts(r, s, odd),
+        _ => counts(r, s, wide, odd),
     };
     let mut epoch = s.received.wrapping_add(1);
     if r.percent(odd) {
@@ -237,30 +250,38 @@ pub fn made_up_record(r: &Random, s: &Standby, odd: u64) -> Vec<u8> {
     }
     let mut length = body.len() as u64 + 4;
     if r.percent(odd) {
-        length = r.pick(&[0, 4, length - 1, length + 1, length ^ 256, 68, 8, 65_535]);
+        let u = sane(s.u);
+        length = r.pick(&[0, 4, length - 1, length + 1, length ^ 256, 68, 8, 12, u + 6, u + 8, 65_535]);
     }
     if r.percent(odd) {
-        kind = r.pick(&[0, 5, 5, 6, 7, kind + 256, 65_535, 1, 2, 3, 4]);
+        kind = if r.percent(10) { kind + 256 } else { r.pick(&SOME_KINDS) };
     }
     cut_or_extended(r, record(length, kind, epoch, &body), odd)
 }
 
+/// A page for this standby, or an odd one: at M, past it, not above the last, or small when cut to 16 or 24 bits.
 fn page_number(r: &Random, s: &Standby, odd: u64) -> u64 {
-    if r.percent(odd) {
-        return r.pick(&[s.m, s.m.wrapping_add(1), 65_535, s.next_page.saturating_sub(1), s.m.saturating_sub(1), 256]);
+    let right = if s.next_page < s.m { r.range(s.next_page, s.m - 1) } else { r.below(s.m) };
+    if !r.percent(odd) {
+        return right;
     }
-    if s.next_page < s.m { r.range(s.next_page, s.m - 1) } else { r.below(s.m) }
+    r.pick(&[
+        s.m, s.m.wrapping_add(1), 65_535, 65_536, 65_537, u32::MAX as u64, right.wrapping_add(65_536),
+        right.wrapping_add(1 << 24), s.next_page.saturating_sub(1), s.m.saturating_sub(1), 256,
+    ])
 }
 
-fn counts(r: &Random, s: &Standby, odd: u64) -> Vec<u8> {
+fn counts(r: &Random, s: &Standby, wide: bool, odd: u64) -> Vec<u8> {
     let (mut pages, mut blocks) = (s.pages, s.blocks);
     if r.percent(odd) {
-        pages = r.pick(&[pages.wrapping_add(1), pages.wrapping_sub(1), 0, pages ^ 256, s.blocks]);
+        let above = pages.wrapping_add(65_536);
+        pages = r.pick(&[pages.wrapping_add(1), pages.wrapping_sub(1), 0, pages ^ 256, s.blocks, above]);
     }
     if r.percent(odd) {
-        blocks = r.pick(&[blocks.wrapping_add(1), blocks.wrapping_sub(1), 0, blocks ^ 256, s.pages]);
+        let above = blocks.wrapping_add(65_536);
+        blocks = r.pick(&[blocks.wrapping_add(1), blocks.wrapping_sub(1), 0, blocks ^ 256, s.pages, above]);
     }
-    numbers(pages, blocks)
+    [number(wide, pages), number(wide, blocks)].concat()
 }
 
 /// An ACK for this primary, with field after field made wrong in `odd` of a hundred.
@@ -272,14 +293,14 @@ pub fn made_up_ack(r: &Random, p: &Primary, odd: u64) -> Vec<u8> {
         epoch = r.pick(&[p.acknowledged, p.open, before, p.open.wrapping_add(1), 0, u32::MAX, r.next() as u32]);
     }
     let length = if r.percent(odd) { r.pick(&[0, 3, 5, 8, 260, 65_535]) } else { 4 };
-    let kind = if r.percent(odd) { r.pick(&[0, 1, 3, 4, 6, 261, 65_535]) } else { 5 };
+    let kind = if r.percent(odd) { r.pick(&[0, 1, 3, 4, 6, 7, 8, 9, 10, 261, 65_535]) } else { 5 };
     cut_or_extended(r, record(length, kind, epoch, &[]), odd)
 }
 
 fn cut_or_extended(r: &Random, mut bytes: Vec<u8>, odd: u64) -> Vec<u8> {
     if r.percent(odd) {
         let length = bytes.len() as u64;
-        let keep = r.pick(&[0, 1, 3, 4, 5, 7, 8, 9, 10, length - 1, r.below(length)]);
+        let keep = r.pick(&[0, 1, 3, 4, 5, 7, 8, 9, 10, 11, 12, length - 1, r.below(length)]);
         bytes.truncate(keep as usize);
     } else if r.percent(25) {
         let more = r.range(1, 20);

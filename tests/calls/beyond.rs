@@ -1,4 +1,4 @@
-//! Calls at settings just beyond their largest.
+//! Calls at settings just beyond their largest; beyond the largest L they are in wide_ends.rs.
 use crate::arguments::{arguments, fresh_world, start_args};
 use crate::items::code;
 use crate::model::{least_stream, Settings};
@@ -14,9 +14,8 @@ pub fn run(r: &Random, sink: &mut Sink) {
 fn settings() -> Vec<Settings> {
     let s = Settings { u: 64, m: 70, d: 2, b: 1, s: 2, q: 100, l: least_stream(64, 70, 1), t: 2 };
     vec![
-        Settings { m: 4_097, l: least_stream(64, 4_097, 1), ..s },
+        Settings { m: 65_537, l: least_stream(64, 65_537, 1), ..s },
         Settings { d: 4_097, ..s },
-        Settings { l: 33_554_433, ..s },
         Settings { l: s.l - 1, ..s },
         Settings { u: 4_160, l: least_stream(4_160, 70, 1), ..s },
         Settings { u: 4_095, l: least_stream(4_095, 70, 1), ..s },

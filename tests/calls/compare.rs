@@ -14,6 +14,7 @@ mod cuts;
 mod generate;
 mod guarded;
 mod items;
+mod kinds;
 mod large;
 mod lent;
 mod lines;
@@ -35,6 +36,9 @@ mod singles;
 mod sink;
 mod ticks;
 mod view;
+mod wide;
+mod wide_ends;
+mod wide_records;
 mod world;
 
 use arguments::{large_settings, limit_settings, small_settings};
@@ -66,12 +70,13 @@ const TESTS: [Test; 14] = [
 
 /// The kinds that come on top.
 const LARGE: &str = "memory of every size";
+const WIDE: &str = "memory of both widths";
 const CUTS: &str = "runs cut at every place";
 const LINES: &str = "lines through the program";
 const MARKS: &str = "marks about the ends of words";
 const SILENCE: &str = "records that come slower than T ticks";
 const PARTS: &str = "records that come in parts";
-const ON_TOP: [&str; 6] = [LARGE, CUTS, LINES, MARKS, SILENCE, PARTS];
+const ON_TOP: [&str; 7] = [LARGE, WIDE, CUTS, LINES, MARKS, SILENCE, PARTS];
 
 fn until(sink: &mut Sink, end: u64, mut one: impl FnMut(&mut Sink)) {
     while sink.calls < end {
@@ -215,6 +220,7 @@ fn main() {
     for name in ON_TOP.into_iter().filter(|name| kinds.contains(name)) {
         noted(name, &mut sink, |sink| match name {
             LARGE => demanded(large::run(&r, sink)),
+            WIDE => demanded(wide::run(&r, sink)),
             CUTS => cut_runs(&r, sink, calls, seed),
             LINES => demanded(lines::run(&r, sink, &program)),
             MARKS => demanded(marks::run(&r, sink)),

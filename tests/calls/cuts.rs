@@ -31,10 +31,16 @@ fn is_standby_call(which: usize) -> bool {
     (code::READ..=code::STANDBY_DISK_WRITE).contains(&which)
 }
 
-/// One list of calls, and every cut of it.
+/// One list of calls at small settings, and every cut of it.
 pub fn run(r: &Random, sink: &mut Sink, tally: &mut Tally) -> Check {
+    let settings = some_settings(r);
+    run_at(r, sink, tally, settings)
+}
+
+/// One list of calls at these settings, and every cut of it.
+pub fn run_at(r: &Random, sink: &mut Sink, tally: &mut Tally, settings: Settings) -> Check {
     tally.runs += 1;
-    let mut both = begin(r, sink);
+    let mut both = Both::start(r, sink, settings);
     let (length, haste, put_off) = (r.range(16, 40), r.pick(&[40, 85, 85]), r.pick(&PUT_OFF));
     let ending_from = if r.percent(40) { r.range(length / 2, length) } else { length };
     let mut places = vec![both.clone()];
@@ -53,7 +59,7 @@ pub fn run(r: &Random, sink: &mut Sink, tally: &mut Tally) -> Check {
     Ok(())
 }
 
-fn begin(r: &Random, sink: &mut Sink) -> Both {
+fn some_settings(r: &Random) -> Settings {
     let b = r.range(0, 2);
     let mut settings = Settings {
         u: 64,
@@ -66,7 +72,7 @@ fn begin(r: &Random, sink: &mut Sink) -> Both {
         t: r.range(1, 3),
     };
     settings.l = least_stream(64, settings.m, b) + r.pick(&[0, 74, 160]);
-    Both::start(r, sink, settings)
+    settings
 }
 
 /// Makes one call, with its checks.

@@ -237,7 +237,7 @@ fn damaged_record(r: &Random, w: &World) -> Vec<u8> {
     let mut data = w.link[..whole].to_vec();
     for _ in 0..r.range(1, 2) {
         let last = data.len() as u64 - 1;
-        let at = r.pick(&[0, 2, 4, 8, 8, 10, r.below(12), r.below(last + 1)]).min(last) as usize;
+        let at = r.pick(&[0, 2, 4, 8, 8, 10, r.below(16), r.below(last + 1)]).min(last) as usize;
         data[at] = r.pick(&[data[at] ^ 1, data[at].wrapping_add(1), data[at].wrapping_sub(1), r.next() as u8]);
     }
     data

@@ -96,3 +96,13 @@ impl<T: Element> Guarded<T> {
         self.store[..self.front] == T::GUARD[..self.front] && self.store[self.end..] == T::GUARD[..MARGIN]
     }
 }
+
+impl Guarded<u8> {
+    /// So many zeros. Of very many, memory is only taken for those that a call touches.
+    pub fn zeros(&mut self, count: usize) {
+        (self.front, self.end) = (MARGIN, MARGIN + count);
+        self.store = vec![0; count + 2 * MARGIN];
+        self.store[..MARGIN].copy_from_slice(&u8::GUARD[..MARGIN]);
+        self.store[MARGIN + count..].copy_from_slice(&u8::GUARD[..MARGIN]);
+    }
+}

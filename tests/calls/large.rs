@@ -8,6 +8,7 @@ use crate::beyond;
 use crate::call::call;
 use crate::checker::{compare_answer, compare_item, demand, same_bytes, Check};
 use crate::items::{code, given, Item};
+use crate::kinds::unit_number;
 use crate::lent::Lent;
 use crate::model::*;
 use crate::random::Random;
@@ -18,12 +19,16 @@ use std::ops::Range;
 
 /// Buffers of more bytes than this are compared in parts.
 const PART: usize = 65_536;
+/// So many bytes are the part in turn.
+const TURN: usize = 16_384;
+/// The longest stream here; wide_ends.rs has the longest of all.
+const LONGEST: u64 = 33_554_432;
 
-/// Both sides of one run.
-struct Pair<'a> {
-    r: &'a Random,
-    sink: &'a mut Sink,
-    w: World,
+/// Both sides of one run; wide.rs makes its runs with it too.
+pub struct Pair<'a> {
+    pub r: &'a Random,
+    pub sink: &'a mut Sink,
+    pub w: World,
     lent: Lent,
     turn: usize,
 }
@@ -31,14 +36,14 @@ struct Pair<'a> {
 /// The settings of the runs.
 fn settings() -> Vec<Settings> {
     let of = |u, m, d, b, s, q, more: u64, t| {
-        let l = (least_stream(u, m, b) + more).min(33_554_432);
+        let l = (least_stream(u, m, b) + more).min(LONGEST);
         Settings { u, m, d, b, s, q, l, t }
     };
     vec![
         of(4_096, 4_096, 4_096, 64, 64, 32_768, u32::MAX as u64, 3),
         of(4_096, 4_095, 4_095, 63, 64, 32_767, 0, 1),
         of(4_032, 4_095, 4_096, 64, 64, 1_514, 84, 2),
-        of(4_032, 4_096, 1, 0, 0, 0, 4_042, 4),
+        of(4_032, 4_097, 1, 0, 0, 0, 4_044, 4),
         of(64, 4_096, 4_096, 64, 64, 32_768, u32::MAX as u64, 2),
     ]
 }
@@ -50,9 +55,7 @@ pub fn run(r: &Random, sink: &mut Sink) -> Check {
 }
 
 fn one(r: &Random, sink: &mut Sink, settings: Settings) -> Check {
-    let w = fresh_world(r, &settings);
-    let mut pair = Pair { r, sink, w, lent: Lent::new(), turn: 0 };
-    pair.start(settings)?;
+    let mut pair = Pair::started(r, sink, settings, fresh_world(r, &settings))?;
     pair.write_all_pages()?;
     pair.write_blocks(settings.b + 1)?;
     pair.send_packets()?;
@@ -61,19 +64,30 @@ fn one(r: &Random, sink: &mut Sink, settings: Settings) -> Check {
     pair.write_blocks(settings.b / 2)?;
     pair.write_some_pages()?;
     let mut link = pair.checkpoint_and_drain(&[usize::MAX])?;
-    link.truncate(link.len() - 12);
+    link.truncate(link.len() - commit_record(settings.m) as usize);
     pair.read_all(&link)?;
     pair.take_over()?;
     pair.end_alone()?;
     pair.whole()
 }
 
-impl Pair<'_> {
-    fn start(&mut self, settings: Settings) -> Check {
-        let mut a = start_args(self.r, settings);
-        View::new(&self.w, &a).lend_all(&mut self.lent, code::START);
-        let reply = self.make(code::START, &mut a)?;
-        demand(reply.number == 0, "the start is refused")
+impl<'a> Pair<'a> {
+    /// Both sides after a start at these settings, which is accepted, with these buffers.
+    pub fn started(r: &'a Random, sink: &'a mut Sink, settings: Settings, w: World) -> Result<Pair<'a>, String> {
+        let mut pair = Pair { r, sink, w, lent: Lent::new(), turn: 0 };
+        let mut a = start_args(r, settings);
+        View::new(&pair.w, &a).lend_all(&mut pair.lent, code::START);
+        let reply = pair.make(code::START, &mut a)?;
+        demand(reply.number == 0, "the start is refused")?;
+        Ok(pair)
+    }
+
+    /// Puts both sides' standby into this state.
+    pub fn set_standby(&mut self, standby: Standby) {
+        self.w.standby = standby;
+        let none = Args::none();
+        let view = View::new(&self.w, &none);
+        [Item::Standby, Item::Pending, Item::Kept].iter().for_each(|&item| view.lend(&mut self.lent, item));
     }
 
     /// Makes one call on both sides and compares.
@@ -89,7 +103,7 @@ impl Pair<'_> {
     }
 
     /// Lends the call's arguments; everything else is there from the calls before.
-    fn step(&mut self, which: usize, a: &mut Args) -> Result<Reply, String> {
+    pub fn step(&mut self, which: usize, a: &mut Args) -> Result<Reply, String> {
         let view = View::new(&self.w, a);
         for item in given(which).filter(|&item| is_argument(item)) {
             view.lend(&mut self.lent, item);
@@ -98,7 +112,7 @@ impl Pair<'_> {
     }
 
     /// A call with arguments made up for the state, none of them odd.
-    fn plain(&mut self, which: usize) -> Result<Reply, String> {
+    pub fn plain(&mut self, which: usize) -> Result<Reply, String> {
         let mut a = arguments(self.r, which, &self.w, 0);
         self.step(which, &mut a)
     }
@@ -123,15 +137,15 @@ impl Pair<'_> {
         let u = self.w.primary.u as usize;
         let place = match item {
             Item::Stream => self.w.primary.waiting as usize,
-            _ if which == code::READ && a.data.len() >= 10 => u16::from_le_bytes([a.data[8], a.data[9]]) as usize * u,
+            _ if which == code::READ => (unit_number(&a.data).unwrap_or(0) as usize).saturating_mul(u),
             _ => (a.place as usize).saturating_mul(u),
         };
-        let other = self.turn % length.div_ceil(PART) * PART;
-        [place.saturating_sub(2 * u)..place.saturating_add(3 * u), other..other + PART]
+        let other = self.turn % length.div_ceil(TURN) * TURN;
+        [place.saturating_sub(2 * u)..place.saturating_add(3 * u), other..other + TURN]
     }
 
     /// Compares all that both sides hold, to the last byte.
-    fn whole(&self) -> Check {
+    pub fn whole(&self) -> Check {
         let none = Args::none();
         let view = View::new(&self.w, &none);
         let mut all = given(code::START).filter(|&item| !is_argument(item));
@@ -140,7 +154,7 @@ impl Pair<'_> {
     }
 
     /// Every page is written once, not in their order.
-    fn write_all_pages(&mut self) -> Check {
+    pub fn write_all_pages(&mut self) -> Check {
         let (u, m) = (self.w.primary.u, self.w.primary.m);
         for turn in 0..m {
             let mut a = Args::none();
@@ -183,9 +197,10 @@ impl Pair<'_> {
     /// A checkpoint of all pages, drained in three parts that cut records, read to its COMMIT and acknowledged.
     fn checkpoint_to_ack(&mut self) -> Check {
         let link = self.checkpoint_and_drain(&[5_000_003, 7, usize::MAX])?;
-        let pages = self.sink.records[1];
+        let kind = page_kind(self.w.primary.m) as usize;
+        let pages = self.sink.records[kind];
         let ack = self.read_all(&link)?;
-        demand(self.sink.records[1] - pages == self.w.primary.m, "not every page was sent")?;
+        demand(self.sink.records[kind] - pages == self.w.primary.m, "not every page was sent")?;
         self.step(code::ACK, &mut Args { data: ack, ..Args::none() })?;
         let due = self.w.standby.due;
         self.step(code::FLUSH, &mut Args { n: due / 3, ..Args::none() })?;
@@ -199,6 +214,11 @@ impl Pair<'_> {
         demand(reply.number == 0, "the checkpoint is refused")?;
         // One more finds no page dirty; where L is the least it may lack the bytes.
         self.plain(code::CHECKPOINT)?;
+        self.drain(budgets)
+    }
+
+    /// All that waits, drained by these budgets.
+    pub fn drain(&mut self, budgets: &[usize]) -> Result<Vec<u8>, String> {
         let mut link = Vec::new();
         for &budget in budgets {
             let waiting = self.w.primary.waiting as usize;
@@ -211,7 +231,7 @@ impl Pair<'_> {
     }
 
     /// Reads the records one after the other, some of them cut short first; the last ACK.
-    fn read_all(&mut self, link: &[u8]) -> Result<Vec<u8>, String> {
+    pub fn read_all(&mut self, link: &[u8]) -> Result<Vec<u8>, String> {
         let (mut at, mut ack) = (0, Vec::new());
         while at + 4 <= link.len() {
             let whole = 4 + u16::from_le_bytes([link[at], link[at + 1]]) as usize;
@@ -226,8 +246,9 @@ impl Pair<'_> {
                 continue;
             }
             demand(reply.number == 0, "a record is refused")?;
+            demand(reply.value == link[at + 2] as u64, "another kind was read")?;
             at += reply.used as usize;
-            ack = if reply.value == 4 { out[..8].to_vec() } else { ack };
+            ack = if is_commit(reply.value) { out[..8].to_vec() } else { ack };
         }
         Ok(ack)
     }
@@ -241,17 +262,17 @@ impl Pair<'_> {
         demand(length + reply.missing == end, "what is missing is not the rest")
     }
 
-    fn read(&mut self, data: &[u8]) -> Result<(Reply, Vec<u8>), String> {
+    pub fn read(&mut self, data: &[u8]) -> Result<(Reply, Vec<u8>), String> {
         let mut a = Args { data: data.to_vec(), out: self.r.bytes(9), ..Args::none() };
         let reply = self.step(code::READ, &mut a)?;
-        if reply.number == 0 && reply.value == 4 {
+        if reply.number == 0 && is_commit(reply.value) {
             self.whole()?;
         }
         Ok((reply, a.out))
     }
 
     /// Ticks, a flush of all due, activation, writes of the guest, and the disk choice.
-    fn take_over(&mut self) -> Check {
+    pub fn take_over(&mut self) -> Check {
         while self.w.standby.mode == Mode::Receiving {
             self.plain(code::STANDBY_TICK)?;
         }

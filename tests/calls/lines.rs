@@ -1,13 +1,16 @@
 //! The program that reads lines (FORM.md), compared with the calls themselves: good lines of every code, changed ones,
 //! and lines at the limits of the form.
-use crate::arguments::small_settings;
+use crate::arguments::{fresh_world, small_settings};
 use crate::changed_lines;
-use crate::checker::Check;
+use crate::checker::{demand, Check};
 use crate::generate::list;
 use crate::items::code;
+use crate::model::*;
 use crate::random::Random;
+use crate::refused_records::page_of;
 use crate::singles;
 use crate::sink::{Sink, Text};
+use crate::world::{Args, World};
 use crate::{no_state, outside};
 use std::io::{Read, Write};
 use std::process::{Command, Stdio};
@@ -22,6 +25,7 @@ pub fn run(r: &Random, sink: &mut Sink, program: &str) -> Check {
     every_code(&text)?;
     examples(program)?;
     changed_lines::compare(r, program, &text)?;
+    most_pages(r, sink, program)?;
     limits(program)
 }
 
@@ -44,6 +48,25 @@ fn good_lines(r: &Random, sink: &mut Sink) -> Text {
     sink.text.take().unwrap_or_default()
 }
 
+/// A checkpoint and a read at the largest M: their buffers fit on a line.
+fn most_pages(r: &Random, sink: &mut Sink, program: &str) -> Check {
+    let (u, m, d, b, s, t) = (64, MOST_PAGES, 1, 1, 1, 1);
+    let settings = Settings { u, m, d, b, s, q: 0, l: least_stream(u, m, b), t };
+    let primary = Primary { u, m, d, b, l: settings.l, t, open: 1, ..Primary::zero() };
+    let standby = Standby { u, m, d, b, s, t, ..Standby::zero() };
+    let mut page = Args { data: page_of(&standby, m - 1), out: vec![0; 8], ..Args::none() };
+    let mut w = World { primary, standby, ..fresh_world(r, &settings) };
+    sink.text = Some(Text::default());
+    let replies = [
+        sink.call(code::CHECKPOINT, &mut w, &mut Args::none()),
+        sink.call(code::READ, &mut w, &mut page),
+    ];
+    demand(replies.iter().all(|reply| reply.number == 0), "a line of the largest M is refused")?;
+    let text = sink.text.take().unwrap_or_default();
+    let (lines, answers) = (text.lines.concat(), text.answers.concat());
+    same(&lines, &answers, &printed(program, &[&lines])?)
+}
+
 fn every_code(text: &Text) -> Check {
     for which in 0..code::ALL {
         let head = format!("{which} ");
@@ -55,8 +78,8 @@ fn every_code(text: &Text) -> Check {
 }
 
 /// Lines with answers that an earlier program of the same form gave, or worked out by hand where a record is cut short
-/// or refused: the order of the items is in one table for both programs here, and a mistake in it would be seen by
-/// nothing else.
+/// or refused, or where M or L is at an end of its range: the order of the items is in one table for both programs
+/// here, and a mistake in it would be seen by nothing else.
 fn examples(program: &str) -> Check {
     let (lines, answers) = (include_bytes!("examples.in"), include_bytes!("examples.out"));
     same(lines, answers, &printed(program, &[lines])?)

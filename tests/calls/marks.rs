@@ -1,6 +1,7 @@
 //! Marks about the ends of 64-bit words: a checkpoint, a COMMIT and a takeover with every mark by itself, with all but
-//! one, with two and with bits set past M, where M fills its words, passes them by one page or falls short by one. What
-//! they make of the marks is worked out here page by page, beside the model.
+//! one, with two and with bits set past M, where M fills its words, passes them by one page or falls short by one; at
+//! large M of both widths with some of these. What they make of the marks is worked out here page by page, beside the
+//! model.
 use crate::arguments::{fresh_world, record};
 use crate::checker::{demand, Check};
 use crate::items::code;
@@ -10,24 +11,42 @@ use crate::sink::Sink;
 use crate::world::{Args, World};
 
 const PAGES: [u64; 7] = [1, 63, 64, 65, 127, 128, 129];
+const MANY_PAGES: [u64; 3] = [4_096, 4_097, 65_535];
 const U: usize = 64;
-const PAGE_RECORD: usize = U + 10;
+
+/// The bytes of the records at an M: a PAGE, STATE and COMMIT together, a page number or a count.
+struct Lengths {
+    page: usize,
+    end: usize,
+    number: usize,
+}
+
+fn lengths(m: u64) -> Lengths {
+    if m <= 4_096 {
+        Lengths { page: U + 10, end: 84, number: 2 }
+    } else {
+        Lengths { page: U + 12, end: 88, number: 4 }
+    }
+}
 
 pub fn run(r: &Random, sink: &mut Sink) -> Check {
-    for m in PAGES {
-        let settings = Settings { u: U as u64, m, d: 0, b: 0, s: 0, q: 0, l: least_stream(U as u64, m, 0), t: 1 };
-        let w = fresh_world(r, &settings);
-        for marks in patterns(mark_words(m) as usize) {
-            checkpoints(sink, &settings, &w, &marks).map_err(|what| told(m, &marks, &what))?;
-            commit(sink, &settings, &w, &marks).map_err(|what| told(m, &marks, &what))?;
-            takeover(sink, &settings, &w, &marks).map_err(|what| told(m, &marks, &what))?;
-        }
+    PAGES.into_iter().try_for_each(|m| at(r, sink, m, patterns(mark_words(m) as usize)))?;
+    MANY_PAGES.into_iter().try_for_each(|m| at(r, sink, m, some_patterns(m)))
+}
+
+fn at(r: &Random, sink: &mut Sink, m: u64, patterns: Vec<Vec<u64>>) -> Check {
+    let settings = Settings { u: U as u64, m, d: 0, b: 0, s: 0, q: 0, l: least_stream(U as u64, m, 0), t: 1 };
+    let w = fresh_world(r, &settings);
+    for marks in patterns {
+        checkpoints(sink, &settings, &w, &marks).map_err(|what| told(m, &marks, &what))?;
+        commit(sink, &settings, &w, &marks).map_err(|what| told(m, &marks, &what))?;
+        takeover(sink, &settings, &w, &marks).map_err(|what| told(m, &marks, &what))?;
     }
     Ok(())
 }
 
 fn told(m: u64, marks: &[u64], what: &str) -> String {
-    format!("M {m}, marks {marks:x?}: {what}")
+    format!("M {m}, {} words of marks, first {:x?}: {what}", marks.len(), &marks[..marks.len().min(3)])
 }
 
 /// The marks of these bits alone.
@@ -55,6 +74,19 @@ fn patterns(words: usize) -> Vec<Vec<u64>> {
     patterns
 }
 
+/// None, all, all but the last page, and some about the first word, page 4,095 and the last page, with the bits past M
+/// set.
+fn some_patterns(m: u64) -> Vec<Vec<u64>> {
+    let (words, last) = (mark_words(m) as usize, m as usize - 1);
+    let all: Vec<usize> = (0..=last).collect();
+    let sets = [
+        vec![], all.clone(), all[..last].to_vec(), vec![0], vec![last], vec![0, last], vec![63, 64, last - 1],
+        vec![4_094, 4_095, last],
+    ];
+    let past: Vec<usize> = (m as usize..64 * words).collect();
+    sets.map(|set| only(words, &[set, past.clone()].concat())).into()
+}
+
 fn is_marked(marks: &[u64], page: u64) -> bool {
     marks[(page / 64) as usize] >> (page % 64) & 1 == 1
 }
@@ -68,7 +100,8 @@ fn cleared(now: &[u64], before: &[u64], m: u64) -> Check {
 /// A checkpoint where the stream has exactly the room, and one where a byte is missing.
 fn checkpoints(sink: &mut Sink, s: &Settings, w: &World, marks: &[u64]) -> Check {
     let pages: Vec<u64> = (0..s.m).filter(|&page| is_marked(marks, page)).collect();
-    let from = s.l as usize - pages.len() * PAGE_RECORD - 84;
+    let lengths = lengths(s.m);
+    let from = s.l as usize - pages.len() * lengths.page - lengths.end;
     let mut w = World { marks: marks.to_vec(), ..w.clone() };
     w.primary = Primary { u: s.u, m: s.m, l: s.l, t: s.t, open: 1, waiting: from as u64 + 1, ..Primary::zero() };
     let reply = sink.call(code::CHECKPOINT, &mut w, &mut Args::none());
@@ -76,10 +109,14 @@ fn checkpoints(sink: &mut Sink, s: &Settings, w: &World, marks: &[u64]) -> Check
     w.primary.waiting -= 1;
     let reply = sink.call(code::CHECKPOINT, &mut w, &mut Args::none());
     demand(reply.number == 0 && w.primary.waiting == s.l, "the checkpoint does not fill the stream")?;
-    let number_at = |at: usize| u16::from_le_bytes([w.stream[at], w.stream[at + 1]]) as u64;
-    let written = (0..pages.len()).map(|i| number_at(from + i * PAGE_RECORD + 8));
+    let number_at = |at: usize| {
+        let bytes = &w.stream[at..at + lengths.number];
+        bytes.iter().rev().fold(0, |number, &byte| number << 8 | byte as u64)
+    };
+    let written = (0..pages.len()).map(|i| number_at(from + i * lengths.page + 8));
     demand(written.eq(pages.iter().copied()), "the pages written are not those marked")?;
-    demand(number_at(w.stream.len() - 4) == pages.len() as u64, "the COMMIT's count is not theirs")?;
+    let count = number_at(w.stream.len() - 2 * lengths.number);
+    demand(count == pages.len() as u64, "the COMMIT's count is not theirs")?;
     cleared(&w.marks, marks, s.m)
 }
 
@@ -88,7 +125,8 @@ fn commit(sink: &mut Sink, s: &Settings, w: &World, marks: &[u64]) -> Check {
     let mut w = World { standby_marks: marks.to_vec(), ..w.clone() };
     w.standby = Standby { u: s.u, m: s.m, t: s.t, mode: Mode::Receiving, state_seen: true, ..Standby::zero() };
     let before = w.standby_memory.clone();
-    let mut a = Args { data: record(8, 4, 1, &[0; 4]), out: vec![0; 8], ..Args::none() };
+    let data = if s.m <= 4_096 { record(8, 4, 1, &[0; 4]) } else { record(12, 9, 1, &[0; 8]) };
+    let mut a = Args { data, out: vec![0; 8], ..Args::none() };
     let reply = sink.call(code::READ, &mut w, &mut a);
     demand(reply.number == 0, "the COMMIT is refused")?;
     let installed = (0..s.m).all(|page| {

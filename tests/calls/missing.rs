@@ -14,6 +14,9 @@ use std::collections::{BTreeMap, BTreeSet};
 
 const HEADER: usize = 4;
 const SIZES: [u64; 5] = [64, 128, 192, 1_024, 4_096];
+/// An M for the kinds 1 and 4, and the least M for the kinds 8 and 9.
+const PAGES: u64 = 3;
+const WIDE_PAGES: u64 = 4_097;
 /// What stands behind a record: the next one.
 const FOLLOWING: [u8; 12] = [8, 0, 4, 0, 8, 0, 0, 0, 0, 0, 0, 0];
 
@@ -32,6 +35,7 @@ pub fn run(r: &Random, sink: &mut Sink) -> Check {
     for u in SIZES {
         sized(r, sink, u, &mut tally).map_err(|what| format!("U {u}: {what}"))?;
     }
+    wide(r, sink, SIZES[0], &mut tally).map_err(|what| format!("M {WIDE_PAGES}: {what}"))?;
     let (parts, numbers) = (tally.missing.values().sum::<u64>(), tally.numbers.values().sum::<u64>());
     println!("  {parts} parts cut short, {} of them different by call, kind or bytes missing", tally.missing.len());
     println!("  {numbers} parts or records judged, {} records received in three parts", tally.received);
@@ -40,22 +44,40 @@ pub fn run(r: &Random, sink: &mut Sink) -> Check {
 
 /// Everything at one U: every part of the records that are accepted, and of those that are not the parts in `lengths`.
 fn sized(r: &Random, sink: &mut Sink, u: u64, tally: &mut Tally) -> Check {
-    for case in accepted(r, u) {
+    for case in accepted(r, u, PAGES) {
         (0..case.record.len()).try_for_each(|length| part(r, sink, &case, length, tally))?;
         any_header(r, sink, &case, tally)?;
     }
-    for case in refused_when_whole(r, u) {
+    for case in refused_when_whole(r, u, PAGES) {
         lengths(u, &case).into_iter().try_for_each(|length| part(r, sink, &case, length, tally))?;
     }
-    for case in refused_by_header(r, u) {
+    for case in refused_by_header(r, u, PAGES) {
         lengths(u, &case).into_iter().try_for_each(|length| refused_header(sink, &case, length, tally))?;
         judged(sink, &case, &[&case.record[..], &FOLLOWING].concat(), tally)?;
     }
-    for case in not_looked_at(r, u) {
+    for case in not_looked_at(r, u, PAGES) {
         // that none is missing is said of no byte too
         lengths(u, &case).into_iter().try_for_each(|length| judged(sink, &case, &case.record[..length], tally))?;
     }
-    received_by_missing(r, sink, u, tally)
+    received_by_missing(r, sink, u, PAGES, tally)
+}
+
+/// The same where M calls for the kinds 8 and 9, at fewer lengths: such a memory is long to lend.
+fn wide(r: &Random, sink: &mut Sink, u: u64, tally: &mut Tally) -> Check {
+    for case in accepted(r, u, WIDE_PAGES) {
+        (0..case.record.len()).try_for_each(|length| part(r, sink, &case, length, tally))?;
+    }
+    for case in refused_when_whole(r, u, WIDE_PAGES).into_iter().filter(|case| case.record[2] >= 8) {
+        [4, case.record.len() - 1].into_iter().try_for_each(|length| part(r, sink, &case, length, tally))?;
+    }
+    for case in refused_by_header(r, u, WIDE_PAGES) {
+        [3, 4, 7].into_iter().try_for_each(|length| refused_header(sink, &case, length, tally))?;
+        judged(sink, &case, &[&case.record[..], &FOLLOWING].concat(), tally)?;
+    }
+    for case in not_looked_at(r, u, WIDE_PAGES) {
+        [0, 4].into_iter().try_for_each(|length| judged(sink, &case, &case.record[..length], tally))?;
+    }
+    received_by_missing(r, sink, u, WIDE_PAGES, tally)
 }
 
 /// What was given, of many bytes their head.
@@ -183,8 +205,8 @@ fn any_header(r: &Random, sink: &mut Sink, case: &Case, tally: &mut Tally) -> Ch
 }
 
 /// Two checkpoints over a link from which no byte more than is missing is ever received, and their ACKs back.
-fn received_by_missing(r: &Random, sink: &mut Sink, u: u64, tally: &mut Tally) -> Check {
-    let settings = Settings { u, m: 3, d: 2, b: 1, s: 2, q: 0, l: least_stream(u, 3, 1), t: 3 };
+fn received_by_missing(r: &Random, sink: &mut Sink, u: u64, m: u64, tally: &mut Tally) -> Check {
+    let settings = Settings { u, m, d: 2, b: 1, s: 2, q: 0, l: least_stream(u, m, 1), t: 3 };
     let mut both = Both::start(r, sink, settings);
     for epoch in 1..=2 {
         checkpoint(r, sink, &mut both)?;
@@ -222,7 +244,8 @@ impl Tally {
     fn everything_came(&self) -> Check {
         let headers = [code::READ, code::ACK].into_iter().flat_map(|which| (1..=4).map(move |n| (which, 0, n)));
         let bodies = [(PAGE, 70), (BLOCK, 70), (STATE, 68), (COMMIT, 8), (ACK, 4), (PAGE, 4_102), (BLOCK, 4_102)];
-        let bodies = bodies.into_iter().flat_map(|(kind, body)| [1, body].map(|n| (reader(kind), kind, n)));
+        let bodies = bodies.into_iter().chain([(WIDE_PAGE, 72), (WIDE_COMMIT, 12)]);
+        let bodies = bodies.flat_map(|(kind, body)| [1, body].map(|n| (reader(kind), kind, n)));
         if let Some(one) = headers.chain(bodies).find(|one| !self.missing.contains_key(one)) {
             return Err(format!("never came (code, kind or 0 for the header, missing): {one:?}"));
         }

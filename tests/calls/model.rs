@@ -9,7 +9,11 @@
 /// The number that stands for a record cut short.
 pub const CUT_SHORT: u64 = 256;
 pub const LAST_EPOCH: u32 = u32::MAX;
-const STATE_AND_COMMIT: u64 = 84;
+/// The upper ends of M and of L (document 02, Job 7).
+pub const MOST_PAGES: u64 = 65_536;
+pub const MOST_STREAM: u64 = 536_870_912;
+/// "Up to M 4,096 the writer uses kinds 1 and 4 as before, above that only 8 and 9".
+const MOST_NARROW_PAGES: u64 = 4_096;
 
 #[derive(Clone, Copy, PartialEq, Eq, Debug, Default)]
 pub struct Settings {
@@ -127,7 +131,7 @@ impl Primary {
         sizes_in_range(self.u, self.m, self.d, self.b, self.t)
             && self.q <= 32_768
             && self.l >= least_stream(self.u, self.m, self.b)
-            && self.l <= 33_554_432
+            && self.l <= MOST_STREAM
             && self.queue_in_range()
             && self.acknowledged < self.open
             && self.waiting <= self.l
@@ -190,7 +194,7 @@ impl Standby {
 fn sizes_in_range(u: u64, m: u64, d: u64, b: u64, t: u64) -> bool {
     (64..=4_096).contains(&u)
         && u % 64 == 0
-        && (1..=4_096).contains(&m)
+        && (1..=MOST_PAGES).contains(&m)
         && d <= 4_096
         && b <= 64
         && (1..=60_000).contains(&t)
@@ -200,8 +204,57 @@ fn count_in_range(count: u64, patience: u64, counting: bool) -> bool {
     count <= patience && !(counting && count == patience)
 }
 
+/// Whether M calls for the kinds 8 and 9 in place of 1 and 4.
+pub fn is_wide(m: u64) -> bool {
+    m > MOST_NARROW_PAGES
+}
+
+/// The bytes of a whole PAGE record at this M.
+pub fn page_record(u: u64, m: u64) -> u64 {
+    if is_wide(m) { u + 12 } else { u + 10 }
+}
+
+/// The bytes of a whole COMMIT record at this M.
+pub fn commit_record(m: u64) -> u64 {
+    if is_wide(m) { 16 } else { 12 }
+}
+
+/// The bytes of STATE and COMMIT together at this M: 84 or 88.
+pub fn state_and_commit(m: u64) -> u64 {
+    72 + commit_record(m)
+}
+
+/// The kind of a PAGE at this M.
+pub fn page_kind(m: u64) -> u64 {
+    if is_wide(m) { records::WIDE_PAGE } else { records::PAGE }
+}
+
+/// The kind of a COMMIT at this M.
+pub fn commit_kind(m: u64) -> u64 {
+    if is_wide(m) { records::WIDE_COMMIT } else { records::COMMIT }
+}
+
+/// PAGE, BLOCK, STATE and COMMIT at this M.
+pub fn kinds_of(m: u64) -> [u64; 4] {
+    [page_kind(m), records::BLOCK, records::STATE, commit_kind(m)]
+}
+
+/// "A standby reads only the kinds that its M calls for; the others give 6."
+pub fn is_read(kind: u64, m: u64) -> bool {
+    if is_wide(m) {
+        matches!(kind, records::BLOCK | records::STATE | records::WIDE_PAGE | records::WIDE_COMMIT)
+    } else {
+        (records::PAGE..=records::COMMIT).contains(&kind)
+    }
+}
+
+/// Whether a record of this kind is a COMMIT, of either width.
+pub fn is_commit(kind: u64) -> bool {
+    kind == records::COMMIT || kind == records::WIDE_COMMIT
+}
+
 pub fn least_stream(u: u64, m: u64, b: u64) -> u64 {
-    m * (u + 10) + b * (u + 10) + STATE_AND_COMMIT
+    m * page_record(u, m) + b * (u + 10) + state_and_commit(m)
 }
 
 /// Whether a lent length is the exact one.
@@ -269,7 +322,7 @@ fn start_in_range(s: &Settings, lent: &Lent) -> bool {
         && s.s <= 64
         && s.q <= 32_768
         && s.l >= least_stream(s.u, s.m, s.b)
-        && s.l <= 33_554_432
+        && s.l <= MOST_STREAM
         && exact(lent.memory.len(), s.m * s.u)
         && exact(lent.disk.len(), s.d * s.u)
         && exact(lent.marks.len(), mark_words(s.m))

@@ -84,7 +84,7 @@ pub fn checkpoint(p: &mut Primary, memory: &[u8], marks: &mut [u64], stream: &mu
         return refused(13);
     }
     let dirty = count_marked(marks, p.m);
-    if dirty * (p.u + 10) + STATE_AND_COMMIT > p.l - p.waiting {
+    if dirty * page_record(p.u, p.m) + state_and_commit(p.m) > p.l - p.waiting {
         return refused(15);
     }
     if p.open == LAST_EPOCH {
@@ -92,10 +92,10 @@ pub fn checkpoint(p: &mut Primary, memory: &[u8], marks: &mut [u64], stream: &mu
     }
     let mut at = p.waiting as usize;
     for_marked(marks, p.m, |page| {
-        at += put_data(&mut stream[at..], PAGE, p.open, page as u64, &memory[part(page as u64, p.u)]);
+        at += put_data(&mut stream[at..], page_kind(p.m), p.open, page as u64, &memory[part(page as u64, p.u)]);
     });
     at += put_state(&mut stream[at..], p.open, cpu);
-    at += put_commit(&mut stream[at..], p.open, dirty, p.blocks);
+    at += put_commit(&mut stream[at..], commit_kind(p.m), p.open, dirty, p.blocks);
     clear_marks(marks, p.m);
     p.waiting = at as u64;
     p.blocks = 0;
@@ -122,7 +122,7 @@ pub fn ack(p: &mut Primary, data: &[u8]) -> Reply {
     if p.alone {
         return refused(13);
     }
-    match read_record(data, p.u, ACK, ACK) {
+    match read_record(data, p.u, |kind| kind == ACK) {
         Record::Ack { epoch } if epoch <= p.acknowledged || epoch >= p.open => refused(11),
         Record::Ack { epoch } => {
             p.acknowledged = epoch;

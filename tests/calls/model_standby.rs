@@ -23,7 +23,7 @@ pub fn read(s: &mut Standby, lent: &mut Staging, data: &[u8], reply: &mut [u8]) 
     if s.mode != Mode::Receiving {
         return refused(13);
     }
-    let answer = match read_record(data, s.u, PAGE, COMMIT) {
+    let answer = match read_record(data, s.u, |kind| is_read(kind, s.m)) {
         Record::CutShort { missing } => return cut_short(missing),
         Record::Refused(number) => Err(number),
         Record::Page { epoch, page, bytes } => read_page(s, lent, epoch, page, bytes),
@@ -34,7 +34,7 @@ pub fn read(s: &mut Standby, lent: &mut Staging, data: &[u8], reply: &mut [u8]) 
     };
     match answer {
         Ok((kind, used)) => {
-            // document 02, Job 1: "at each accepted record of kinds 1 to 4"
+            // document 02, Job 1: "at each accepted record of kinds 1 to 4"; Job 7 treats 8 as 1 and 9 as 4
             s.count = 0;
             Reply { used, ..accepted(kind) }
         }
@@ -53,7 +53,7 @@ fn lowest_page(s: &Standby) -> u64 {
     s.next_page.max(s.pages)
 }
 
-/// A record's kind and the bytes used, or the number of the refusal.
+/// A record's own kind, 8 and 9 too, and the bytes used; or the number of the refusal.
 type Read = Result<(u64, u64), u64>;
 
 fn read_page(s: &mut Standby, lent: &mut Staging, epoch: u32, page: u64, bytes: &[u8]) -> Read {
@@ -70,7 +70,7 @@ fn read_page(s: &mut Standby, lent: &mut Staging, epoch: u32, page: u64, bytes: 
     lent.marks[(page / 64) as usize] |= 1 << (page % 64);
     s.pages += 1;
     s.next_page = page + 1;
-    Ok((PAGE, s.u + 10))
+    Ok((page_kind(s.m), page_record(s.u, s.m)))
 }
 
 fn read_block(s: &mut Standby, lent: &mut Staging, epoch: u32, block: u64, bytes: &[u8]) -> Read {
@@ -131,7 +131,7 @@ fn read_commit(s: &mut Standby, lent: &mut Staging, epoch: u32, counts: (u64, u6
     s.forget_epoch();
     s.received = epoch;
     put_epoch(reply, ACK, epoch);
-    Ok((COMMIT, 12))
+    Ok((commit_kind(s.m), commit_record(s.m)))
 }
 
 pub fn flush(s: &mut Standby, blocks: &mut [u8], disk: &mut [u8], n: u64) -> Reply {

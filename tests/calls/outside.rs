@@ -23,8 +23,8 @@ fn bad_u(r: &Random, u: u64) -> u64 {
 
 /// Raises L to what the other settings ask, where one in range can.
 fn enough_stream(p: &mut Primary) {
-    if p.u <= 5_000 && p.m <= 70_000 && p.b <= 300 {
-        p.l = p.l.max(least_stream(p.u, p.m, p.b)).min(33_554_432);
+    if p.u <= 5_000 && p.m <= 140_000 && p.b <= 300 {
+        p.l = p.l.max(least_stream(p.u, p.m, p.b)).min(MOST_STREAM);
     }
 }
 
@@ -33,12 +33,12 @@ pub fn push_primary(r: &Random, p: &mut Primary, clause: u64) -> bool {
     let packets = p.packets as usize;
     match clause % CLAUSES {
         0 => p.u = bad_u(r, p.u),
-        1 => p.m = outside(r, p.m, &[0, 4_097, 65_537]),
+        1 => p.m = outside(r, p.m, &[0, 65_537, 65_538, 69_632, 131_072]),
         2 => p.d = outside(r, p.d, &[4_097, 65_536]),
         3 => p.b = outside(r, p.b, &[65, 66, 256]),
         4 => p.q = outside(r, p.q, &[32_769, 40_000]),
         5 => return push_stream_down(p),
-        6 => p.l = outside(r, p.l, &[33_554_433, u32::MAX as u64]),
+        6 => p.l = outside(r, p.l, &[MOST_STREAM + 1, u32::MAX as u64]),
         7 => (p.t, p.count, p.alone) = (0, 0, true),
         8 => p.t = r.pick(&[60_001, 65_536]),
         9 => return push_packets(r, p),
@@ -102,7 +102,7 @@ pub fn push_standby(r: &Random, s: &mut Standby, clause: u64) -> bool {
     let staged = s.staged as usize;
     match clause % CLAUSES {
         0 => s.u = bad_u(r, s.u),
-        1 => s.m = outside(r, s.m, &[4_097, 65_537]),
+        1 => s.m = outside(r, s.m, &[65_537, 65_538, 69_632, 131_072]),
         2 => (s.m, s.pages) = (0, 0),
         3 => s.d = outside(r, s.d, &[4_097, 65_536]),
         4 => (s.b, s.s) = (65, 65),
@@ -134,18 +134,18 @@ pub fn push_standby(r: &Random, s: &mut Standby, clause: u64) -> bool {
 pub fn push_setting(r: &Random, s: &mut Settings, clause: u64) {
     match clause % 11 {
         0 => s.u = r.pick(&[0, 1, 63, 65, 96, 4_097, 4_160, 1 << 16, 1 << 32, 1 << 63, u64::MAX]),
-        1 => s.m = r.pick(&[0, 0, 4_097, 1 << 16, 1 << 32, 1 << 58, 1 << 63, u64::MAX]),
+        1 => s.m = r.pick(&[0, 0, 65_537, 69_632, 1 << 17, 1 << 32, 1 << 58, 1 << 63, u64::MAX]),
         2 => s.d = r.pick(&[4_097, 1 << 16, 1 << 32, 1 << 58, u64::MAX]),
         3 => (s.b, s.s) = r.pick(&[(65, 65), (65, 64), (256, 64), (1 << 32, 64), (u64::MAX, 64), (u64::MAX, u64::MAX)]),
         4 => s.s = r.pick(&[65, 66, 256, 1 << 32, 1 << 58, u64::MAX]),
         5 => (s.b, s.s) = (s.b + 1, s.b),
         6 => s.q = r.pick(&[32_769, 33_000, 1 << 32, u64::MAX]),
         7 => s.l = least_stream(s.u, s.m, s.b) - r.pick(&[1, 1, 2, 84]),
-        8 => s.l = r.pick(&[33_554_433, 1 << 32, u64::MAX, 0]),
+        8 => s.l = r.pick(&[MOST_STREAM + 1, 1 << 32, u64::MAX, 0]),
         9 => s.t = 0,
         _ => s.t = r.pick(&[60_001, 60_001, 65_536, 65_537, 1 << 31, u32::MAX as u64]),
     }
-    if matches!(clause % 11, 0..=5) && s.u <= 5_000 && s.m <= 5_000 && s.b <= 300 {
+    if matches!(clause % 11, 0..=5) && s.u <= 5_000 && s.m <= 140_000 && s.b <= 300 {
         s.l = s.l.max(least_stream(s.u, s.m, s.b));
     }
 }

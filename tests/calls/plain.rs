@@ -1,7 +1,7 @@
 //! The plain pair of document 01's "Whole runs". It is fed each call's arguments, number and value, and never
 //! sees an end's state or buffers.
 use crate::items::code;
-use crate::model::Reply;
+use crate::model::{is_commit, Reply};
 use crate::world::Args;
 use std::rc::Rc;
 
@@ -76,7 +76,7 @@ impl Plain {
             code::DISK_WRITE => replace(&mut self.disk, block, &a.data),
             code::PACKET => self.packets.push(Rc::new(a.data.clone())),
             code::CHECKPOINT => self.checkpoint(a.cpu),
-            code::READ if reply.value == 4 => self.r += 1,
+            code::READ if is_commit(reply.value) => self.r += 1,
             code::ACK => {
                 self.a = reply.value as usize;
                 self.count = 0;

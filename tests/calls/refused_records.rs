@@ -13,6 +13,8 @@ const PAGE: u64 = 1;
 const BLOCK: u64 = 2;
 const STATE: u64 = 3;
 const COMMIT: u64 = 4;
+const WIDE_PAGE: u64 = 8;
+const WIDE_COMMIT: u64 = 9;
 
 /// How often each number came; cut short is told apart by whether its header is incomplete.
 #[derive(Default)]
@@ -80,8 +82,9 @@ const LENGTHEN: [fn(&mut World); 4] =
 
 /// Whatever is given to a standby that is not receiving: 13.
 pub fn not_receiving(sink: &mut Sink, both: &mut Both, refusals: &mut Refusals) -> Check {
-    let records = (PAGE..=COMMIT).map(|kind| next(&both.world.standby, kind));
-    for data in records.chain([Vec::new()]).collect::<Vec<_>>() {
+    let kinds = [PAGE, BLOCK, STATE, COMMIT, WIDE_PAGE, WIDE_COMMIT];
+    let records = kinds.map(|kind| next(&both.world.standby, kind));
+    for data in records.into_iter().chain([Vec::new()]) {
         refused(sink, both, bad(13, data), refusals)?;
     }
     Ok(())
@@ -108,12 +111,17 @@ fn last_tick(sink: &mut Sink, mut both: Both) -> Check {
     demand(both.world.standby.mode == Mode::TakingOver, "the T-th tick does not take over after a refusal")
 }
 
-/// A record of this kind and of the next epoch. Its page or block is 0, its counts are those received.
+/// A record of this kind, of either width, and of the next epoch. Its page or block is 0, its counts are those
+/// received.
 pub fn next(s: &Standby, kind: u64) -> Vec<u8> {
-    let epoch = s.received + 1;
+    let (epoch, bytes) = (s.received + 1, vec![7; s.u as usize]);
     match kind {
-        PAGE | BLOCK => record(s.u + 6, kind, epoch, &[vec![0; 2], vec![7; s.u as usize]].concat()),
+        PAGE | BLOCK => record(s.u + 6, kind, epoch, &[vec![0; 2], bytes].concat()),
+        WIDE_PAGE => record(s.u + 8, kind, epoch, &[vec![0; 4], bytes].concat()),
         STATE => record(68, kind, epoch, &[7; 64]),
+        WIDE_COMMIT => {
+            record(12, kind, epoch, &[(s.pages as u32).to_le_bytes(), (s.blocks as u32).to_le_bytes()].concat())
+        }
         _ => record(8, kind, epoch, &[(s.pages as u16).to_le_bytes(), (s.blocks as u16).to_le_bytes()].concat()),
     }
 }
@@ -124,15 +132,31 @@ pub fn with(mut data: Vec<u8>, at: usize, number: u64) -> Vec<u8> {
     data
 }
 
-/// 6 and 7, of every kind.
+/// The same in four bytes.
+pub fn with_wide(mut data: Vec<u8>, at: usize, number: u64) -> Vec<u8> {
+    data[at..at + 4].copy_from_slice(&(number as u32).to_le_bytes());
+    data
+}
+
+/// PAGE and COMMIT of the width that this M does not call for.
+pub fn other_width(m: u64) -> [u64; 2] {
+    if is_wide(m) { [PAGE, COMMIT] } else { [WIDE_PAGE, WIDE_COMMIT] }
+}
+
+/// 6 and 7, of every kind. A kind of the other width gives 6 with its own length, and with that of this width.
 pub fn by_header(s: &Standby) -> Vec<Bad> {
-    let mut all = Vec::new();
-    for kind in PAGE..=COMMIT {
+    let [other_page, other_commit] = other_width(s.m);
+    let mut all = vec![bad(6, next(s, other_page)), bad(6, next(s, other_commit))];
+    for kind in kinds_of(s.m) {
         let good = next(s, kind);
         let body = good.len() as u64 - 4;
-        all.extend([0, 5, 6, 7, kind + 256].map(|other| bad(6, with(good.clone(), 2, other))));
+        let kinds = [0, 5, 6, 7, 10, kind + 256, other_page, other_commit];
+        all.extend(kinds.map(|other| bad(6, with(good.clone(), 2, other))));
         all.extend([body - 1, body + 1].map(|other| bad(7, with(good.clone(), 0, other))));
     }
+    // a length of the other width's
+    all.push(bad(7, with(next(s, page_kind(s.m)), 0, next(s, other_page).len() as u64 - 4)));
+    all.push(bad(7, with(next(s, commit_kind(s.m)), 0, next(s, other_commit).len() as u64 - 4)));
     all
 }
 
@@ -142,7 +166,7 @@ fn cut_short(s: &Standby) -> Vec<Bad> {
         let length = record.len();
         [cut(&record, 0, 4), cut(&record, 3, 1), cut(&record, 4, length - 4), cut(&record, length - 1, 1)]
     };
-    (PAGE..=COMMIT).flat_map(|kind| cuts(next(s, kind))).collect()
+    kinds_of(s.m).into_iter().flat_map(|kind| cuts(next(s, kind))).collect()
 }
 
 /// Whole records with a right header.
@@ -152,14 +176,41 @@ pub fn whole(s: &Standby) -> impl Iterator<Item = Bad> {
 
 /// 2 of a PAGE and a BLOCK, 5 of a COMMIT, 8 of every kind.
 fn by_field(s: &Standby) -> Vec<Bad> {
-    let mut all = vec![bad(2, with(next(s, PAGE), 8, s.m)), bad(2, with(next(s, BLOCK), 8, s.d))];
-    all.extend([0, 7].map(|reply| Bad { reply, ..bad(5, next(s, COMMIT)) }));
+    let mut all = vec![bad(2, with(next(s, BLOCK), 8, s.d))];
+    all.extend(bad_pages(s.m).into_iter().map(|page| bad(2, page_of(s, page))));
+    all.extend([0, 7].map(|reply| Bad { reply, ..bad(5, next(s, commit_kind(s.m))) }));
     // at D 0 every BLOCK gives 2, which comes before 8
-    for kind in (PAGE..=COMMIT).filter(|&kind| kind != BLOCK || s.d > 0) {
+    for kind in kinds_of(s.m).into_iter().filter(|&kind| kind != BLOCK || s.d > 0) {
         let received = s.received as u64;
         all.extend([received, received + 2].map(|epoch| bad(8, with(next(s, kind), 4, epoch))));
     }
     all
+}
+
+/// Page numbers not below M, in 2 bytes and in 4: wide ones also whose low bytes are a page.
+pub fn bad_pages(m: u64) -> Vec<u64> {
+    if is_wide(m) {
+        vec![m, 65_536, 65_537, 65_536 + m / 2, 1 << 24, 1 << 31, u32::MAX as u64]
+    } else {
+        vec![m, m + 256, 65_535]
+    }
+}
+
+/// A PAGE with this number.
+pub fn page_of(s: &Standby, page: u64) -> Vec<u8> {
+    let record = next(s, page_kind(s.m));
+    if is_wide(s.m) { with_wide(record, 8, page) } else { with(record, 8, page) }
+}
+
+/// COMMITs with one count wrong: by 1, and wide ones by more than 2 bytes hold.
+fn bad_counts(s: &Standby) -> Vec<Vec<u8>> {
+    let good = next(s, commit_kind(s.m));
+    if !is_wide(s.m) {
+        return vec![with(good.clone(), 8, s.pages + 1), with(good, 10, s.blocks + 1)];
+    }
+    let pages = [s.pages + 1, s.pages + 65_536].map(|pages| with_wide(good.clone(), 8, pages));
+    let blocks = [s.blocks + 1, s.blocks + 65_536].map(|blocks| with_wide(good.clone(), 12, blocks));
+    pages.into_iter().chain(blocks).collect()
 }
 
 /// 9, 10, 14 and 17, where the records read before ask for them.
@@ -168,7 +219,7 @@ fn by_order(s: &Standby) -> Vec<Bad> {
     let after_page_or_state = s.pages > 0 || s.state_seen;
     if after_page_or_state {
         // page 0 is not above the last
-        all.push(bad(9, next(s, PAGE)));
+        all.push(bad(9, next(s, page_kind(s.m))));
     }
     let of_block = if after_page_or_state { 9 } else if s.blocks == s.b { 14 } else { 17 };
     if s.d > 0 && (of_block != 17 || s.staged == s.s) {
@@ -176,10 +227,9 @@ fn by_order(s: &Standby) -> Vec<Bad> {
     }
     if s.state_seen {
         all.push(bad(9, next(s, STATE)));
-        all.push(bad(10, with(next(s, COMMIT), 8, s.pages + 1)));
-        all.push(bad(10, with(next(s, COMMIT), 10, s.blocks + 1)));
+        all.extend(bad_counts(s).into_iter().map(|record| bad(10, record)));
     } else {
-        all.push(bad(9, next(s, COMMIT)));
+        all.push(bad(9, next(s, commit_kind(s.m))));
     }
     all
 }

@@ -14,6 +14,7 @@ use crate::world::Args;
 const BLOCK: u64 = 2;
 /// The T of every size; the largest T comes at one size only.
 const PATIENCE: [u64; 4] = [1, 2, 3, 7];
+const WIDE_PATIENCE: u64 = 2;
 const MOST_PATIENCE: u64 = 60_000;
 
 #[derive(Default)]
@@ -25,11 +26,14 @@ struct Tally {
 }
 
 /// Settings with no block, with no allowance, with slots for one checkpoint's blocks or more, with marks of two words,
-/// and with the largest pages.
+/// and with the largest pages; at one T also with pages that ask for the wide kinds, which take long to copy.
 fn settings(t: u64) -> Vec<Settings> {
-    let sizes = [
+    let mut sizes = vec![
         (64, 1, 0, 0, 0), (64, 3, 1, 0, 0), (64, 4, 3, 2, 2), (64, 5, 4, 2, 5), (64, 65, 2, 1, 1), (4_096, 2, 2, 2, 3),
     ];
+    if t == WIDE_PATIENCE {
+        sizes.push((64, 4_097, 2, 1, 1));
+    }
     let of = |(u, m, d, b, s)| Settings { u, m, d, b, s, q: 0, l: least_stream(u, m, b), t };
     sizes.into_iter().map(of).collect()
 }

@@ -25,7 +25,7 @@ fn settings_for(r: &Random, which: usize) -> Settings {
     }
     if !has_pages && !has_blocks && !has_stream {
         s.u = r.pick(&[64, 128, 4_032, 4_096, 64 * r.range(1, 64)]);
-        s.m = r.pick(&[1, 63, 64, 65, 4_095, 4_096, r.range(1, 4_096)]);
+        s.m = r.pick(&[1, 63, 64, 65, 4_095, 4_096, 4_097, 65_535, 65_536, r.range(1, 4_096), r.range(1, MOST_PAGES)]);
     }
     if !lent(&[Item::Disk, Item::StandbyDisk]) {
         s.d = r.pick(&[0, 1, 4_095, 4_096, r.range(0, 4_096)]);
@@ -35,7 +35,7 @@ fn settings_for(r: &Random, which: usize) -> Settings {
     }
     if !has_stream {
         let least = least_stream(s.u, s.m, s.b);
-        s.l = r.pick(&[least, least + 1, 33_554_432, 33_554_431, r.range(least, 33_554_432)]);
+        s.l = r.pick(&[least, least + 1, MOST_STREAM, MOST_STREAM - 1, r.range(least, MOST_STREAM)]);
         s.t = r.pick(&[1, 2, 3, 60_000, 59_999]);
     }
     s
@@ -57,7 +57,7 @@ pub fn any_primary(r: &Random, s: &Settings) -> Primary {
     p.count = some_count(r, s.t, !alone);
     p.blocks = r.pick(&[0, s.b, s.b / 2, r.range(0, s.b)]);
     let (record, any) = (s.u + 10, r.range(0, s.l));
-    let need = r.range(0, s.m.min(5)) * record + 84;
+    let need = r.range(0, s.m.min(5)) * page_record(s.u, s.m) + state_and_commit(s.m);
     p.waiting = r.pick(&[0, 0, 0, s.l, any, s.l - record, s.l - record + 1, s.l - need, (s.l - need + 1).min(s.l)]);
     fill_queue(r, &mut p);
     p
@@ -169,8 +169,13 @@ fn marks(r: &Random, m: u64) -> Vec<u64> {
 }
 
 pub fn any_world(r: &Random, which: usize) -> World {
-    let s = settings_for(r, which);
-    let (primary, standby) = (any_primary(r, &s), any_standby(r, &s, which));
+    let settings = settings_for(r, which);
+    world_at(r, which, &settings)
+}
+
+/// Any states in range at these settings.
+fn world_at(r: &Random, which: usize, s: &Settings) -> World {
+    let (primary, standby) = (any_primary(r, s), any_standby(r, s, which));
     lend(r, which, primary, standby)
 }
 
@@ -181,7 +186,18 @@ fn any_call(r: &Random) -> usize {
 /// Any state in range, arguments odd in some of a hundred: two reasons of a refusal often meet.
 pub fn any_single(r: &Random, sink: &mut Sink) {
     let which = any_call(r);
-    let mut w = any_world(r, which);
+    let w = any_world(r, which);
+    single(r, sink, which, w);
+}
+
+/// The same at these settings.
+pub fn single_at(r: &Random, sink: &mut Sink, settings: &Settings) {
+    let which = any_call(r);
+    let w = world_at(r, which, settings);
+    single(r, sink, which, w);
+}
+
+fn single(r: &Random, sink: &mut Sink, which: usize, mut w: World) {
     let odd = r.pick(&[0, 5, 15, 30]);
     let mut a = arguments(r, which, &w, odd);
     if r.percent(3) {

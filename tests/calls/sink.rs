@@ -2,6 +2,7 @@
 use crate::call::{call, Answer};
 use crate::checker::{compare, compare_answer, compare_lent, Check};
 use crate::items::code;
+use crate::kinds::{unit_number, Kinds};
 use crate::lent::Lent;
 use crate::model::{Reply, Standby, CUT_SHORT};
 use crate::print_form::{input_line, Output};
@@ -31,9 +32,11 @@ pub struct Sink {
     /// How often each number came, by call code; cut short is counted at 21.
     pub seen: [[u64; code::ALL]; 22],
     /// How many records of each kind were accepted by a read.
-    pub records: [u64; 5],
-    /// How many PAGEs and BLOCKs were out of order by the count of pages alone.
-    pub by_count: [u64; 2],
+    pub records: [u64; 10],
+    /// What reads gave by the record's kind.
+    pub kinds: Kinds,
+    /// How many PAGEs, BLOCKs and wide PAGEs were out of order by the count of pages alone.
+    pub by_count: [u64; 3],
     /// Lists with a checkpoint wholly received although more than T ticks came between its records.
     pub long_checkpoints: u64,
     /// Where the calls are wanted as lines too.
@@ -49,8 +52,9 @@ impl Sink {
             kind: "",
             calls: 0,
             seen: [[0; code::ALL]; 22],
-            records: [0; 5],
-            by_count: [0; 2],
+            records: [0; 10],
+            kinds: Kinds::default(),
+            by_count: [0; 3],
             long_checkpoints: 0,
             text: None,
         }
@@ -88,20 +92,24 @@ impl Sink {
     pub fn note(&mut self, which: usize, reply: &Reply, w: &World, a: &Args) {
         let row = if reply.number == CUT_SHORT { 21 } else { reply.number as usize };
         self.seen[row][which] += 1;
-        if which == code::READ && reply.number == 0 {
-            self.records[reply.value as usize] += 1;
+        if which != code::READ {
+            return;
         }
-        if which == code::READ && reply.number == 9 {
-            self.note_order(&w.standby, &a.data);
+        self.kinds.note(&w.standby, &a.data, reply.number);
+        match reply.number {
+            0 => self.records[reply.value as usize] += 1,
+            9 => self.note_order(&w.standby, &a.data),
+            _ => {}
         }
     }
 
     /// Counts a PAGE or a BLOCK refused with 9 that is in order by STATE and by the next page.
     fn note_order(&mut self, s: &Standby, data: &[u8]) {
-        let page = u16::from_le_bytes([data[8], data[9]]) as u64;
+        let in_order = !s.state_seen && unit_number(data).is_some_and(|page| s.next_page <= page);
         match data[2] {
-            1 if !s.state_seen && s.next_page <= page => self.by_count[0] += 1,
+            1 if in_order => self.by_count[0] += 1,
             2 if !s.state_seen && s.next_page == 0 => self.by_count[1] += 1,
+            8 if in_order => self.by_count[2] += 1,
             _ => {}
         }
     }

@@ -1,9 +1,7 @@
 //! The standby's ticks since the last accepted record, counted from the calls and their numbers alone.
 use crate::checker::{demand, Check};
 use crate::items::code;
-use crate::model::{Mode, Reply, Standby};
-
-const COMMIT: u64 = 4;
+use crate::model::{is_commit, Mode, Reply, Standby};
 
 /// The ticks of a pair since its accepted start.
 #[derive(Clone)]
@@ -42,7 +40,7 @@ impl Ticks {
 
     fn note_record(&mut self, kind: u64) {
         let ticks = self.in_checkpoint.unwrap_or(0);
-        if kind == COMMIT {
+        if is_commit(kind) {
             self.long_checkpoints += (ticks > self.t) as u64;
             self.in_checkpoint = None;
         } else {

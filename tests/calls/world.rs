@@ -114,7 +114,7 @@ pub fn carry(which: usize, w: &mut World, a: &Args, reply: &Reply) {
         code::DRAIN if reply.number == 0 => w.link.extend_from_slice(&a.out[..reply.value as usize]),
         code::READ => {
             w.link.drain(..(reply.used as usize).min(w.link.len()));
-            if reply.number == 0 && reply.value == 4 {
+            if reply.number == 0 && is_commit(reply.value) {
                 w.acks.extend_from_slice(&a.out[..8]);
             }
         }

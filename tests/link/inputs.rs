@@ -1,6 +1,6 @@
 //! The inputs of the record test: sweeps over whole ranges, and a generator.
 
-use crate::rules::body;
+use crate::rules::{KINDS, body};
 use crate::{OUTSIDE, SIZES, Tally};
 
 /// Numbers that look random and are the same for the same seed (splitmix64).
@@ -109,7 +109,7 @@ impl Input {
 /// Every place to cut a record, and every short tail.
 pub fn sweep_cuts(tally: &mut Tally, n: &mut Numbers, input: &mut Input) {
     for u in SIZES {
-        for kind in 1..=5 {
+        for kind in KINDS {
             input.record(u, kind, 0);
             let whole = input.len;
             for len in 0..=whole + 80 {
@@ -125,18 +125,18 @@ pub fn sweep_cuts(tally: &mut Tally, n: &mut Numbers, input: &mut Input) {
 /// Every number in the kind's field, and every number in the length's.
 pub fn sweep_headers(tally: &mut Tally, input: &mut Input) {
     for field in 0..=u16::MAX {
-        for length in [4, 8, 68, 70] {
+        for length in [4, 8, 12, 68, 70, 72] {
             input.set_length(length);
             input.set_kind(field);
-            input.len = 74;
+            input.len = 76;
             tally.compare(64, input.bytes());
         }
-        for kind in 0..=6 {
+        for kind in 0..=10 {
             input.set_length(field);
             input.set_kind(kind);
-            input.len = 74;
+            input.len = 76;
             tally.compare(64, input.bytes());
-            input.len = 4106;
+            input.len = 4108;
             tally.compare(4096, input.bytes());
         }
     }
@@ -145,7 +145,7 @@ pub fn sweep_headers(tally: &mut Tally, input: &mut Input) {
 /// Every small U, and those of the list, each on records as if its low 16 bits were in range.
 pub fn sweep_sizes(tally: &mut Tally, input: &mut Input) {
     for u in (0..=8300).chain(OUTSIDE) {
-        for kind in 0..=6 {
+        for kind in 0..=10 {
             let body = body((u % 65_536).min(8300), kind).unwrap_or(4);
             input.set_length(body as u16);
             input.set_kind(kind);
@@ -185,9 +185,9 @@ pub fn some_outside(n: &mut Numbers) -> u64 {
 /// A kind that is mostly not one of the link's, though its bytes may look so.
 pub fn some_kind(n: &mut Numbers) -> u16 {
     match n.below(4) {
-        0 => n.below(9) as u16,
+        0 => n.below(11) as u16,
         1 => 256 * (1 + n.below(255) as u16),
-        2 => 256 * (1 + n.below(255) as u16) + n.below(9) as u16,
+        2 => 256 * (1 + n.below(255) as u16) + n.below(11) as u16,
         _ => n.next() as u16,
     }
 }
@@ -197,10 +197,13 @@ pub fn some_length(n: &mut Numbers, right: u16) -> u16 {
     match n.below(8) {
         0 => right.wrapping_sub(1),
         1 => right.wrapping_add(1),
-        2 => right.wrapping_add(n.from(&[4, 6, 0u16.wrapping_sub(4), 0u16.wrapping_sub(6)])),
+        2 => {
+            let more = n.from(&[2, 4, 6]);
+            n.from(&[right.wrapping_add(more), right.wrapping_sub(more)])
+        }
         3 => right ^ 1 << n.below(16),
-        4 => n.from(&[0, 4, 8, 12, 64, 68, 70, 72, 74, u16::MAX]),
-        5 => some_u(n) as u16 + 6,
+        4 => n.from(&[0, 4, 8, 12, 16, 64, 68, 70, 72, 74, 76, u16::MAX]),
+        5 => some_u(n) as u16 + n.from(&[6, 8]),
         6 => n.below(256) as u16,
         _ => n.next() as u16,
     }
@@ -209,7 +212,7 @@ pub fn some_length(n: &mut Numbers, right: u16) -> u16 {
 /// One generated input: a record, a way in which it is damaged, and then sometimes another end.
 pub fn generate(n: &mut Numbers, input: &mut Input) {
     input.start = n.below(8);
-    let (u, kind, from) = (some_u(n), 1 + n.below(5) as u16, n.below(ROOM));
+    let (u, kind, from) = (some_u(n), n.from(&KINDS), n.below(ROOM));
     input.record(u, kind, from);
     let whole = input.len;
     match n.below(14) {
@@ -220,7 +223,7 @@ pub fn generate(n: &mut Numbers, input: &mut Input) {
         // Another record behind it, whole or not.
         2 => {
             let start = input.start;
-            let (kind, from) = (1 + n.below(5) as u16, n.below(ROOM));
+            let (kind, from) = (n.from(&KINDS), n.below(ROOM));
             input.start += whole;
             input.record(u, kind, from);
             let second = input.len;
@@ -249,7 +252,7 @@ pub fn generate(n: &mut Numbers, input: &mut Input) {
                 let b = match n.below(3) {
                     0 => b ^ 1 << n.below(8),
                     1 => b.wrapping_add(1 + n.below(255) as u8),
-                    _ => n.below(9) as u8,
+                    _ => n.below(11) as u8,
                 };
                 input.set(at, b);
             }
@@ -298,7 +301,7 @@ pub fn generate(n: &mut Numbers, input: &mut Input) {
                 input.set(at, b);
             }
             if n.one_in(2) {
-                let (length, kind) = (n.below(80) as u16, n.below(9) as u16);
+                let (length, kind) = (n.below(80) as u16, n.below(11) as u16);
                 input.set_length(length);
                 input.set_kind(kind);
             }

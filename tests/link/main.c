@@ -19,7 +19,7 @@
 /* The word of cut short, with so many bytes missing. */
 #define MISSING(n) (UINT64_C(65536) * (n))
 
-/* Room for the longest record, PAGE or BLOCK at U 4096, and for bytes behind it. */
+/* Room for the longest record, a wide PAGE at U 4096, of U + 12 bytes, and for bytes behind it. */
 #define ROOM 8192
 
 /* How many failures are printed. The others are counted. */
@@ -178,11 +178,15 @@ static void words(void)
         {"cut short, 4 missing", 262144, 0, 0, 0, 4},
         {"cut short, 256 missing", 16777216, 0, 0, 0, 256},
         {"cut short, a body of 4102", 268828672, 0, 0, 0, 4102},
+        {"cut short, a body of 4104", 268959744, 0, 0, 0, 4104},
         {"PAGE at U 64", 4849920, 0, RECORD_PAGE, 74, 0},
         {"BLOCK at U 4096", 269091328, 0, RECORD_BLOCK, 4106, 0},
         {"STATE", 4719360, 0, RECORD_STATE, 72, 0},
         {"COMMIT", 787456, 0, RECORD_COMMIT, 12, 0},
         {"ACK", 525568, 0, RECORD_ACK, 8, 0},
+        {"wide PAGE at U 64", 4982784, 0, RECORD_WIDE_PAGE, 76, 0},
+        {"wide PAGE at U 4096", 269223936, 0, RECORD_WIDE_PAGE, 4108, 0},
+        {"wide COMMIT", 1050880, 0, RECORD_WIDE_COMMIT, 16, 0},
     };
 
     for (size_t r = 0; r < SIZE(rows); r++) {
@@ -202,6 +206,14 @@ static const uint8_t ack1[] = {0x04, 0x00, 0x05, 0x00, 0x01, 0x00, 0x00, 0x00};
 static const uint8_t commit2[] = {0x08, 0x00, 0x04, 0x00, 0x02, 0x00,
                                   0x00, 0x00, 0x03, 0x00, 0x01, 0x00};
 
+/* The same with 4-byte counts, kind 9. */
+static const uint8_t wide_commit2[] = {0x0c, 0x00, 0x09, 0x00, 0x02, 0x00, 0x00, 0x00,
+                                       0x03, 0x00, 0x00, 0x00, 0x01, 0x00, 0x00, 0x00};
+
+/* The head of a PAGE with a 4-byte number, kind 8, at U 64: page 65,535 of epoch 2. */
+static const uint8_t wide_page2[76] = {0x48, 0x00, 0x08, 0x00, 0x02, 0x00,
+                                       0x00, 0x00, 0xff, 0xff, 0x00, 0x00};
+
 /* E5: activation at 0. It lies in the standby's record area and is no record of the link. */
 static const uint8_t activation0[] = {0x04, 0x00, 0x06, 0x00, 0x00, 0x00, 0x00, 0x00};
 
@@ -209,6 +221,11 @@ static void examples(void)
 {
     check_whole("E3, ACK 1", 64, ack1, 8, 5, 8);
     check_whole("E4, COMMIT 2", 64, commit2, 12, 4, 12);
+    check_whole("wide COMMIT 2", 64, wide_commit2, 16, RECORD_WIDE_COMMIT, 16);
+    check_cut_short("wide COMMIT 2, its header only", 64, wide_commit2, 4, 12);
+    check_whole("wide PAGE 65535", 64, wide_page2, 76, RECORD_WIDE_PAGE, 76);
+    check_cut_short("wide PAGE 65535, its header only", 64, wide_page2, 4, 72);
+    check_cut_short("wide PAGE 65535, without its bytes", 64, wide_page2, 12, 64);
     check_refused("E5, an activation", 64, activation0, 8, 6);
     check_refused("E5, its header only", 64, activation0, 4, 6);
     check_cut_short("E5, its header less one byte", 64, activation0, 3, 1);
@@ -236,6 +253,12 @@ static const struct kind {
     {"STATE at U 4096", 4096, {0x44, 0x00, 0x03, 0x00}, 3, 72},
     {"COMMIT at U 4096", 4096, {0x08, 0x00, 0x04, 0x00}, 4, 12},
     {"ACK at U 4096", 4096, {0x04, 0x00, 0x05, 0x00}, 5, 8},
+    {"wide PAGE at U 64", 64, {0x48, 0x00, 0x08, 0x00}, 8, 76},
+    {"wide COMMIT at U 64", 64, {0x0c, 0x00, 0x09, 0x00}, 9, 16},
+    {"wide PAGE at U 192", 192, {0xc8, 0x00, 0x08, 0x00}, 8, 204},
+    {"wide PAGE at U 256", 256, {0x08, 0x01, 0x08, 0x00}, 8, 268},
+    {"wide PAGE at U 4096", 4096, {0x08, 0x10, 0x08, 0x00}, 8, 4108},
+    {"wide COMMIT at U 4096", 4096, {0x0c, 0x00, 0x09, 0x00}, 9, 16},
 };
 
 /* A header and, up to len, what stands for a body: bytes that count on from first. */
@@ -303,9 +326,14 @@ static void refused_headers(void)
         {"kind 0 with ACK's length", {0x04, 0x00, 0x00, 0x00}, 6},
         {"kind 6 with ACK's length", {0x04, 0x00, 0x06, 0x00}, 6},
         {"kind 7 with ACK's length", {0x04, 0x00, 0x07, 0x00}, 6},
-        {"kind 8 with ACK's length", {0x04, 0x00, 0x08, 0x00}, 6},
+        {"kind 7 with PAGE's length", {0x46, 0x00, 0x07, 0x00}, 6},
+        {"kind 7 with wide PAGE's length", {0x48, 0x00, 0x07, 0x00}, 6},
+        {"kind 10 with ACK's length", {0x04, 0x00, 0x0a, 0x00}, 6},
+        {"kind 10 with wide COMMIT's length", {0x0c, 0x00, 0x0a, 0x00}, 6},
         {"kind 255 with ACK's length", {0x04, 0x00, 0xff, 0x00}, 6},
         {"kind 256", {0x04, 0x00, 0x00, 0x01}, 6},
+        {"kind 256 + 8, wide PAGE in its low byte", {0x48, 0x00, 0x08, 0x01}, 6},
+        {"kind 256 + 9, wide COMMIT in its low byte", {0x0c, 0x00, 0x09, 0x01}, 6},
         {"kind 256 + 1, PAGE in its low byte", {0x46, 0x00, 0x01, 0x01}, 6},
         {"kind 256 + 5, ACK in its low byte", {0x04, 0x00, 0x05, 0x01}, 6},
         {"kind 32768 + 4, COMMIT in its low byte", {0x08, 0x00, 0x04, 0x80}, 6},
@@ -320,10 +348,12 @@ static void refused_headers(void)
         {"PAGE, U 128's length", {0x86, 0x00, 0x01, 0x00}, 7},
         {"PAGE, U 4096's length", {0x06, 0x10, 0x01, 0x00}, 7},
         {"PAGE, STATE's length", {0x44, 0x00, 0x01, 0x00}, 7},
+        {"PAGE, wide PAGE's length", {0x48, 0x00, 0x01, 0x00}, 7},
         {"BLOCK, length 0", {0x00, 0x00, 0x02, 0x00}, 7},
         {"BLOCK, one less", {0x45, 0x00, 0x02, 0x00}, 7},
         {"BLOCK, one more", {0x47, 0x00, 0x02, 0x00}, 7},
         {"BLOCK, U 128's length", {0x86, 0x00, 0x02, 0x00}, 7},
+        {"BLOCK, wide PAGE's length", {0x48, 0x00, 0x02, 0x00}, 7},
         {"STATE, length 0", {0x00, 0x00, 0x03, 0x00}, 7},
         {"STATE, its 64 bytes only", {0x40, 0x00, 0x03, 0x00}, 7},
         {"STATE, one less", {0x43, 0x00, 0x03, 0x00}, 7},
@@ -334,7 +364,7 @@ static void refused_headers(void)
         {"COMMIT, ACK's length", {0x04, 0x00, 0x04, 0x00}, 7},
         {"COMMIT, one less", {0x07, 0x00, 0x04, 0x00}, 7},
         {"COMMIT, one more", {0x09, 0x00, 0x04, 0x00}, 7},
-        {"COMMIT, the header counted in", {0x0c, 0x00, 0x04, 0x00}, 7},
+        {"COMMIT, wide COMMIT's length, the header counted in", {0x0c, 0x00, 0x04, 0x00}, 7},
         {"ACK, length 0", {0x00, 0x00, 0x05, 0x00}, 7},
         {"ACK, one less", {0x03, 0x00, 0x05, 0x00}, 7},
         {"ACK, one more", {0x05, 0x00, 0x05, 0x00}, 7},
@@ -342,6 +372,24 @@ static void refused_headers(void)
         {"ACK, 256 more", {0x04, 0x01, 0x05, 0x00}, 7},
         {"ACK, 32768 more", {0x04, 0x80, 0x05, 0x00}, 7},
         {"ACK, length 65535", {0xff, 0xff, 0x05, 0x00}, 7},
+        {"wide PAGE, length 0", {0x00, 0x00, 0x08, 0x00}, 7},
+        {"wide PAGE, ACK's length", {0x04, 0x00, 0x08, 0x00}, 7},
+        {"wide PAGE, length U", {0x40, 0x00, 0x08, 0x00}, 7},
+        {"wide PAGE, PAGE's length", {0x46, 0x00, 0x08, 0x00}, 7},
+        {"wide PAGE, one less", {0x47, 0x00, 0x08, 0x00}, 7},
+        {"wide PAGE, one more", {0x49, 0x00, 0x08, 0x00}, 7},
+        {"wide PAGE, the header counted in", {0x4c, 0x00, 0x08, 0x00}, 7},
+        {"wide PAGE, 256 more", {0x48, 0x01, 0x08, 0x00}, 7},
+        {"wide PAGE, U 128's length", {0x88, 0x00, 0x08, 0x00}, 7},
+        {"wide PAGE, U 4096's length", {0x08, 0x10, 0x08, 0x00}, 7},
+        {"wide COMMIT, length 0", {0x00, 0x00, 0x09, 0x00}, 7},
+        {"wide COMMIT, length 1", {0x01, 0x00, 0x09, 0x00}, 7},
+        {"wide COMMIT, COMMIT's length", {0x08, 0x00, 0x09, 0x00}, 7},
+        {"wide COMMIT, one less", {0x0b, 0x00, 0x09, 0x00}, 7},
+        {"wide COMMIT, one more", {0x0d, 0x00, 0x09, 0x00}, 7},
+        {"wide COMMIT, the header counted in", {0x10, 0x00, 0x09, 0x00}, 7},
+        {"wide COMMIT, 256 more", {0x0c, 0x01, 0x09, 0x00}, 7},
+        {"wide COMMIT, length 65535", {0xff, 0xff, 0x09, 0x00}, 7},
 
         {"kind before length: length 5, kind 4", {0x05, 0x00, 0x04, 0x00}, 7},
         {"big-endian ACK: length 1024, kind 1280", {0x00, 0x04, 0x00, 0x05}, 6},
@@ -351,9 +399,10 @@ static void refused_headers(void)
         {"6 before 7: kind 0, length 0", {0x00, 0x00, 0x00, 0x00}, 6},
         {"6 before 7: kind 6, length 5", {0x05, 0x00, 0x06, 0x00}, 6},
         {"6 before 7: kind 6, length 65535", {0xff, 0xff, 0x06, 0x00}, 6},
-        {"6 before 7: kind 9, length 1", {0x01, 0x00, 0x09, 0x00}, 6},
+        {"6 before 7: kind 7, length 1", {0x01, 0x00, 0x07, 0x00}, 6},
+        {"6 before 7: kind 10, length 1", {0x01, 0x00, 0x0a, 0x00}, 6},
     };
-    static const size_t lengths[] = {4, 5, 8, 12, 71, 72, 73, 74, 75, 200, ROOM};
+    static const size_t lengths[] = {4, 5, 8, 12, 16, 71, 72, 73, 74, 75, 76, 77, 200, ROOM};
     static uint8_t bytes[ROOM];
     char what[80];
 
@@ -371,15 +420,17 @@ static void refused_headers(void)
     }
 }
 
-/* Every U in range has PAGEs and BLOCKs of its own length, and refuses its neighbours'. */
+/* Every U in range has PAGEs of both widths and BLOCKs of its own length, and refuses others'. */
 static void lengths_by_u(void)
 {
+    static const unsigned units[] = {RECORD_PAGE, RECORD_BLOCK, RECORD_WIDE_PAGE};
     static uint8_t bytes[ROOM];
     char what[80];
 
     for (uint64_t u = 64; u <= 4096; u += 64) {
-        for (unsigned kind = 1; kind <= 2; kind++) {
-            size_t body = (size_t)u + 6;
+        for (size_t i = 0; i < SIZE(units); i++) {
+            unsigned kind = units[i];
+            size_t body = (size_t)u + (kind == RECORD_WIDE_PAGE ? 8 : 6);
             const uint8_t header[4] = {(uint8_t)body, (uint8_t)(body >> 8), (uint8_t)kind, 0};
 
             fill(bytes, header, ROOM, 0x55);
@@ -396,6 +447,7 @@ static void lengths_by_u(void)
         }
         check_whole("ACK at any U", u, ack1, sizeof ack1, 5, 8);
         check_whole("COMMIT at any U", u, commit2, sizeof commit2, 4, 12);
+        check_whole("wide COMMIT at any U", u, wide_commit2, sizeof wide_commit2, 9, 16);
     }
 }
 
@@ -412,8 +464,9 @@ static void u_out_of_range(void)
 
     for (size_t i = 0; i < SIZE(us); i++) {
         uint64_t u = us[i];
-        uint64_t body = u + 6;
+        uint64_t body = u + 6, wide = u + 8;
         const uint8_t page[4] = {(uint8_t)body, (uint8_t)(body >> 8), 1, 0};
+        const uint8_t wide_page[4] = {(uint8_t)wide, (uint8_t)(wide >> 8), 8, 0};
         static const uint8_t bad_length[4] = {0x05, 0x00, 0x05, 0x00};
 
         check_refused("U out of range, empty", u, ack1, 0, 1);
@@ -421,11 +474,14 @@ static void u_out_of_range(void)
         check_refused("U out of range, header only", u, ack1, 4, 1);
         check_refused("U out of range, ACK", u, ack1, sizeof ack1, 1);
         check_refused("U out of range, COMMIT", u, commit2, sizeof commit2, 1);
+        check_refused("U out of range, wide COMMIT", u, wide_commit2, sizeof wide_commit2, 1);
         check_refused("U out of range, kind 6", u, activation0, sizeof activation0, 1);
         fill(bytes, bad_length, ROOM, 0);
         check_refused("U out of range, wrong length", u, bytes, 9, 1);
         fill(bytes, page, ROOM, 0);
         check_refused("U out of range, PAGE of that U", u, bytes, ROOM, 1);
+        fill(bytes, wide_page, ROOM, 0);
+        check_refused("U out of range, wide PAGE of that U", u, bytes, ROOM, 1);
         fill(bytes, kinds[0].header, ROOM, 0);
         check_refused("U out of range, PAGE of U 64", u, bytes, 74, 1);
     }
@@ -630,6 +686,34 @@ static void checkpoint_walks(void)
     check_daemon("U 4096", 4096, bytes, n, 1500, (struct end){"2134", 0, MISSING(4)});
 }
 
+/* Checkpoints of the wide kinds: BLOCK, wide PAGE, STATE and wide COMMIT, twice; then at U 4096. */
+static void wide_walks(void)
+{
+    static const uint8_t rows[] = {1, 14, 2, 15, 14, 2, 15};
+    static uint8_t bytes[2 * ROOM];
+    size_t n = 0;
+
+    for (size_t i = 0; i < SIZE(rows); i++)
+        n = append(bytes, n, rows[i], (uint8_t)(16 * (i + 1)));
+    check_stream("two wide", 64, bytes, n, (struct end){"2839839", 0, MISSING(4)}, 22);
+    check_stream("wide less a byte", 64, bytes, n - 1, (struct end){"283983", 15, MISSING(1)}, 21);
+    check_stream("wide less a body", 64, bytes, n - 12, (struct end){"283983", 4, MISSING(12)}, 20);
+    check_stream("a wide PAGE's header", 64, bytes, 74 + 4, (struct end){"2", 4, MISSING(72)}, 5);
+    check_stream("half a wide PAGE", 64, bytes, 74 + 30, (struct end){"2", 30, MISSING(46)}, 6);
+
+    /* The record test has no M: records of both widths may follow each other. */
+    n = append(bytes, n, 0, 0x81);
+    n = append(bytes, n, 3, 0x82);
+    check_stream("both widths", 64, bytes, n, (struct end){"283983914", 0, MISSING(4)}, 28);
+
+    n = append(bytes, 0, 18, 0x01);
+    n = append(bytes, n, 11, 0x02);
+    n = append(bytes, n, 19, 0x03);
+    check_stream("wide at U 4096", 4096, bytes, n, (struct end){"839", 0, MISSING(4)}, 10);
+    check_stream("its header", 4096, bytes, 4, (struct end){"", 4, MISSING(4104)}, 2);
+    check_daemon("wide at U 4096", 4096, bytes, n, 1500, (struct end){"839", 0, MISSING(4)});
+}
+
 /* What is no record stops the daemon there. It is found when its header is whole. */
 static void stopped_walks(void)
 {
@@ -806,6 +890,7 @@ int main(void)
     lengths_by_u();
     u_out_of_range();
     checkpoint_walks();
+    wide_walks();
     stopped_walks();
     ack_walks();
     disk_choices();

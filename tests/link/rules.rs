@@ -11,17 +11,22 @@ pub enum Answer {
     Record { kind: u16, used: u64 },
 }
 
-pub const CLASSES: [&str; 10] = [
+/// The kinds that the record test passes, of which 8 and 9 are PAGE and COMMIT with wide fields.
+pub const KINDS: [u16; 7] = [1, 2, 3, 4, 5, 8, 9];
+
+pub const CLASSES: [&str; 12] = [
     "1, U out of range",
     "cut short in the header",
     "cut short in the body",
-    "6, kind not 1 to 5",
+    "6, kind not 1 to 5, 8 or 9",
     "7, length not the kind's",
     "kind 1, PAGE",
     "kind 2, BLOCK",
     "kind 3, STATE",
     "kind 4, COMMIT",
     "kind 5, ACK",
+    "kind 8, wide PAGE",
+    "kind 9, wide COMMIT",
 ];
 
 impl Answer {
@@ -45,6 +50,7 @@ impl Answer {
             Answer::BodyCutShort { .. } => 2,
             Answer::NoKind => 3,
             Answer::WrongLength => 4,
+            Answer::Record { kind, .. } if kind >= 8 => 2 + usize::from(kind),
             Answer::Record { kind, .. } => 4 + usize::from(kind),
         }
     }
@@ -58,6 +64,9 @@ pub fn body(u: u64, kind: u16) -> Option<u64> {
         3 => Some(epoch + 64),
         4 => Some(epoch + 2 + 2),
         5 => Some(epoch),
+        // document 02, Job 7: "PAGE with a 4-byte page number", "COMMIT with two 4-byte counts"
+        8 => Some(epoch + 4 + u),
+        9 => Some(epoch + 4 + 4),
         _ => None,
     }
 }
