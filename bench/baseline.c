@@ -27,11 +27,11 @@ void base_place(uint8_t *dst, const uint8_t *src, size_t u, size_t m, size_t ste
         memcpy(dst + p * u, src + p * u, u);
 }
 
-/* Of count records of u + 10 bytes each the last u, to their place. */
-void base_scatter(uint8_t *dst, const uint8_t *src, size_t u, size_t count)
+/* Of count records, each of gap bytes and u behind them, the last u, to their place. */
+void base_scatter(uint8_t *dst, const uint8_t *src, size_t u, size_t count, size_t gap)
 {
     for (size_t p = 0; p < count; p++)
-        memcpy(dst + p * u, src + p * (u + 10) + 10, u);
+        memcpy(dst + p * u, src + p * (u + gap) + gap, u);
 }
 
 /* The first n of total bytes to dst, the rest to the front. */

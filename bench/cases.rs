@@ -48,17 +48,35 @@ fn told(r: model::Reply) -> u64 {
     }
 }
 
-/// Every case in turn.
-pub fn all(mut each: impl FnMut(&mut (dyn Case + 'static))) {
-    let sizes = [64, 512, 4096].map(|u| [64, 4096].map(|m| [m, 8, 1].map(|step| (u, m, step))));
-    for (u, m, step) in sizes.into_iter().flatten().flatten() {
+/// The most pages that there are.
+const MOST_PAGES: usize = 65536;
+
+/// The sizes of a read of PAGE: U, and M of either width.
+const PAGE_READS: [(usize, usize); 5] = [(64, 64), (512, 64), (4096, 64), (64, MOST_PAGES), (1024, MOST_PAGES)];
+
+/// The cases of a checkpoint's pages, at each end.
+fn checkpoints(sizes: &[(usize, usize, usize)], each: &mut impl FnMut(&mut (dyn Case + 'static))) {
+    for &(u, m, step) in sizes {
         each(&mut Checkpoint::new(u, m, step));
     }
-    for (u, m, step) in sizes.into_iter().flatten().flatten() {
+    for &(u, m, step) in sizes {
         each(&mut Commit::new(u, m, step));
     }
-    for u in [64, 512, 4096] {
-        each(&mut PageReads::new(u));
+}
+
+/// The largest images, of 256 MiB each: about 800 MB of memory.
+pub fn huge(mut each: impl FnMut(&mut (dyn Case + 'static))) {
+    checkpoints(&[MOST_PAGES, 1].map(|step| (4096, MOST_PAGES, step)), &mut each);
+}
+
+/// Every other case in turn.
+pub fn all(mut each: impl FnMut(&mut (dyn Case + 'static))) {
+    let narrow = [64, 512, 4096].map(|u| [64, 4096].map(|m| [m, 8, 1].map(|step| (u, m, step))));
+    let wide = [64, 1024].map(|u| [MOST_PAGES, 1].map(|step| (u, MOST_PAGES, step)));
+    let sizes: Vec<_> = narrow.into_iter().flatten().flatten().chain(wide.into_iter().flatten()).collect();
+    checkpoints(&sizes, &mut each);
+    for (u, m) in PAGE_READS {
+        each(&mut PageReads::new(u, m));
     }
     // The first copies nothing: what remains is the state and its range test.
     each(&mut Drain::new(0, 0, ROUNDS));
@@ -88,8 +106,8 @@ pub fn interface(mut each: impl FnMut(&mut (dyn Interface + 'static))) {
         }
     }
     each(&mut PrimaryTicks::new());
-    for u in [64, 512, 4096] {
-        each(&mut PageReads::new(u));
+    for (u, m) in PAGE_READS {
+        each(&mut PageReads::new(u, m));
     }
     each(&mut StandbyTicks::new());
 }

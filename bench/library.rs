@@ -82,7 +82,7 @@ mod foreign {
         pub fn base_copy(dst: *mut u8, src: *const u8, n: usize);
         pub fn base_gather(dst: *mut u8, src: *const u8, u: usize, m: usize, step: usize, gap: usize);
         pub fn base_place(dst: *mut u8, src: *const u8, u: usize, m: usize, step: usize);
-        pub fn base_scatter(dst: *mut u8, src: *const u8, u: usize, count: usize);
+        pub fn base_scatter(dst: *mut u8, src: *const u8, u: usize, count: usize, gap: usize);
         pub fn base_move_out(dst: *mut u8, src: *mut u8, n: usize, total: usize);
         pub fn base_in_and_out(dst: *mut u8, held: *mut u8, one: *const u8, size: usize, others: usize, first: usize);
     }
@@ -203,10 +203,10 @@ pub fn base_place(dst: &mut [u8], src: &[u8], u: usize, step: usize) {
     unsafe { foreign::base_place(dst.as_mut_ptr(), src.as_ptr(), u, src.len() / u, step) }
 }
 
-/// The data of count records to their places.
-pub fn base_scatter(dst: &mut [u8], src: &[u8], u: usize, count: usize) {
-    assert!(dst.len() >= count * u && src.len() >= count * (u + 10));
-    unsafe { foreign::base_scatter(dst.as_mut_ptr(), src.as_ptr(), u, count) }
+/// The data of count records, with gap bytes in front of each, to their places.
+pub fn base_scatter(dst: &mut [u8], src: &[u8], u: usize, count: usize, gap: usize) {
+    assert!(dst.len() >= count * u && src.len() >= count * (u + gap));
+    unsafe { foreign::base_scatter(dst.as_mut_ptr(), src.as_ptr(), u, count, gap) }
 }
 
 /// The first n of total bytes out, the rest to the front.

@@ -219,8 +219,10 @@ fn limit<'a>(what: &str, over: impl Iterator<Item = &'a String>) {
     }
 }
 
+/// All pages of the largest images, of either width, with U of 1,024 and above.
 fn largest(r: &Row) -> bool {
-    r.name.contains("U 4096, M 4096") && r.name.contains("all")
+    let sizes = ["U 4096, M 4096,", "U 1024, M 65536,", "U 4096, M 65536,"];
+    r.name.ends_with("all") && sizes.iter().any(|size| r.name.contains(size))
 }
 
 fn limits(rows: &[Row]) {
@@ -229,7 +231,8 @@ fn limits(rows: &[Row]) {
     }
     let over = |test: fn(&Row) -> bool| rows.iter().filter(move |r| test(r)).map(|r| &r.name);
     println!();
-    limit("all 4,096 pages of 4,096 bytes within 1.25 times memcpy", over(|r| largest(r) && r.to_copy > 1.25));
+    let most = "all pages of 4,096 bytes with M 4,096, and of 1,024 and more with M 65,536, within 1.25 times memcpy";
+    limit(most, over(|r| largest(r) && r.to_copy > 1.25));
     limit("within 1.5 times the model", over(|r| r.to_model > 1.5));
     limit("packet and take under 1,000 ns", over(|r| r.name.starts_with("packet") && r.ns >= 1000.0));
 }
@@ -252,6 +255,11 @@ fn main() {
     println!("| case | bytes | ns | memcpy ns | to memcpy | model ns | to model |");
     println!("|---|---:|---:|---:|---:|---:|---:|");
     let mut rows = Vec::new();
+    if words == ["huge"] {
+        cases::huge(|case| rows.push(row(case)));
+        limits(&rows);
+        return;
+    }
     cases::all(|case| {
         if wanted(case.name()) {
             rows.push(row(case));

@@ -51,7 +51,7 @@ impl Checkpoint {
             dirty: set.clone(),
             set,
             memory: filled(m * u, 1),
-            stream: filled(m * (u + 10) + 84, 2),
+            stream: filled(model::least_stream(u as u64, m as u64, 0) as usize, 2),
         }
     }
 }
@@ -86,7 +86,8 @@ impl Case for Checkpoint {
         if self.step == 1 {
             library::base_copy(&mut self.stream, &self.memory);
         } else {
-            library::base_gather(&mut self.stream, &self.memory, self.u, self.step, 10);
+            let gap = model::page_record(0, self.m as u64) as usize;
+            library::base_gather(&mut self.stream, &self.memory, self.u, self.step, gap);
         }
     }
 }

@@ -58,20 +58,29 @@ fn lent(u: usize, m: usize) -> Lent {
     }
 }
 
+/// A COMMIT of epoch 2 with this many pages and no block, as M calls for.
+fn commit(m: usize, pages: usize) -> Vec<u8> {
+    let count = (pages as u32).to_le_bytes();
+    if model::is_wide(m as u64) {
+        [&[12, 0, 9, 0, 2, 0, 0, 0], &count[..], &[0; 4]].concat()
+    } else {
+        [&[8, 0, 4, 0, 2, 0, 0, 0], &count[..2], &[0; 2]].concat()
+    }
+}
+
 /// A COMMIT with every step-th page staged.
 pub struct Commit {
     u: usize,
     m: usize,
     step: usize,
     set: Vec<u64>,
-    record: [u8; 12],
+    record: Vec<u8>,
     lent: Lent,
 }
 
 impl Commit {
     pub fn new(u: usize, m: usize, step: usize) -> Commit {
-        let [low, high] = (m.div_ceil(step) as u16).to_le_bytes();
-        Commit { u, m, step, set: marks(m, step), record: [8, 0, 4, 0, 2, 0, 0, 0, low, high, 0, 0], lent: lent(u, m) }
+        Commit { u, m, step, set: marks(m, step), record: commit(m, m.div_ceil(step)), lent: lent(u, m) }
     }
     fn count(&self) -> usize {
         self.m.div_ceil(self.step)
@@ -83,7 +92,7 @@ impl Call for Commit {
         format!("COMMIT, U {}, M {}, staged {}", self.u, self.m, how_many(self.m, self.step))
     }
     fn wanted(&self) -> u64 {
-        12
+        self.record.len() as u64
     }
     fn ours(&mut self) -> u64 {
         library::read(self.u, self.m, self.count(), true, 1, &self.record, &mut self.lent)
@@ -111,28 +120,34 @@ impl Case for Commit {
 
 const PAGES: usize = 64;
 
-/// The PAGE records of a checkpoint of 64 dirty pages, read one by one.
+/// The PAGE records of a checkpoint of which the first 64 pages are dirty, read one by one.
 pub struct PageReads {
     u: usize,
+    m: usize,
     state: interface::Standby,
     bytes: Vec<u8>,
     lent: Lent,
 }
 
 impl PageReads {
-    pub fn new(u: usize) -> PageReads {
-        let mut bytes = filled(PAGES * (u + 10) + 84, 6);
-        let memory = filled(PAGES * u, 7);
-        assert_eq!(library::checkpoint(u, PAGES, 0, &memory, &mut marks(PAGES, 1), &mut bytes), 2);
-        bytes.truncate(PAGES * (u + 10));
-        let state = interface::standby_words(&standby(u, PAGES, 0, 0, false));
-        PageReads { u, state, bytes, lent: lent(u, PAGES) }
+    pub fn new(u: usize, m: usize) -> PageReads {
+        let mut bytes = filled(model::least_stream(u as u64, m as u64, 0) as usize, 6);
+        let mut dirty = marks(m, m);
+        dirty[0] = u64::MAX;
+        assert_eq!(library::checkpoint(u, m, 0, &filled(m * u, 7), &mut dirty, &mut bytes), 2);
+        bytes.truncate(PAGES * model::page_record(u as u64, m as u64) as usize);
+        let state = interface::standby_words(&standby(u, m, 0, 0, false));
+        PageReads { u, m, state, bytes, lent: lent(u, m) }
     }
 }
 
 impl Call for PageReads {
     fn name(&self) -> String {
-        format!("read of PAGE, U {}", self.u)
+        if model::is_wide(self.m as u64) {
+            format!("read of PAGE, U {}, M {}", self.u, self.m)
+        } else {
+            format!("read of PAGE, U {}", self.u)
+        }
     }
     fn operations(&self) -> usize {
         PAGES
@@ -141,10 +156,10 @@ impl Call for PageReads {
         self.bytes.len() as u64
     }
     fn ours(&mut self) -> u64 {
-        library::read(self.u, PAGES, 0, false, PAGES, &self.bytes, &mut self.lent)
+        library::read(self.u, self.m, 0, false, PAGES, &self.bytes, &mut self.lent)
     }
     fn model(&mut self) -> u64 {
-        model_read(self.u, PAGES, 0, false, PAGES, &self.bytes, &mut self.lent)
+        model_read(self.u, self.m, 0, false, PAGES, &self.bytes, &mut self.lent)
     }
 }
 
@@ -153,7 +168,8 @@ impl Case for PageReads {
         self.u
     }
     fn copy(&mut self) {
-        library::base_scatter(&mut self.lent.pages, &self.bytes, self.u, PAGES);
+        let gap = model::page_record(0, self.m as u64) as usize;
+        library::base_scatter(&mut self.lent.pages, &self.bytes, self.u, PAGES, gap);
     }
 }
 
