@@ -45,6 +45,7 @@ fn packets_of(count: usize, size: usize) -> [Packet; 64] {
     let none = Packet {
         epoch: 0,
         length: 0,
+        port: 0,
     };
     let mut packets = [none; 64];
     let mut i = 0;
@@ -54,7 +55,8 @@ fn packets_of(count: usize, size: usize) -> [Packet; 64] {
         }
         packets[i] = Packet {
             epoch: 1,
-            length: (size % 4294967296) as u32,
+            length: (size % 65536) as u16,
+            port: 0,
         };
         i += 1;
     }
@@ -186,23 +188,25 @@ pub extern "C" fn bench_drain(
     last
 }
 
-// A packet in, then a packet out: refused where either was.
+// A packet in by a port, then that port's oldest out: refused where either was.
 fn packet_and_take(
     p: Primary,
     held: &mut [u8],
+    port: usize,
     one: &[u8],
     destination: &mut [u8],
 ) -> PrimaryReply {
-    let r = packet(p, held, one);
+    let r = packet(p, held, port, one);
     let number = r.number;
-    let mut t = take(r.state, held, destination);
+    let mut t = take(r.state, held, port, destination);
     if number != 0 {
         t.number = number;
     }
     t
 }
 
-// A packet in and a packet out, rounds times, on a primary that is alone and holds kept packets of one length: the length of the last one handed out.
+// A packet in and a packet out by a port, rounds times, on a primary that is alone and holds kept packets of one length
+// and of port 0: the length of the last one handed out.
 #[no_mangle]
 pub extern "C" fn bench_packets(
     kept: usize,
@@ -210,6 +214,7 @@ pub extern "C" fn bench_packets(
     bytes: usize,
     rounds: usize,
     held: &mut [u8],
+    port: usize,
     one: &[u8],
     destination: &mut [u8],
 ) -> u64 {
@@ -218,7 +223,7 @@ pub extern "C" fn bench_packets(
     let mut last = 0;
     let mut i = 0;
     while i < rounds {
-        let r = packet_and_take(p, held, one, destination);
+        let r = packet_and_take(p, held, port, one, destination);
         last = told(r.number, r.value);
         p = r.state;
         i += 1;

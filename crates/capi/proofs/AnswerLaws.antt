@@ -7,8 +7,7 @@ use Prim.Native.Nat.{ℕ, _+_, _≤_, _<_}
 use native.Mathlib.Omega.{arith}
 use borrow.Author.Tests.{ltb-true, eq-eqb, ne-eqb}
 use lib.Dec.{eqb, ltb}
-use lib.ListN.{length}
-use lib.Seq.{drop-cons}
+use lib.ListN.{length, drop}
 use Rattle.lists.specs.Refusal.{Test, refusal, pick}
 use Rattle.lists.proofs.TestLaws.{both}
 use Rattle.records.specs.Number.{outOfRange, badLength, wrongMode}
@@ -24,7 +23,7 @@ use Rattle.records.specs.Read.{readRecord, otherRefusal, cutShort, kindOf}
 use Rattle.records.specs.Read as read
 use Rattle.records.proofs.ReadLaws.{ReadRanges, read-ranges, on-ack, found-cases}
 use Rattle.settings.specs.declared.Settings.{Settings}
-use Rattle.queue.specs.Held.{oldest}
+use Rattle.queue.specs.Held.{oldestAt, oldest}
 use Rattle.staging.specs.Slot.{flushCount}
 use Rattle.rules.specs.declared.Answer.{Answer}
 use Rattle.rules.specs.declared.Answer.the-variants.{Accepted}
@@ -58,9 +57,9 @@ use Rattle.rules.proofs.StreamLaws.{drain-accepted, ack-epochs}
 use Rattle.rules.proofs.FlushLaws.{flush-accepted}
 use Rattle.pages.specs.Write.{insidePage}
 use Rattle.capi.specs.Word.{answerWord, answerNumber, answerCutShort, answerUsed, answerMissing, answerValue, replyWord, recordWord}
-use Rattle.capi.specs.PrimaryWords.{packetsOf, primaryWordsOk, primaryOf}
+use Rattle.capi.specs.PrimaryWords.{packetsAt, primaryWordsOk, primaryOf}
 use Rattle.capi.specs.StandbyWords.{standbyWordsOk, standbyOf}
-use Rattle.capi.proofs.PrimaryWordLaws.{primary-many, primary-field, packet-field}
+use Rattle.capi.proofs.PrimaryWordLaws.{primary-word-facts, primary-field, packet-length-low}
 use Rattle.capi.proofs.StandbyWordLaws.{standby-word-facts}
 
 -- ---- the word's parts
@@ -141,11 +140,12 @@ module _ (w : List ℕ) (e : primaryWordsOk w ≡ true) where
   unfolding primaryOf
   epoch-low = primary-field w 8 e (omega arith) (omega arith)
 
-  pub oldest-low : oldest (primaryOf w .queue) .length < 4294967296
-  unfolding primaryOf packetsOf
-  oldest-low =
-      let n = primary-many w e in
-      rw (drop-cons w 15 0 (omega arith), drop-cons w 16 0 (omega arith)) (packet-field w 16 e (omega arith) (omega arith))
+  pub oldest-low : (port : ℕ) → oldest (primaryOf w .queue) port .length < 4294967296
+  unfolding primaryOf
+  oldest-low port =
+      let k = primaryOf w .queue in
+      let n : oldest k port .length < 65536 = packet-length-low (drop packetsAt w) (oldestAt k port) (primary-word-facts w e .packets) in
+      omega arith
 
   pub memory-write-fits : (memory dirty page offset n : ℕ) → PrimaryFits (memoryWriteReply (primaryOf w) memory dirty page offset n)
   unfolding memoryWriteReply memoryWriteRefusal
@@ -159,15 +159,15 @@ module _ (w : List ℕ) (e : primaryWordsOk w ≡ true) where
   unfolding checkpointReply checkpointRefusal
   checkpoint-fits memory dirty stream pages = reply-fits (checkpointTests (primaryOf w) memory dirty stream pages) (primaryOf w .epoch) refl (λ z. epoch-low)
 
-  pub take-fits : (held destination : ℕ) → PrimaryFits (takeReply (primaryOf w) held destination)
+  pub take-fits : (held port destination : ℕ) → PrimaryFits (takeReply (primaryOf w) held port destination)
   unfolding takeReply takeRefusal
-  take-fits held destination = reply-fits (takeTests (primaryOf w) held destination) (oldest (primaryOf w .queue) .length) refl (λ z. oldest-low)
+  take-fits held port destination = reply-fits (takeTests (primaryOf w) held port destination) (oldest (primaryOf w .queue) port .length) refl (λ z. oldest-low port)
 
 -- of any state: at most 64 packets are held, at most L bytes wait
 module _ (p : Primary) where
-  pub packet-fits : (held n : ℕ) → PrimaryFits (packetReply p held n)
+  pub packet-fits : (held port n : ℕ) → PrimaryFits (packetReply p held port n)
   unfolding packetReply packetRefusal
-  packet-fits held n = reply-fits (packetTests p held n) (p .queue .count + 1) refl (λ z. let f = packet-accepted p held n z in omega (arith, f .count-low))
+  packet-fits held port n = reply-fits (packetTests p held port n) (p .queue .count + 1) refl (λ z. let f = packet-accepted p held port n z in omega (arith, f .count-low))
 
   pub drain-fits : (stream n destination : ℕ) → PrimaryFits (drainReply p stream n destination)
   unfolding drainReply drainRefusal

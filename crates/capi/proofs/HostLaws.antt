@@ -60,9 +60,9 @@ module _ (h : Host) (s : HasStates h) (answer : ℕ) (filled : List ℕ) (h′ :
   made-step (call.diskWrite block bytes) made =
       primary-made (made .1) refl (made .0 .0 .again (s .primary))
       (disk-write-joined (worldOf h) _ _ _ _ _ _ answer _ (s .primary) block bytes _ _ (made .0))
-  made-step (call.packet bytes) made =
+  made-step (call.packet port bytes) made =
       primary-made (made .1) refl (made .0 .0 .again (s .primary))
-      (packet-joined (worldOf h) _ _ _ _ _ _ answer _ (s .primary) bytes _ (made .0))
+      (packet-joined (worldOf h) _ _ _ _ _ _ answer _ (s .primary) port bytes _ (made .0))
   made-step (call.checkpoint processor) made =
       primary-made (made .1) refl (made .0 .0 .again (s .primary))
       (checkpoint-joined (worldOf h) _ _ _ _ _ _ answer _ (s .primary) processor _ _ (made .0))
@@ -71,9 +71,9 @@ module _ (h : Host) (s : HasStates h) (answer : ℕ) (filled : List ℕ) (h′ :
       (drain-joined (worldOf h) _ _ _ _ _ _ answer _ (s .primary) n destination _ _ (made .0))
   made-step (call.ack n) made =
       primary-made (made .1) refl (made .0 .again (s .primary)) (ack-joined (worldOf h) _ _ _ _ _ _ answer _ (s .primary) n (made .0))
-  made-step (call.take destination) made =
+  made-step (call.take port destination) made =
       primary-made (made .1) refl (made .0 .0 .again (s .primary))
-      (take-joined (worldOf h) _ _ _ _ _ _ answer _ (s .primary) destination _ _ (made .0))
+      (take-joined (worldOf h) _ _ _ _ _ _ answer _ (s .primary) port destination _ _ (made .0))
   made-step call.primaryTick made =
       primary-made (made .1) refl (made .0 .again (s .primary)) (primary-tick-joined (worldOf h) _ _ _ _ _ _ answer _ (s .primary) (made .0))
   made-step (call.read n reply) made =
@@ -158,22 +158,22 @@ module _ (settings : List ℕ) (processor : Processor) (b : Buffers) (primary : 
 
   -- and of every take among the calls: the packet is the first bytes of its destination
   pub made-takes : (before : List Call) (there : Host) (first : MadeAll h before there)
-      → (destination : List ℕ) (told : ℕ) (filled : List ℕ) (next : Host) → Made there (call.take destination) told filled next
+      → (port : ℕ) (destination : List ℕ) (told : ℕ) (filled : List ℕ) (next : Host) → Made there (call.take port destination) told filled next
       → (later : List Call) (h′ : Host) (rest : MadeAll next later h′)
       → let p = plainTold (g .u) h before there first plain in
-      TakeRight (g .t) p (plainTold (g .u) next later h′ rest (plainStep (g .u) (call.take destination) (toldOutcome told) p)) (madeStep (call.take destination) told filled next)
-  made-takes before there first destination told filled next one later h′ rest =
-      let c = call.take destination in
+      TakeRight (g .t) port p (plainTold (g .u) next later h′ rest (plainStep (g .u) (call.take port destination) (toldOutcome told) p)) (madeStep (call.take port destination) told filled next)
+  made-takes before there first port destination told filled next one later h′ rest =
+      let c = call.take port destination in
       let calls = c ∷ later in
       let start = startBoth g processor b in
       let to = start-run before there first in
       let p = plainTold (g .u) h before there first plain in
       let on = made-run (g .u) there calls h′ (to .1) (told, filled, next, one, rest) p in
-      let all = whole g processor b (sym (start-made .1) ∙ zero) (before ++ calls) .takes before destination later refl in
-      let split = subst (λ (x : Both). TakeRight (g .t) (run steps (g .u) start before .plain) (x .plain) (step (run steps (g .u) start before .world) c)) (run-append steps (g .u) before calls start) all in
-      let here = subst (λ (x : Both). TakeRight (g .t) (x .plain) (run steps (g .u) x calls .plain) (step (x .world) c)) (to .0) split in
-      let end = subst (λ (x : Both). TakeRight (g .t) p (x .plain) (step (worldOf there) c)) (on .0) here in
-      subst (TakeRight (g .t) p _) (made-step there (to .1) told filled next c one .is) end
+      let all = whole g processor b (sym (start-made .1) ∙ zero) (before ++ calls) .takes before port destination later refl in
+      let split = subst (λ (x : Both). TakeRight (g .t) port (run steps (g .u) start before .plain) (x .plain) (step (run steps (g .u) start before .world) c)) (run-append steps (g .u) before calls start) all in
+      let here = subst (λ (x : Both). TakeRight (g .t) port (x .plain) (run steps (g .u) x calls .plain) (step (x .world) c)) (to .0) split in
+      let end = subst (λ (x : Both). TakeRight (g .t) port p (x .plain) (step (worldOf there) c)) (on .0) here in
+      subst (TakeRight (g .t) port p _) (made-step there (to .1) told filled next c one .is) end
 
   -- a host that then makes the calls of a takeover has the last wholly received checkpoint at the standby
   pub made-takeover : (calls : List Call) (there : Host) (all : MadeAll h calls there) → active (worldOf there) ≡ false

@@ -2,29 +2,30 @@
 -- state are the words of it. Assumes nothing.
 use mathlib.Core.Path.{_≡_, refl, sym, ap, _∙_}
 use mathlib.Core.List.{List, [], _∷_, _++_, append-nil}
-use mathlib.Core.Bool.{Bool, true, false}
+use mathlib.Core.Bool.{Bool, true, false, _&&_}
 use Prim.Native.Nat.{ℕ, suc, zero, _+_, _*_, _≤_, _<_}
 use native.Mathlib.Numerals.{add-one}
 use native.Mathlib.Omega.{arith}
-use borrow.Author.Tests.{leb-true, eqb-true, eq-eqb}
+use borrow.Author.Tests.{leb-true, le-leb, eqb-true, eq-eqb}
 use lib.Dec.{leb}
 use lib.ListN.{length, take, drop, getD, set, length-append, length-drop, drop-of-length-le}
-use lib.Seq.{take-suc-set, take-suc, take-all, length-take-le, drop-cons, append-snoc}
+use lib.Seq.{take-suc-set, take-suc, take-all, length-take-le, append-snoc}
 use Rattle.lists.specs.Part.{put}
 use Rattle.lists.proofs.PartLaws.{put-put, put-next, put-whole}
 use Rattle.lists.proofs.TestLaws.{both, join}
 use Rattle.queue.specs.declared.Packet.{Packet}
+use Rattle.queue.specs.Held.{noPacket}
 use Rattle.rules.specs.declared.Primary.{Primary}
-use Rattle.capi.specs.Word.{isFlag, flagOf, flagWord, allFit32, between}
-use Rattle.capi.specs.PrimaryWords.{packetsOf, packetWords, headWords, primaryWords, primaryWordsOk, primaryOf, primaryLength, packetsAt}
-use Rattle.capi.proofs.WordLaws.{fits-at, fits-append, words-from}
+use Rattle.capi.specs.Word.{isFlag, flagOf, flagWord, fits32, fits16, most32, most16, allFit32, between}
+use Rattle.capi.specs.PrimaryWords.{packetsFit, packetsOf, packetWords, headWords, primaryWords, primaryWordsOk, primaryOf, primaryLength, packetsAt}
+use Rattle.capi.proofs.WordLaws.{fits-at, words-from}
 
 -- what words that are a state have
 pub record PrimaryWordFacts (w : List ℕ) : Type 0 where
   pub many : length w ≡ primaryLength
   pub low : allFit32 (between 6 10 w) ≡ true
   pub flag : getD w 10 0 ≤ 1
-  pub packets : allFit32 (between packetsAt primaryLength w) ≡ true
+  pub packets : packetsFit (drop packetsAt w) ≡ true
 
 pub primary-word-facts : (w : List ℕ) → primaryWordsOk w ≡ true → PrimaryWordFacts w
 unfolding primaryWordsOk
@@ -41,54 +42,100 @@ primary-many w e = primary-word-facts w e .many
 pub primary-field : (w : List ℕ) (i : ℕ) → primaryWordsOk w ≡ true → 6 ≤ i → i < 10 → getD w i 0 < 4294967296
 primary-field w i e h k = let f = primary-word-facts w e in fits-at w 6 10 i (f .low) h k (omega (arith, f .many))
 
--- and of a packet
-pub packet-field : (w : List ℕ) (i : ℕ) → primaryWordsOk w ≡ true → packetsAt ≤ i → i < primaryLength → getD w i 0 < 4294967296
-packet-field w i e h k = let f = primary-word-facts w e in fits-at w packetsAt primaryLength i (f .packets) h k (omega (arith, f .many))
+-- ---- a packet's words, before those behind it
+packet-at : (w : List ℕ) (at : ℕ) → at + 3 ≤ length w → drop at w ≡ getD w at 0 ∷ getD w (at + 1) 0 ∷ getD w (at + 2) 0 ∷ drop (at + 3) w
+packet-at w at h = let e : at + 2 ≡ suc (suc at) = omega arith in rw (add-one at, e) (sym (words-from 3 at w h))
+
+-- the test of the packets from a word on, one packet more; and no packet
+pub packets-fit-more : (w : List ℕ) (at : ℕ) → at + 3 ≤ length w
+    → packetsFit (drop at w) ≡ (fits32 (getD w at 0) && fits16 (getD w (at + 1) 0) && fits16 (getD w (at + 2) 0) && packetsFit (drop (at + 3) w))
+unfolding packetsFit
+packets-fit-more w at h = ap packetsFit (packet-at w at h)
+
+pub packets-fit-end : (w : List ℕ) (at : ℕ) → length w ≤ at → packetsFit (drop at w) ≡ true
+unfolding packetsFit
+packets-fit-end w at h = rw (drop-of-length-le w h)
+
+-- where they all fit: those of the first packet, and the rest
+packet-fits : (a b c : ℕ) (w : List ℕ) → packetsFit (a ∷ b ∷ c ∷ w) ≡ true → (a < 4294967296) × (b < 65536) × (c < 65536) × (packetsFit w ≡ true)
+unfolding packetsFit
+packet-fits a b c w e =
+    let f = both _ _ e in
+    let g = both _ _ (f .0) in
+    let h = both _ _ (g .0) in
+    let epoch : a ≤ most32 = leb-true a most32 (h .0) in
+    let size : b ≤ most16 = leb-true b most16 (h .1) in
+    let port : c ≤ most16 = leb-true c most16 (g .1) in
+    (omega arith, omega arith, omega arith, f .1)
+
+pub packet-fields : (w : List ℕ) (at : ℕ) → at + 3 ≤ length w → packetsFit (drop at w) ≡ true
+    → (getD w at 0 < 4294967296) × (getD w (at + 1) 0 < 65536) × (getD w (at + 2) 0 < 65536) × (packetsFit (drop (at + 3) w) ≡ true)
+packet-fields w at h e = packet-fits _ _ _ _ (sym (ap packetsFit (packet-at w at h)) ∙ e)
+
+-- the length of any of these packets
+pub packet-length-low : (w : List ℕ) (i : ℕ) → packetsFit w ≡ true → getD (packetsOf w) i noPacket .length < 65536
+unfolding packetsOf
+packet-length-low [] i e = omega arith
+packet-length-low (a ∷ []) i e = omega arith
+packet-length-low (a ∷ b ∷ []) i e = omega arith
+packet-length-low (a ∷ b ∷ c ∷ w) zero e = packet-fits a b c w e .1
+packet-length-low (a ∷ b ∷ c ∷ w) (suc i) e = packet-length-low w i (packet-fits a b c w e .3)
 
 -- ---- a packet of words, and the words of packets
-pub packet-cons : (w : List ℕ) (at : ℕ) → at + 2 ≤ length w → packetsOf (drop at w) ≡ record { epoch = getD w at 0; length = getD w (at + 1) 0 } ∷ packetsOf (drop (at + 2) w)
+pub packet-cons : (w : List ℕ) (at : ℕ) → at + 3 ≤ length w
+    → packetsOf (drop at w) ≡ record { epoch = getD w at 0; length = getD w (at + 1) 0; port = getD w (at + 2) 0 } ∷ packetsOf (drop (at + 3) w)
 unfolding packetsOf
-packet-cons w at h =
-    let e : at + 2 ≡ suc (suc at) = omega arith in
-    rw (drop-cons w at 0 (omega arith), drop-cons w (suc at) 0 (omega arith), add-one at, e)
+packet-cons w at h = ap packetsOf (packet-at w at h)
 
 packet-words-append : (a b : List Packet) → packetWords (a ++ b) ≡ packetWords a ++ packetWords b
 unfolding packetWords
 packet-words-append [] b = refl
 packet-words-append (k ∷ ks) b = rw (packet-words-append ks b)
 
-pub length-packetWords : (ks : List Packet) → length (packetWords ks) ≡ 2 * length ks
+pub length-packetWords : (ks : List Packet) → length (packetWords ks) ≡ 3 * length ks
 unfolding packetWords
 length-packetWords [] = refl
 length-packetWords (k ∷ ks) = rw (length-packetWords ks) (omega arith)
 
 -- ---- the loops: one packet more is read, and all are; one packet more is stored, and all are
 pub read-more : (w : List ℕ) (l : List Packet) (x : Packet) (i at : ℕ) → i < length l
-    → packetsOf (drop at w) ≡ x ∷ packetsOf (drop (at + 2) w)
+    → packetsOf (drop at w) ≡ x ∷ packetsOf (drop (at + 3) w)
     → packetsOf (drop packetsAt w) ≡ take i l ++ packetsOf (drop at w)
-    → packetsOf (drop packetsAt w) ≡ take (i + 1) (set l i x) ++ packetsOf (drop (at + 2) w)
+    → packetsOf (drop packetsAt w) ≡ take (i + 1) (set l i x) ++ packetsOf (drop (at + 3) w)
 read-more w l x i at k h e =
     e ∙ ap (λ (r : List Packet). take i l ++ r) h
-    ∙ rw (add-one i, take-suc-set l i x k) (sym (append-snoc (take i l) x (packetsOf (drop (at + 2) w))))
+    ∙ rw (add-one i, take-suc-set l i x k) (sym (append-snoc (take i l) x (packetsOf (drop (at + 3) w))))
 
 pub read-all : (w : List ℕ) (l : List Packet) (n at : ℕ) → length l ≡ n → length w ≤ at
     → packetsOf (drop packetsAt w) ≡ take n l ++ packetsOf (drop at w) → packetsOf (drop packetsAt w) ≡ l
 unfolding packetsOf
 read-all w l n at h k e = e ∙ rw (take-all n l (omega arith), drop-of-length-le w k, append-nil)
 
-pub store-more : (w : List ℕ) (ks : List Packet) (z : Packet) (at i : ℕ) → i < length ks → at + 2 * length ks ≤ length w
-    → put (put w at (packetWords (take i ks))) (at + 2 * i) (packetWords (getD ks i z ∷ [])) ≡ put w at (packetWords (take (i + 1) ks))
+pub store-more : (w : List ℕ) (ks : List Packet) (z : Packet) (at i : ℕ) → i < length ks → at + 3 * length ks ≤ length w
+    → put (put w at (packetWords (take i ks))) (at + 3 * i) (packetWords (getD ks i z ∷ [])) ≡ put w at (packetWords (take (i + 1) ks))
 store-more w ks z at i h k =
     let n : length (take i ks) ≡ i = length-take-le i ks (omega arith) in
-    let m : length (packetWords (take i ks)) ≡ 2 * i = length-packetWords (take i ks) ∙ ap (λ (x : ℕ). 2 * x) n in
-    let e : at + 2 * i ≡ at + length (packetWords (take i ks)) = omega arith in
+    let m : length (packetWords (take i ks)) ≡ 3 * i = length-packetWords (take i ks) ∙ ap (λ (x : ℕ). 3 * x) n in
+    let e : at + 3 * i ≡ at + length (packetWords (take i ks)) = omega arith in
     rw (e, put-put w at (packetWords (take i ks)) (packetWords (getD ks i z ∷ [])) (omega arith), add-one i, take-suc ks i z h, packet-words-append (take i ks) (getD ks i z ∷ []))
 
-pub fits-packets-more : (ks : List Packet) (z : Packet) (i : ℕ) → i < length ks → allFit32 (packetWords (take i ks)) ≡ true
-    → allFit32 (packetWords (getD ks i z ∷ [])) ≡ true → allFit32 (packetWords (take (i + 1) ks)) ≡ true
-fits-packets-more ks z i h p q =
-    let k = getD ks i z ∷ [] in
-    rw (add-one i, take-suc ks i z h, packet-words-append (take i ks) k) (fits-append (packetWords (take i ks)) (packetWords k) p q)
+-- the fields of a packet that is stored fit, and so do those of all
+pub fits-packet : (k : Packet) → k .epoch < 4294967296 → k .length < 65536 → k .port < 65536 → packetsFit (packetWords (k ∷ [])) ≡ true
+unfolding packetsFit packetWords
+fits-packet k epoch size port =
+    join _ _ (join _ _ (join _ _ (le-leb (k .epoch) most32 (omega arith)) (le-leb (k .length) most16 (omega arith))) (le-leb (k .port) most16 (omega arith))) refl
+
+fits-packets-append : (a b : List Packet) → packetsFit (packetWords a) ≡ true → packetsFit (packetWords b) ≡ true → packetsFit (packetWords (a ++ b)) ≡ true
+unfolding packetsFit packetWords
+fits-packets-append [] b p q = q
+fits-packets-append (k ∷ ks) b p q =
+    let one = fits32 (k .epoch) && fits16 (k .length) && fits16 (k .port) in
+    let e = both one (packetsFit (packetWords ks)) p in
+    join one (packetsFit (packetWords (ks ++ b))) (e .0) (fits-packets-append ks b (e .1) q)
+
+pub fits-packets-more : (ks : List Packet) (z : Packet) (i : ℕ) → i < length ks → packetsFit (packetWords (take i ks)) ≡ true
+    → packetsFit (packetWords (getD ks i z ∷ [])) ≡ true → packetsFit (packetWords (take (i + 1) ks)) ≡ true
+fits-packets-more ks z i h p q = rw (add-one i, take-suc ks i z h) (fits-packets-append (take i ks) (getD ks i z ∷ []) p q)
 
 -- the head of the words and then the packets, over all of them
 pub store-both : (w : List ℕ) (p : Primary) → length w ≡ primaryLength → length (p .queue .packets) ≡ 64
@@ -96,15 +143,15 @@ pub store-both : (w : List ℕ) (p : Primary) → length w ≡ primaryLength →
 unfolding primaryWords headWords
 store-both w p h k =
     let ks = p .queue .packets in
-    let n : length (packetWords ks) ≡ 128 = length-packetWords ks ∙ ap (λ (x : ℕ). 2 * x) k in
+    let n : length (packetWords ks) ≡ 192 = length-packetWords ks ∙ ap (λ (x : ℕ). 3 * x) k in
     put-next w (headWords p) (packetWords ks) packetsAt refl (omega arith)
     ∙ put-whole w (headWords p ++ packetWords ks) (rw (length-append (headWords p) (packetWords ks)) (omega arith))
 
--- ---- the words of a state whose fields of 32 bits fit are a state's
+-- ---- the words of a state whose fields of 32 and of 16 bits fit are a state's
 length-primaryWords : (p : Primary) → length (p .queue .packets) ≡ 64 → length (primaryWords p) ≡ primaryLength
 unfolding primaryWords headWords
 length-primaryWords p k =
-    let n : length (packetWords (p .queue .packets)) ≡ 128 = length-packetWords (p .queue .packets) ∙ ap (λ (x : ℕ). 2 * x) k in
+    let n : length (packetWords (p .queue .packets)) ≡ 192 = length-packetWords (p .queue .packets) ∙ ap (λ (x : ℕ). 3 * x) k in
     rw (length-append (headWords p) (packetWords (p .queue .packets))) (omega arith)
 
 pub flag-fits : (b : Bool) → isFlag (flagWord b) ≡ true
@@ -112,12 +159,9 @@ flag-fits true = refl
 flag-fits false = refl
 
 pub primary-words-ok : (p : Primary) → length (p .queue .packets) ≡ 64 → allFit32 (between 6 10 (headWords p)) ≡ true
-    → allFit32 (packetWords (p .queue .packets)) ≡ true → primaryWordsOk (primaryWords p) ≡ true
+    → packetsFit (packetWords (p .queue .packets)) ≡ true → primaryWordsOk (primaryWords p) ≡ true
 unfolding primaryWordsOk primaryWords headWords
-primary-words-ok p k low packets =
-    let n = length-primaryWords p k in
-    let rest : allFit32 (between packetsAt primaryLength (primaryWords p)) ≡ true = rw (take-all primaryLength (primaryWords p) (omega (arith, n))) packets in
-    join _ _ (join _ _ (join _ _ (eq-eqb _ _ n) low) (flag-fits (p .alone))) rest
+primary-words-ok p k low packets = join _ _ (join _ _ (join _ _ (eq-eqb _ _ (length-primaryWords p k)) low) (flag-fits (p .alone))) packets
 
 -- ---- a state is the state of its words
 pub flag-again : (b : Bool) → flagOf (flagWord b) ≡ b
@@ -139,17 +183,18 @@ flag-words zero h = refl
 flag-words (suc zero) h = refl
 flag-words (suc (suc n)) h = absurd (omega arith)
 
-packets-words : (n : ℕ) (w : List ℕ) → length w ≡ 2 * n → packetWords (packetsOf w) ≡ w
+packets-words : (n : ℕ) (w : List ℕ) → length w ≡ 3 * n → packetWords (packetsOf w) ≡ w
 unfolding packetsOf packetWords
 packets-words zero [] h = refl
 packets-words zero (a ∷ w) h = absurd (omega arith)
 packets-words (suc n) [] h = absurd (omega arith)
 packets-words (suc n) (a ∷ []) h = absurd (omega arith)
-packets-words (suc n) (a ∷ b ∷ w) h = rw (packets-words n w (omega arith))
+packets-words (suc n) (a ∷ b ∷ []) h = absurd (omega arith)
+packets-words (suc n) (a ∷ b ∷ c ∷ w) h = rw (packets-words n w (omega arith))
 
 pub primary-words-again : (w : List ℕ) → primaryWordsOk w ≡ true → primaryWords (primaryOf w) ≡ w
 unfolding primaryOf primaryWords headWords
 primary-words-again w e =
     let f = primary-word-facts w e in
-    let n : length (drop packetsAt w) ≡ 2 * 64 = rw (length-drop packetsAt w) (omega (arith, f .many)) in
+    let n : length (drop packetsAt w) ≡ 3 * 64 = rw (length-drop packetsAt w) (omega (arith, f .many)) in
     rw (flag-words (getD w 10 0) (f .flag), packets-words 64 (drop packetsAt w) n) (words-from 15 0 w (omega (arith, f .many)))

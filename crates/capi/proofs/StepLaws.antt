@@ -79,12 +79,12 @@ module _ (κ : World) (w memory disk dirty held stream : List ℕ) (answer : ℕ
       let t = primary-told (disk-write-fits w ok _ _ block _) ok (done .0) in
       rw (t .state, t .parts .number-is, t .parts .value-is, done .1, done .2, ok)
 
-  pub packet-joined : (bytes held′ : List ℕ) → PacketDone w held bytes answer w′ held′
-      → step (atPrimary κ (primaryEnd w memory disk dirty held stream)) (call.packet bytes)
+  pub packet-joined : (port : ℕ) (bytes held′ : List ℕ) → PacketDone w held port bytes answer w′ held′
+      → step (atPrimary κ (primaryEnd w memory disk dirty held stream)) (call.packet port bytes)
       ≡ toldStep (atPrimary κ (primaryEnd w′ memory disk dirty held′ stream)) answer
   unfolding step
-  packet-joined bytes held′ done =
-      let t = primary-told (packet-fits (primaryOf w) _ _) ok (done .0) in
+  packet-joined port bytes held′ done =
+      let t = primary-told (packet-fits (primaryOf w) _ port _) ok (done .0) in
       rw (t .state, t .parts .number-is, t .parts .value-is, done .1, ok)
 
   pub checkpoint-joined : (processor : Processor) (dirty′ stream′ : List ℕ) → CheckpointDone w memory dirty stream (processor .bytes) answer w′ dirty′ stream′
@@ -115,12 +115,12 @@ module _ (κ : World) (w memory disk dirty held stream : List ℕ) (answer : ℕ
       rw (t .state, t .parts .used-is, t .parts .number-is, t .parts .value-is)
 
   -- the packet is the first bytes of the destination, as many as the value says
-  pub take-joined : (destination held′ destination′ : List ℕ) → TakeDone w held destination answer w′ held′ destination′
-      → step (atPrimary κ (primaryEnd w memory disk dirty held stream)) (call.take destination)
+  pub take-joined : (port : ℕ) (destination held′ destination′ : List ℕ) → TakeDone w held port destination answer w′ held′ destination′
+      → step (atPrimary κ (primaryEnd w memory disk dirty held stream)) (call.take port destination)
       ≡ record { next = atPrimary κ (primaryEnd w′ memory disk dirty held′ stream); outcome = outcome (answerNumber answer) (answerValue answer); handed = take (answerValue answer) destination′ }
   unfolding step
-  take-joined destination held′ destination′ done =
-      let t = primary-told (take-fits w ok _ _) ok (done .0) in
+  take-joined port destination held′ destination′ done =
+      let t = primary-told (take-fits w ok _ port _) ok (done .0) in
       rw (t .state, t .parts .number-is, t .parts .value-is, done .1, done .2, ok)
 
   pub primary-tick-joined : PrimaryTickDone w answer w′

@@ -8,7 +8,7 @@ use native.Mathlib.Nat.{add-zero}
 use native.Mathlib.Omega.{arith}
 use borrow.Author.Tests.{leb-true, le-leb}
 use lib.Dec.{leb}
-use lib.ListN.{length, take, drop, getD, set, length-set}
+use lib.ListN.{length, take, drop, getD, set}
 use lib.Seq.{drop-cons, take-suc-set, take-suc, take-all, length-take-le, getD-take, getD-drop}
 use Rattle.lists.specs.Part.{part, put}
 use Rattle.lists.proofs.PartLaws.{put-put, length-put, put-none, length-part}
@@ -42,7 +42,7 @@ fits-from w (suc d) at to i e p q l = fits-from w d (at + 1) to i (fits-first w 
 pub fits-at : (w : List ℕ) (from to i : ℕ) → allFit32 (between from to w) ≡ true → from ≤ i → i < to → to ≤ length w → getD w i 0 < 4294967296
 fits-at w from to i e h k l = fits-from w (i - from) from to i e (omega arith) k l
 
--- words that all fit: none, one and the rest, two parts
+-- words that all fit: none, one and the rest
 pub fits-none : allFit32 [] ≡ true
 unfolding allFit32
 fits-none = refl
@@ -51,16 +51,7 @@ pub fits-cons : (n : ℕ) (w : List ℕ) → n < 4294967296 → allFit32 w ≡ t
 unfolding allFit32
 fits-cons n w h e = join (fits32 n) (allFit32 w) (le-leb n most32 (omega arith)) e
 
-pub fits-append : (a b : List ℕ) → allFit32 a ≡ true → allFit32 b ≡ true → allFit32 (a ++ b) ≡ true
-unfolding allFit32
-fits-append [] b p q = q
-fits-append (n ∷ a) b p q = let e = both (fits32 n) (allFit32 a) p in join (fits32 n) (allFit32 (a ++ b)) (e .0) (fits-append a b (e .1) q)
-
--- one word more is tested
-pub test-more : (a b c : Bool) → (a && b) && c ≡ a && (b && c)
-test-more true b c = refl
-test-more false b c = refl
-
+-- nothing is left to test
 pub test-end : (a b : Bool) → b ≡ true → a && b ≡ a
 test-end true b e = e
 test-end false b e = refl
@@ -93,15 +84,18 @@ module _ {A : Type 0} where
   pub part-end : (s l : List A) (at n : ℕ) → length l ≡ n → take n l ≡ take n (part at n s) → l ≡ part at n s
   part-end s l at n h e = sym (take-all n l (omega arith)) ∙ e ∙ take-all n (part at n s) (part-most at n s)
 
+  -- an element stored behind a list that is put
+  set-next : (d s : List A) (at i : ℕ) (a : A) → i ≡ at + length s → i < length d → set (put d at s) i a ≡ put d at (s ++ (a ∷ []))
+  set-next d s at i a e h =
+      let m : length (put d at s) ≡ length d = length-put d at s (omega arith) in
+      set-put (put d at s) i a (omega arith) ∙ rw (e, put-put d at s (a ∷ []) (omega arith))
+
   -- one element more of a list that is copied in
   pub store-turn : (d s : List A) (at i : ℕ) (z : A) → i < length s → at + length s ≤ length d
       → set (put d at (take i s)) (at + i) (getD s i z) ≡ put d at (take (i + 1) s)
   store-turn d s at i z h k =
       let n : length (take i s) ≡ i = length-take-le i s (omega arith) in
-      let m : length (put d at (take i s)) ≡ length d = length-put d at (take i s) (omega arith) in
-      let e : at + i ≡ at + length (take i s) = omega arith in
-      set-put (put d at (take i s)) (at + i) (getD s i z) (omega arith)
-      ∙ rw (e, put-put d at (take i s) (getD s i z ∷ []) (omega arith), add-one i, take-suc s i z h)
+      set-next d (take i s) at (at + i) (getD s i z) (omega arith) (omega arith) ∙ rw (add-one i, take-suc s i z h)
 
   pub store-none : (d s : List A) (at : ℕ) → d ≡ put d at (take 0 s)
   store-none d s at = sym (put-none d at)
@@ -109,10 +103,9 @@ module _ {A : Type 0} where
   pub store-end : (d s : List A) (at i : ℕ) → i ≡ length s → put d at (take i s) ≡ put d at s
   store-end d s at i e = ap (put d at) (take-all i s (omega arith))
 
-  -- two stores
-  pub pair-put : (l : List A) (at : ℕ) (a b : A) → at + 2 ≤ length l → set (set l at a) (at + 1) b ≡ put l at (a ∷ b ∷ [])
-  pair-put l at a b h =
-      let e : length (set l at a) ≡ length l = length-set l at a in
-      set-put (set l at a) (at + 1) b (omega arith)
-      ∙ ap (λ (x : List A). put x (at + 1) (b ∷ [])) (set-put l at a (omega arith))
-      ∙ put-put l at (a ∷ []) (b ∷ []) (omega arith)
+  -- three stores
+  pub three-put : (l : List A) (at : ℕ) (a b c : A) → at + 3 ≤ length l → set (set (set l at a) (at + 1) b) (at + 2) c ≡ put l at (a ∷ b ∷ c ∷ [])
+  three-put l at a b c h =
+      ap (λ (x : List A). set (set x (at + 1) b) (at + 2) c) (set-put l at a (omega arith))
+      ∙ ap (λ (x : List A). set x (at + 2) c) (set-next l (a ∷ []) at (at + 1) b (omega arith) (omega arith))
+      ∙ set-next l (a ∷ b ∷ []) at (at + 2) c (omega arith) (omega arith)

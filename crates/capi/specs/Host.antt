@@ -94,8 +94,8 @@ Made h (call.memoryWrite page offset bytes) answer filled h′ =
 Made h (call.diskWrite block bytes) answer filled h′ =
     DiskWriteDone (h .primary) (h .disk) (h .stream) block bytes answer (h′ .primary) (h′ .disk) (h′ .stream)
     × (h′ ≡ withPrimary h (h′ .primary) (h .memory) (h′ .disk) (h .dirty) (h .held) (h′ .stream))
-Made h (call.packet bytes) answer filled h′ =
-    PacketDone (h .primary) (h .held) bytes answer (h′ .primary) (h′ .held)
+Made h (call.packet port bytes) answer filled h′ =
+    PacketDone (h .primary) (h .held) port bytes answer (h′ .primary) (h′ .held)
     × (h′ ≡ withPrimary h (h′ .primary) (h .memory) (h .disk) (h .dirty) (h′ .held) (h .stream))
 Made h (call.checkpoint processor) answer filled h′ =
     CheckpointDone (h .primary) (h .memory) (h .dirty) (h .stream) (processor .bytes) answer (h′ .primary) (h′ .dirty) (h′ .stream)
@@ -107,8 +107,8 @@ Made h (call.drain n destination) answer filled h′ =
 Made h (call.ack n) answer filled h′ =
     AckDone (h .primary) (take n (h .acks)) answer (h′ .primary)
     × (h′ ≡ underWay (withPrimary h (h′ .primary) (h .memory) (h .disk) (h .dirty) (h .held) (h .stream)) (h .link) (drop (answerUsed answer) (h .acks)))
-Made h (call.take destination) answer filled h′ =
-    TakeDone (h .primary) (h .held) destination answer (h′ .primary) (h′ .held) filled
+Made h (call.take port destination) answer filled h′ =
+    TakeDone (h .primary) (h .held) port destination answer (h′ .primary) (h′ .held) filled
     × (h′ ≡ withPrimary h (h′ .primary) (h .memory) (h .disk) (h .dirty) (h′ .held) (h .stream))
 Made h call.primaryTick answer filled h′ =
     PrimaryTickDone (h .primary) answer (h′ .primary)
@@ -143,11 +143,11 @@ toldOutcome answer = outcome (answerNumber answer) (answerValue answer)
 abbrev pub handedOut : Call → (answer : ℕ) (filled : List ℕ) → List ℕ
 handedOut (call.memoryWrite page offset bytes) answer filled = []
 handedOut (call.diskWrite block bytes) answer filled = []
-handedOut (call.packet bytes) answer filled = []
+handedOut (call.packet port bytes) answer filled = []
 handedOut (call.checkpoint processor) answer filled = []
 handedOut (call.drain n destination) answer filled = []
 handedOut (call.ack n) answer filled = []
-handedOut (call.take destination) answer filled = take (answerValue answer) filled
+handedOut (call.take port destination) answer filled = take (answerValue answer) filled
 handedOut call.primaryTick answer filled = []
 handedOut (call.read n reply) answer filled = []
 handedOut (call.flush n) answer filled = []

@@ -48,11 +48,11 @@ DiskWriteDone w disk stream block bytes answer w′ disk′ stream′ =
     × PrimaryLeaves w (diskWriteDisk p disk stream block bytes) disk disk′
     × PrimaryLeaves w (diskWriteStream p disk stream block bytes) stream stream′
 
-abbrev pub PacketDone : (w held bytes : List ℕ) (answer : ℕ) (w′ held′ : List ℕ) → Type 0
-PacketDone w held bytes answer w′ held′ =
+abbrev pub PacketDone : (w held : List ℕ) (port : ℕ) (bytes : List ℕ) (answer : ℕ) (w′ held′ : List ℕ) → Type 0
+PacketDone w held port bytes answer w′ held′ =
     let p = primaryOf w in
-    PrimaryReplied w (packetReply p (length held) (length bytes)) answer w′
-    × PrimaryLeaves w (packetHeld p held bytes) held held′
+    PrimaryReplied w (packetReply p (length held) port (length bytes)) answer w′
+    × PrimaryLeaves w (packetHeld p held port bytes) held held′
 
 abbrev pub CheckpointDone : (w memory dirty stream processor : List ℕ) (answer : ℕ) (w′ dirty′ stream′ : List ℕ) → Type 0
 CheckpointDone w memory dirty stream processor answer w′ dirty′ stream′ =
@@ -71,12 +71,12 @@ DrainDone w stream n destination answer w′ stream′ destination′ =
 abbrev pub AckDone : (w bytes : List ℕ) (answer : ℕ) (w′ : List ℕ) → Type 0
 AckDone w bytes answer w′ = PrimaryAnswered w (ackReply (primaryOf w) bytes) answer w′
 
-abbrev pub TakeDone : (w held destination : List ℕ) (answer : ℕ) (w′ held′ destination′ : List ℕ) → Type 0
-TakeDone w held destination answer w′ held′ destination′ =
+abbrev pub TakeDone : (w held : List ℕ) (port : ℕ) (destination : List ℕ) (answer : ℕ) (w′ held′ destination′ : List ℕ) → Type 0
+TakeDone w held port destination answer w′ held′ destination′ =
     let p = primaryOf w in
-    PrimaryReplied w (takeReply p (length held) (length destination)) answer w′
-    × PrimaryLeaves w (takeHeld p held destination) held held′
-    × PrimaryLeaves w (takeDestination p held destination) destination destination′
+    PrimaryReplied w (takeReply p (length held) port (length destination)) answer w′
+    × PrimaryLeaves w (takeHeld p held port destination) held held′
+    × PrimaryLeaves w (takeDestination p held port destination) destination destination′
 
 abbrev pub PrimaryTickDone : (w : List ℕ) (answer : ℕ) (w′ : List ℕ) → Type 0
 PrimaryTickDone w answer w′ = PrimaryReplied w (primaryTickReply (primaryOf w)) answer w′

@@ -1,17 +1,17 @@
--- The primary's state as 143 words: U M D B Q L, T, the count of ticks, the open epoch, the acknowledged one, alone,
--- the blocks of the open epoch, the waiting bytes, the packets held, the bytes held, then 64 times a packet's epoch and
--- length. Assumes nothing.
+-- The primary's state as 207 words: U M D B Q L, T, the count of ticks, the open epoch, the acknowledged one, alone,
+-- the blocks of the open epoch, the waiting bytes, the packets held, the bytes held, then 64 times a packet's epoch,
+-- length and port. Assumes nothing.
 use Prim.Native.Nat.{ℕ}
-use mathlib.Core.Bool.{Bool, _&&_}
+use mathlib.Core.Bool.{Bool, true, _&&_}
 use mathlib.Core.List.{List, [], _∷_, _++_}
 use lib.Dec.{eqb}
 use lib.ListN.{length, getD, drop}
 use Rattle.queue.specs.declared.Packet.{Packet}
 use Rattle.rules.specs.declared.Primary.{Primary}
-use Rattle.capi.specs.Word.{allFit32, between, isFlag, flagOf, flagWord}
+use Rattle.capi.specs.Word.{fits32, fits16, allFit32, between, isFlag, flagOf, flagWord}
 
 abbrev pub primaryLength : ℕ
-primaryLength = 143
+primaryLength = 207
 
 -- where the packets begin
 abbrev pub packetsAt : ℕ
@@ -26,24 +26,32 @@ headWords p =
 
 unfoldable pub packetWords : List Packet → List ℕ
 packetWords [] = []
-packetWords (k ∷ ks) = k .epoch ∷ k .length ∷ packetWords ks
+packetWords (k ∷ ks) = k .epoch ∷ k .length ∷ k .port ∷ packetWords ks
 
 unfoldable pub primaryWords : Primary → List ℕ
 primaryWords p = headWords p ++ packetWords (p .queue .packets)
 
--- ---- words that are a state: as many as there are, each number fits its field of 32 bits, and alone is a flag
+-- ---- words that are a state: as many as there are, each number fits its field of 32 bits, a packet's length and port
+-- theirs of 16 bits, and alone is a flag
+unfoldable pub packetsFit : List ℕ → Bool
+packetsFit [] = true
+packetsFit (epoch ∷ []) = true
+packetsFit (epoch ∷ length ∷ []) = true
+packetsFit (epoch ∷ length ∷ port ∷ w) = fits32 epoch && fits16 length && fits16 port && packetsFit w
+
 unfoldable pub primaryWordsOk : List ℕ → Bool
 primaryWordsOk w =
     eqb (length w) primaryLength
     && allFit32 (between 6 10 w)
     && isFlag (getD w 10 0)
-    && allFit32 (between packetsAt primaryLength w)
+    && packetsFit (drop packetsAt w)
 
 -- ---- and the state of such words
 unfoldable pub packetsOf : List ℕ → List Packet
 packetsOf [] = []
 packetsOf (epoch ∷ []) = []
-packetsOf (epoch ∷ length ∷ w) = record { epoch = epoch; length = length } ∷ packetsOf w
+packetsOf (epoch ∷ length ∷ []) = []
+packetsOf (epoch ∷ length ∷ port ∷ w) = record { epoch = epoch; length = length; port = port } ∷ packetsOf w
 
 unfoldable pub primaryOf : List ℕ → Primary
 primaryOf w =

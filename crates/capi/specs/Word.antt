@@ -52,12 +52,18 @@ countOf (Refused number) = 0
 abbrev pub recordWord : Answer → ℕ
 recordWord a = answerWord (numberOf a) (countOf a) (valueOf a)
 
--- ---- a word that fits a field of 32 bits
+-- ---- a word that fits a field of 32 bits, of 16 bits
 abbrev pub most32 : ℕ
 most32 = 4294967295
 
 abbrev pub fits32 : ℕ → Bool
 fits32 n = leb n most32
+
+abbrev pub most16 : ℕ
+most16 = 65535
+
+abbrev pub fits16 : ℕ → Bool
+fits16 n = leb n most16
 
 unfoldable pub allFit32 : List ℕ → Bool
 allFit32 [] = true

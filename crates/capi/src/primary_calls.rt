@@ -47,16 +47,21 @@ pub extern "C" fn primary_disk_write(
     word::reply_word(r.number, r.value)
 }
 
-// Packet: held with the open epoch.
+// Packet: held with the open epoch and a port.
 #[no_mangle]
-pub extern "C" fn primary_packet(state: &mut [u64], held: &mut [u8], bytes: &[u8]) -> u64
-    ensures { λ r. ⌜ PacketDone (now (state .entry)) (now (held .entry)) (now (bytes .entry)) r (now (state .exit)) (now (held .exit)) ⌝ }
+pub extern "C" fn primary_packet(
+    state: &mut [u64],
+    held: &mut [u8],
+    port: usize,
+    bytes: &[u8],
+) -> u64
+    ensures { λ r. ⌜ PacketDone (now (state .entry)) (now (held .entry)) port (now (bytes .entry)) r (now (state .exit)) (now (held .exit)) ⌝ }
 {
     if !primary_words::words_ok(state) {
         return number::OUT_OF_RANGE;
     }
     let p = primary_words::primary_of(state);
-    let r = primary::packets::packet(p, held, bytes);
+    let r = primary::packets::packet(p, held, port, bytes);
     let next = r.state;
     primary_words::store(state, next);
     word::reply_word(r.number, r.value)
@@ -120,16 +125,21 @@ pub extern "C" fn primary_acknowledge(state: &mut [u64], bytes: &[u8]) -> u64
     word::record_word(answer)
 }
 
-// Take: the oldest packet, if it is free to go.
+// Take: a port's oldest packet, if it is free to go.
 #[no_mangle]
-pub extern "C" fn primary_take(state: &mut [u64], held: &mut [u8], destination: &mut [u8]) -> u64
-    ensures { λ r. ⌜ TakeDone (now (state .entry)) (now (held .entry)) (now (destination .entry)) r (now (state .exit)) (now (held .exit)) (now (destination .exit)) ⌝ }
+pub extern "C" fn primary_take(
+    state: &mut [u64],
+    held: &mut [u8],
+    port: usize,
+    destination: &mut [u8],
+) -> u64
+    ensures { λ r. ⌜ TakeDone (now (state .entry)) (now (held .entry)) port (now (destination .entry)) r (now (state .exit)) (now (held .exit)) (now (destination .exit)) ⌝ }
 {
     if !primary_words::words_ok(state) {
         return number::OUT_OF_RANGE;
     }
     let p = primary_words::primary_of(state);
-    let r = primary::packets::take(p, held, destination);
+    let r = primary::packets::take(p, held, port, destination);
     let next = r.state;
     primary_words::store(state, next);
     word::reply_word(r.number, r.value)

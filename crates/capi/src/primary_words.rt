@@ -6,8 +6,10 @@ ghost use Prim.Native.Nat.{_<_, _≤_, _+_};
 ghost use lib.ListN.{length, drop};
 ghost use Rattle.lists.specs.Part.{put};
 ghost use Rattle.capi.specs.Word.{allFit32, between};
-ghost use Rattle.capi.specs.PrimaryWords.{primaryLength, packetsAt, packetsOf, primaryOf, packetWords, headWords, primaryWords, primaryWordsOk};
+ghost use Rattle.capi.specs.PrimaryWords.{primaryLength, packetsAt, packetsFit, packetsOf, primaryOf, packetWords, headWords, primaryWords, primaryWordsOk};
 use crate::word;
+use crate::word::MOST_16;
+use crate::word::MOST_32;
 use detector::Detector;
 use queue::Packet;
 use queue::Queue;
@@ -16,9 +18,25 @@ use settings::MOST_PACKETS;
 use settings::PrimarySettings;
 
 // How many words a state has, and where its packets begin.
-pub(crate) const LENGTH: usize = 143;
+pub(crate) const LENGTH: usize = 207;
 
 const PACKETS: usize = 15;
+
+// Whether the words of all packets fit their fields. All are looked at, whatever the first ones say, as in
+// word::all_fit32.
+fn packets_fit(w: &[u64]) -> bool
+    requires { ⌜ length (now w) ≡ primaryLength ⌝ }
+    ensures { λ r. ⌜ r ≡ packetsFit (drop packetsAt (now (w .entry))) ⌝ }
+{
+    let mut low = true;
+    let mut i = 0;
+    while i < MOST_PACKETS {
+        let at = PACKETS + 3 * i;
+        low = low & (w[at] <= MOST_32) & (w[at + 1] <= MOST_16) & (w[at + 2] <= MOST_16);
+        i += 1;
+    }
+    low
+}
 
 // Whether words are a state.
 pub(crate) fn words_ok(w: &[u64]) -> bool
@@ -28,7 +46,7 @@ pub(crate) fn words_ok(w: &[u64]) -> bool
         return false;
     }
     let numbers = word::all_fit32(w, 6, 10);
-    let packets = word::all_fit32(w, PACKETS, LENGTH);
+    let packets = packets_fit(w);
     numbers & (w[10] <= 1) & packets
 }
 
@@ -41,14 +59,16 @@ fn packets_of(w: &[u64]) -> [Packet; 64]
     let none = Packet {
         epoch: 0,
         length: 0,
+        port: 0,
     };
     let mut packets = [none; MOST_PACKETS];
     let mut i = 0;
     while i < MOST_PACKETS {
-        let at = PACKETS + 2 * i;
+        let at = PACKETS + 3 * i;
         packets[i] = Packet {
             epoch: word::field(w[at]),
-            length: word::field(w[at + 1]),
+            length: word::field16(w[at + 1]),
+            port: word::field16(w[at + 2]),
         };
         i += 1;
     }
@@ -118,23 +138,24 @@ fn head_words(p: Primary) -> [u64; 15]
 }
 
 fn store_packet(w: &mut [u64], at: usize, k: Packet)
-    requires { ⌜ at + 2 ≤ length (now w) ⌝ }
+    requires { ⌜ at + 3 ≤ length (now w) ⌝ }
     ensures { λ _. ⌜ now (w .exit) ≡ put (now (w .entry)) at (packetWords (k ∷ [])) ⌝ }
-    ensures { λ _. ⌜ allFit32 (packetWords (k ∷ [])) ≡ true ⌝ }
+    ensures { λ _. ⌜ packetsFit (packetWords (k ∷ [])) ≡ true ⌝ }
 {
     w[at] = k.epoch as u64;
     w[at + 1] = k.length as u64;
+    w[at + 2] = k.port as u64;
 }
 
 fn store_packets(w: &mut [u64], packets: [Packet; 64])
     requires { ⌜ length (now w) ≡ primaryLength ⌝ }
     ensures { λ _. ⌜ now (w .exit) ≡ put (now (w .entry)) packetsAt (packetWords packets) ⌝ }
-    ensures { λ _. ⌜ allFit32 (packetWords packets) ≡ true ⌝ }
+    ensures { λ _. ⌜ packetsFit (packetWords packets) ≡ true ⌝ }
 {
     let mut i = 0;
     while i < MOST_PACKETS {
         let k = packets[i];
-        store_packet(w, PACKETS + 2 * i, k);
+        store_packet(w, PACKETS + 3 * i, k);
         i += 1;
     }
 }

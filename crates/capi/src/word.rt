@@ -10,6 +10,9 @@ use rules::Answer;
 // The largest number of a field of 32 bits.
 pub(crate) const MOST_32: u64 = 4294967295;
 
+// The same of 16 bits.
+pub(crate) const MOST_16: u64 = 65535;
+
 // Whether the words from one place on, up to another, all fit a field of 32 bits. All are looked at, whatever the first
 // ones say: so the compiler can look at several at once.
 pub(crate) fn all_fit32(w: &[u64], from: usize, to: usize) -> bool
@@ -31,6 +34,14 @@ pub(crate) fn field(n: u64) -> u32
     ensures { λ r. ⌜ r ≡ n ⌝ }
 {
     n as u32
+}
+
+// The same of 16 bits.
+pub(crate) fn field16(n: u64) -> u16
+    requires { ⌜ n < 65536 ⌝ }
+    ensures { λ r. ⌜ r ≡ n ⌝ }
+{
+    n as u16
 }
 
 pub(crate) fn flag_of(n: u64) -> bool

@@ -71,6 +71,7 @@ fn empty_queue() -> Queue
     let none = Packet {
         epoch: 0,
         length: 0,
+        port: 0,
     };
     Queue {
         count: 0,

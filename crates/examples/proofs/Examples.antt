@@ -15,8 +15,8 @@ use Rattle.examples.proofs.NoBlocks.{no-blocks}
 
 -- a packet after an accepted start, by its length
 packet-of : (g : Settings) (c : Processor) (b : Buffers) (content : List ℕ) (n : ℕ) → startNumber g b ≡ 0 → length content ≡ n →
-    let r = packetReply (openedPrimary g) (g .q) n in
-    step (startWorld g c b) (packet content) .outcome ≡ outcome (r .number) (r .value)
+    let r = packetReply (openedPrimary g) (g .q) 0 n in
+    step (startWorld g c b) (packet 0 content) .outcome ≡ outcome (r .number) (r .value)
 unfolding step startWorld
 packet-of g c b content n h e = rw (opened g b h c, lent g b h .held-is, e)
 

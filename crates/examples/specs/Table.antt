@@ -70,8 +70,8 @@ pub record Examples : Type 0 where
   -- "with Q 32,768, packet 1,514 is held, 1,515 gives 4"
   pub E7 : (c : Processor) (b : Buffers) (content : List ℕ) → Exact withQueue b →
       (startNumber withQueue b ≡ 0)
-      × (length content ≡ 1514 → step (startWorld withQueue c b) (packet content) .outcome ≡ outcome 0 1)
-      × (length content ≡ 1515 → step (startWorld withQueue c b) (packet content) .outcome ≡ outcome 4 0)
+      × (length content ≡ 1514 → step (startWorld withQueue c b) (packet 0 content) .outcome ≡ outcome 0 1)
+      × (length content ≡ 1515 → step (startWorld withQueue c b) (packet 0 content) .outcome ≡ outcome 4 0)
   -- "`d` to a third block in an epoch gives 14"
   pub E8 : outputOf (bytes "d 0 1\nd 1 1\nd 2 1\n") ≡ bytes "d 0 1\nd 0 1\nd 14 0\n"
   -- "ACK 1 twice: 11", after the start of `pair` and a checkpoint

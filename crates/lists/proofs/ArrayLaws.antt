@@ -1,13 +1,14 @@
--- Laws of arrays: the first n elements one by one, an entry stored, and the array without its first entries. Assumes nothing.
+-- Laws of arrays: the first n elements one by one, an entry stored, and the array without some entries. Assumes nothing.
 use mathlib.Core.Path.{_≡_, sym, ap, _∙_}
-use mathlib.Core.List.{List, [], _∷_}
+use mathlib.Core.List.{List, [], _∷_, _++_}
 use Prim.Native.Nat.{ℕ, _+_, _-_, _≤_, _<_}
+use native.Mathlib.Nat.{zero-add}
 use native.Mathlib.Numerals.{add-one}
 use native.Mathlib.Omega.{arith}
 use lib.ListN.{length, take, drop, getD, set, replicate, length-drop, length-replicate, drop-of-length-le}
 use lib.Seq.{paste, drop-cons, getD-take, getD-drop, length-take-le, set-split, append-snoc}
 use Rattle.lists.specs.Part.{put, removed, freed}
-use Rattle.lists.proofs.PartLaws.{copy-turn, length-removed, length-put, take-put, take-removed}
+use Rattle.lists.proofs.PartLaws.{copy-turn, length-removed, length-put, take-put, kept-removed}
 
 module _ {A : Type 0} where
   -- ---- what is left of the first n elements, from element i on
@@ -30,15 +31,20 @@ module _ {A : Type 0} where
       let w : i < length (drop n l) = rw length-drop (omega arith) in
       ap (set (paste l 0 (drop n l) i) i) (sym (getD-drop n l i z)) ∙ copy-turn l (drop n l) i z (omega arith) w
 
-  -- what is left stands first, in order
-  pub take-freed : (z : A) (n total : ℕ) (l : List A) → n ≤ total → total ≤ length l → take (total - n) (freed z n total l) ≡ drop n (take total l)
-  unfolding freed
-  take-freed z n total l h k =
-      let w : length (removed 0 n total l) ≡ length l = length-removed 0 n total l (omega arith) k in
-      take-put (removed 0 n total l) (total - n) (replicate n z) (omega arith) ∙ take-removed n total l h k
+  -- ---- freed: what is left stands first, in order
+  module _ (z : A) (at n total : ℕ) (l : List A) (h : at + n ≤ total) (k : total ≤ length l) where
+    pub kept-freed : take (total - n) (freed z at n total l) ≡ take at l ++ drop (at + n) (take total l)
+    unfolding freed
+    kept-freed =
+        let w : length (removed at n total l) ≡ length l = length-removed at n total l h k in
+        take-put (removed at n total l) (total - n) (replicate n z) (omega arith) ∙ kept-removed at n total l h k
 
-  pub length-freed : (z : A) (n total : ℕ) (l : List A) → n ≤ total → total ≤ length l → length (freed z n total l) ≡ length l
-  unfolding freed
-  length-freed z n total l h k =
-      let w : length (removed 0 n total l) ≡ length l = length-removed 0 n total l (omega arith) k in
-      length-put (removed 0 n total l) (total - n) (replicate n z) (omega (arith, length-replicate n z)) ∙ w
+    pub length-freed : length (freed z at n total l) ≡ length l
+    unfolding freed
+    length-freed =
+        let w : length (removed at n total l) ≡ length l = length-removed at n total l h k in
+        length-put (removed at n total l) (total - n) (replicate n z) (omega (arith, length-replicate n z)) ∙ w
+
+  -- from the front
+  pub take-freed : (z : A) (n total : ℕ) (l : List A) → n ≤ total → total ≤ length l → take (total - n) (freed z 0 n total l) ≡ drop n (take total l)
+  take-freed z n total l h k = let e : 0 + n ≡ n = zero-add n in rw e at (kept-freed z 0 n total l (omega arith) k)

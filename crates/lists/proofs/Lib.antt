@@ -2,6 +2,7 @@
 pub mod TestLaws
 pub mod PartLaws
 pub mod ArrayLaws
+pub mod SelectLaws
 pub mod ChunkLaws
 pub mod PageLaws
 pub mod LittleEndianLaws

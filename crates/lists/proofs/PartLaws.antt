@@ -97,6 +97,12 @@ module _ {A : Type 0} where
   unfolding put
   take-put s at bs h = rw append-assoc (take-at (take at s) (bs ++ drop (at + length bs) s) at (length-take-le at s h))
 
+  pub take-put-end : (s : List A) (at : ℕ) (bs : List A) → at ≤ length s → take (at + length bs) (put s at bs) ≡ take at s ++ bs
+  unfolding put
+  take-put-end s at bs h =
+      let e : length (take at s ++ bs) ≡ at + length bs = length-append (take at s) bs ∙ ap (λ (n : ℕ). n + length bs) (length-take-le at s h) in
+      take-at (take at s ++ bs) (drop (at + length bs) s) (at + length bs) e
+
   pub drop-put : (s : List A) (at : ℕ) (bs : List A) → at ≤ length s → drop (at + length bs) (put s at bs) ≡ drop (at + length bs) s
   unfolding put
   drop-put s at bs h =
@@ -140,14 +146,19 @@ module _ {A : Type 0} where
       let e : length rest ≡ total - (at + n) = length-part (at + n) (total - (at + n)) l (omega arith) in
       ap (λ (m : ℕ). part at m (put l at rest)) (sym e) ∙ part-put l at rest (omega arith)
 
+  -- what is left of the first total: what lies before at, and the rest
+  pub kept-removed : (at n total : ℕ) (l : List A) → at + n ≤ total → total ≤ length l → take (total - n) (removed at n total l) ≡ take at l ++ drop (at + n) (take total l)
+  unfolding removed part
+  kept-removed at n total l h k =
+      let rest = part (at + n) (total - (at + n)) l in
+      let e : at + length rest ≡ total - n = omega (arith, length-part (at + n) (total - (at + n)) l (omega arith)) in
+      rw e at (take-put-end l at rest (omega arith)) ∙ ap (λ (r : List A). take at l ++ r) (sym (drop-take (at + n) total l))
+
   -- removed from the front: what is left stands first, in order
   pub take-removed : (n total : ℕ) (l : List A) → n ≤ total → total ≤ length l → take (total - n) (removed 0 n total l) ≡ drop n (take total l)
-  unfolding part
   take-removed n total l h k =
       let z : 0 + n ≡ n = zero-add n in
-      sym (part-zero (total - n) (removed 0 n total l))
-      ∙ rw z at (part-removed 0 n total l (omega arith) k)
-      ∙ sym (drop-take n total l)
+      rw z at (kept-removed 0 n total l (omega arith) k)
 
   -- and the bytes behind stay
   pub drop-removed : (at n total : ℕ) (l : List A) → at + n ≤ total → total ≤ length l → drop (total - n) (removed at n total l) ≡ drop (total - n) l

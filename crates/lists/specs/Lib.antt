@@ -1,4 +1,5 @@
 pub mod Part
+pub mod Select
 pub mod Page
 pub mod LittleEndian
 pub mod Refusal

@@ -18,9 +18,9 @@ module _ {A : Type 0} where
   unfoldable pub removed : ℕ → ℕ → ℕ → List A → List A
   removed at n total l = put l at (part (at + n) (total - (at + n)) l)
 
-  -- the same in an array from the front, with the entries that become free made empty
-  unfoldable pub freed : A → ℕ → ℕ → List A → List A
-  freed empty n total l = put (removed 0 n total l) (total - n) (replicate n empty)
+  -- the same in an array, with the entries that become free made empty
+  unfoldable pub freed : A → ℕ → ℕ → ℕ → List A → List A
+  freed empty at n total l = put (removed at n total l) (total - n) (replicate n empty)
 
 -- what a writer that is told a position leaves: bs at at, and the position after it
 pub record PutDone (bs before : List ℕ) (at : ℕ) (after : List ℕ) (next : ℕ) : Type 0 where

@@ -2,5 +2,6 @@
 pub mod ArrayLaws
 pub mod PacketLaws
 pub mod SeenLaws
+pub mod PlaceLaws
 pub mod QueueLaws
 pub mod HeldLaws

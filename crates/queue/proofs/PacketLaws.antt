@@ -1,30 +1,44 @@
--- Laws of lists of packets: what the range tests say of the first packet and the rest, of one packet more, and of the epochs in wider bounds. Assumes nothing.
+-- Laws of lists of packets: what the range tests say of the first packet and the rest, of one packet more and of one fewer, and of the epochs in wider bounds. Assumes nothing.
 use mathlib.Core.Path.{_≡_}
 use mathlib.Core.Bool.{true}
 use mathlib.Core.List.{List, [], _∷_, _++_}
-use Prim.Native.Nat.{ℕ, _+_, _≤_}
+use Prim.Native.Nat.{ℕ, zero, suc, _+_, _≤_, _<_}
 use native.Mathlib.Nat.{le-refl, le-trans}
 use native.Mathlib.Omega.{arith}
 use lib.Dec.{leb}
-use lib.ListN.{length}
+use lib.ListN.{length, take, getD}
 use borrow.Author.Tests.{leb-true, le-leb}
 use Rattle.lists.proofs.TestLaws.{both, join}
-use Rattle.settings.specs.Range.{packetLengthOk}
+use Rattle.lists.specs.Select.{without}
 use Rattle.queue.specs.declared.Packet.{Packet}
-use Rattle.queue.specs.Held.{lengthsOk, sumLengths, epochsOk}
+use Rattle.queue.specs.Held.{packetOk, packetsOk, sumLengths, epochsOk}
 
--- ---- the lengths
-pub lengths-cons : (p : Packet) (ps : List Packet) → lengthsOk (p ∷ ps) ≡ true → (packetLengthOk (p .length) ≡ true) × (lengthsOk ps ≡ true)
-unfolding lengthsOk
-lengths-cons p ps e = both (packetLengthOk (p .length)) (lengthsOk ps) e
+-- ---- each packet's own numbers
+abbrev Ok : Packet → Type 0
+Ok p = packetOk (p .length) (p .port) ≡ true
 
-lengths-join : (p : Packet) (ps : List Packet) → packetLengthOk (p .length) ≡ true → lengthsOk ps ≡ true → lengthsOk (p ∷ ps) ≡ true
-unfolding lengthsOk
-lengths-join p ps h k = join (packetLengthOk (p .length)) (lengthsOk ps) h k
+packets-cons : (p : Packet) (ps : List Packet) → packetsOk (p ∷ ps) ≡ true → Ok p × (packetsOk ps ≡ true)
+unfolding packetsOk
+packets-cons p ps e = both (packetOk (p .length) (p .port)) (packetsOk ps) e
 
-pub lengths-more : (ps : List Packet) (p : Packet) → lengthsOk ps ≡ true → packetLengthOk (p .length) ≡ true → lengthsOk (ps ++ (p ∷ [])) ≡ true
-lengths-more [] p h k = lengths-join p [] k h
-lengths-more (x ∷ xs) p h k = let b = lengths-cons x xs h in lengths-join x (xs ++ (p ∷ [])) (b .0) (lengths-more xs p (b .1) k)
+packets-join : (p : Packet) (ps : List Packet) → Ok p → packetsOk ps ≡ true → packetsOk (p ∷ ps) ≡ true
+unfolding packetsOk
+packets-join p ps h k = join (packetOk (p .length) (p .port)) (packetsOk ps) h k
+
+pub packets-more : (ps : List Packet) (p : Packet) → packetsOk ps ≡ true → packetOk (p .length) (p .port) ≡ true → packetsOk (ps ++ (p ∷ [])) ≡ true
+packets-more [] p h k = packets-join p [] k h
+packets-more (x ∷ xs) p h k = let b = packets-cons x xs h in packets-join x (xs ++ (p ∷ [])) (b .0) (packets-more xs p (b .1) k)
+
+pub packets-without : (i : ℕ) (ps : List Packet) → packetsOk ps ≡ true → packetsOk (without i ps) ≡ true
+unfolding without
+packets-without i [] e = e
+packets-without zero (p ∷ ps) e = packets-cons p ps e .1
+packets-without (suc i) (p ∷ ps) e = let b = packets-cons p ps e in packets-join p (without i ps) (b .0) (packets-without i ps (b .1))
+
+pub packets-at : (i : ℕ) (ps : List Packet) (z : Packet) → i < length ps → packetsOk ps ≡ true → packetOk (getD ps i z .length) (getD ps i z .port) ≡ true
+packets-at i [] z h e = absurd (omega arith)
+packets-at zero (p ∷ ps) z h e = packets-cons p ps e .0
+packets-at (suc i) (p ∷ ps) z h e = packets-at i ps z (omega arith) (packets-cons p ps e .1)
 
 -- ---- their sum
 pub sum-more : (ps : List Packet) (p : Packet) → sumLengths (ps ++ (p ∷ [])) ≡ sumLengths ps + p .length
@@ -32,8 +46,21 @@ unfolding sumLengths
 sum-more [] p = omega arith
 sum-more (x ∷ xs) p = omega (arith, sum-more xs p)
 
+pub sum-without : (i : ℕ) (ps : List Packet) (z : Packet) → i < length ps → sumLengths (without i ps) + getD ps i z .length ≡ sumLengths ps
+unfolding sumLengths without
+sum-without i [] z h = absurd (omega arith)
+sum-without zero (p ∷ ps) z h = omega arith
+sum-without (suc i) (p ∷ ps) z h = omega (arith, sum-without i ps z (omega arith))
+
+-- those before the i-th, and it
+pub sum-before : (i : ℕ) (ps : List Packet) (z : Packet) → i < length ps → sumLengths (take i ps) + getD ps i z .length ≤ sumLengths ps
+unfolding sumLengths
+sum-before i [] z h = absurd (omega arith)
+sum-before zero (p ∷ ps) z h = omega arith
+sum-before (suc i) (p ∷ ps) z h = omega (arith, sum-before i ps z (omega arith))
+
 -- ---- the epochs
-pub epochs-cons : (low top : ℕ) (p : Packet) (ps : List Packet) → epochsOk low top (p ∷ ps) ≡ true → (low ≤ p .epoch) × (epochsOk (p .epoch) top ps ≡ true)
+epochs-cons : (low top : ℕ) (p : Packet) (ps : List Packet) → epochsOk low top (p ∷ ps) ≡ true → (low ≤ p .epoch) × (epochsOk (p .epoch) top ps ≡ true)
 unfolding epochsOk
 epochs-cons low top p ps e =
     let b = both (leb low (p .epoch)) (epochsOk (p .epoch) top ps) e in
@@ -53,11 +80,11 @@ epochs-range [] low top e = leb-true low top e
 epochs-range (p ∷ ps) low top e = let b = epochs-cons low top p ps e in le-trans (b .0) (epochs-range ps (p .epoch) top (b .1))
 
 -- one packet more, of the top epoch
-pub epochs-more : (ps : List Packet) (low top n : ℕ) → epochsOk low top ps ≡ true → epochsOk low top (ps ++ (record { epoch = top; length = n } ∷ [])) ≡ true
-epochs-more [] low top n e = epochs-join low top (record { epoch = top; length = n }) [] (epochs-range [] low top e) (epochs-none top top (le-refl top))
-epochs-more (p ∷ ps) low top n e =
+pub epochs-more : (ps : List Packet) (low top : ℕ) (x : Packet) → x .epoch ≡ top → epochsOk low top ps ≡ true → epochsOk low top (ps ++ (x ∷ [])) ≡ true
+epochs-more [] low top x is e = epochs-join low top x [] (omega (arith, epochs-range [] low top e)) (epochs-none (x .epoch) top (omega arith))
+epochs-more (p ∷ ps) low top x is e =
     let b = epochs-cons low top p ps e in
-    epochs-join low top p (ps ++ (record { epoch = top; length = n } ∷ [])) (b .0) (epochs-more ps (p .epoch) top n (b .1))
+    epochs-join low top p (ps ++ (x ∷ [])) (b .0) (epochs-more ps (p .epoch) top x is (b .1))
 
 -- a lower beginning, a higher top
 pub epochs-wider : (ps : List Packet) (low low′ top top′ : ℕ) → low′ ≤ low → top ≤ top′ → epochsOk low top ps ≡ true → epochsOk low′ top′ ps ≡ true
@@ -65,3 +92,10 @@ epochs-wider [] low low′ top top′ h k e = epochs-none low′ top′ (omega (
 epochs-wider (p ∷ ps) low low′ top top′ h k e =
     let b = epochs-cons low top p ps e in
     epochs-join low′ top′ p ps (le-trans h (b .0)) (epochs-wider ps (p .epoch) (p .epoch) top top′ (le-refl (p .epoch)) k (b .1))
+
+-- one packet fewer
+pub epochs-without : (i : ℕ) (ps : List Packet) (low top : ℕ) → epochsOk low top ps ≡ true → epochsOk low top (without i ps) ≡ true
+unfolding without
+epochs-without i [] low top e = e
+epochs-without zero (p ∷ ps) low top e = let b = epochs-cons low top p ps e in epochs-wider ps (p .epoch) low top top (b .0) (le-refl top) (b .1)
+epochs-without (suc i) (p ∷ ps) low top e = let b = epochs-cons low top p ps e in epochs-join low top p (without i ps) (b .0) (epochs-without i ps (p .epoch) top (b .1))

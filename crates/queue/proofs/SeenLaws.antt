@@ -10,25 +10,25 @@ use lib.Seq.{take-suc}
 use native.Mathlib.Numerals.{add-one}
 use borrow.Author.Tests.{leb-true, le-leb, eqb-true, eq-eqb}
 use Rattle.lists.proofs.TestLaws.{agree, both, join, and-false}
-use Rattle.settings.specs.Range.{mostPackets, packetLengthOk}
+use Rattle.settings.specs.Range.{mostPackets}
 use Rattle.queue.specs.declared.Packet.{Packet}
 use Rattle.queue.specs.declared.Queue.{Queue}
 use Rattle.queue.specs.declared.Seen.{Seen}
-use Rattle.queue.specs.Held.{noPacket, heldPackets, lengthsOk, sumLengths, epochsOk, queueOk}
+use Rattle.queue.specs.Held.{noPacket, heldPackets, packetOk, packetsOk, sumLengths, epochsOk, queueOk}
 use Rattle.queue.specs.Seen.{noneSeen, seenWith, seenFrom, seenOk}
 use Rattle.queue.proofs.QueueLaws.{QueueTests, queue-tests, queue-tested}
 
 -- ---- one packet more
-seen-more : (s : Seen) (ps : List Packet) (p : Packet) → seenFrom s (ps ++ (p ∷ [])) ≡ seenWith (seenFrom s ps) (p .epoch) (p .length)
+seen-more : (s : Seen) (ps : List Packet) (p : Packet) → seenFrom s (ps ++ (p ∷ [])) ≡ seenWith (seenFrom s ps) (p .epoch) (p .length) (p .port)
 unfolding seenFrom
 seen-more s [] p = refl
-seen-more s (x ∷ xs) p = seen-more (seenWith s (x .epoch) (x .length)) xs p
+seen-more s (x ∷ xs) p = seen-more (seenWith s (x .epoch) (x .length) (x .port)) xs p
 
 -- ---- what was seen of all
 seen-bytes : (s : Seen) (ps : List Packet) → seenFrom s ps .bytes ≡ s .bytes + sumLengths ps
 unfolding seenFrom sumLengths seenWith
 seen-bytes s [] = omega arith
-seen-bytes s (p ∷ ps) = omega (arith, seen-bytes (seenWith s (p .epoch) (p .length)) ps)
+seen-bytes s (p ∷ ps) = omega (arith, seen-bytes (seenWith s (p .epoch) (p .length) (p .port)) ps)
 
 -- the same tests in another order
 reorder : (a b c d e : Bool) → (a && b && c) && d && e ≡ (a && (b && d)) && (c && e)
@@ -37,12 +37,12 @@ reorder true true false d e = sym (and-false d)
 reorder true false c d e = refl
 reorder false b c d e = refl
 
-seen-tests : (s : Seen) (ps : List Packet) (top : ℕ) → seenFrom s ps .ok && leb (seenFrom s ps .epoch) top ≡ s .ok && lengthsOk ps && epochsOk (s .epoch) top ps
-unfolding seenFrom lengthsOk epochsOk seenWith
+seen-tests : (s : Seen) (ps : List Packet) (top : ℕ) → seenFrom s ps .ok && leb (seenFrom s ps .epoch) top ≡ s .ok && packetsOk ps && epochsOk (s .epoch) top ps
+unfolding seenFrom packetsOk epochsOk seenWith
 seen-tests s [] top = ap (λ (b : Bool). b && leb (s .epoch) top) (sym (and-true (s .ok)))
 seen-tests s (p ∷ ps) top =
-    seen-tests (seenWith s (p .epoch) (p .length)) ps top
-    ∙ reorder (s .ok) (packetLengthOk (p .length)) (leb (s .epoch) (p .epoch)) (lengthsOk ps) (epochsOk (p .epoch) top ps)
+    seen-tests (seenWith s (p .epoch) (p .length) (p .port)) ps top
+    ∙ reorder (s .ok) (packetOk (p .length) (p .port)) (leb (s .epoch) (p .epoch)) (packetsOk ps) (epochsOk (p .epoch) top ps)
 
 -- ---- the loop over the first n packets: what was seen is what the packets passed give
 pub record Looked (n : ℕ) (ps : List Packet) (s : Seen) (i : ℕ) : Type 0 where
@@ -55,19 +55,22 @@ unfolding seenFrom
 looked-none n ps s e = record { passed = omega arith; seen = e; bytes-high = rw e (omega arith) }
 
 pub looked-next : (n : ℕ) (ps : List Packet) (s : Seen) (i : ℕ) → Looked n ps s i → i < n → n ≤ length ps → (r : Seen)
-    → (r ≡ seenWith s (getD ps i noPacket .epoch) (getD ps i noPacket .length)) × (r .bytes < s .bytes + 4294967296)
+    → (r ≡ seenWith s (getD ps i noPacket .epoch) (getD ps i noPacket .length) (getD ps i noPacket .port)) × (r .bytes < s .bytes + 4294967296)
     → Looked n ps r (i + 1)
 looked-next n ps s i w h fits r e =
     record {
       passed = omega arith;
       seen =
           e .0
-          ∙ ap (λ (x : Seen). seenWith x (getD ps i noPacket .epoch) (getD ps i noPacket .length)) (w .seen)
+          ∙ ap (λ (x : Seen). seenWith x (getD ps i noPacket .epoch) (getD ps i noPacket .length) (getD ps i noPacket .port)) (w .seen)
           ∙ sym (seen-more noneSeen (take i ps) (getD ps i noPacket))
           ∙ ap (seenFrom noneSeen) (sym (take-suc ps i noPacket (omega arith)))
           ∙ ap (λ (m : ℕ). seenFrom noneSeen (take m ps)) (sym (add-one i));
       bytes-high = omega (arith, w .bytes-high, e .1);
     }
+
+pub looked-bytes : (n : ℕ) (ps : List Packet) (s : Seen) (i : ℕ) → Looked n ps s i → s .bytes ≡ sumLengths (take i ps)
+looked-bytes n ps s i w = omega (arith, ap (λ (x : Seen). x .bytes) (w .seen), seen-bytes noneSeen (take i ps))
 
 -- what was seen of the packets that are looked at decides the range of the queue
 module _ (k : Queue) (epoch q : ℕ) where
@@ -89,10 +92,10 @@ module _ (k : Queue) (epoch q : ℕ) where
       let l = both _ (seen .ok) (s .0) in
       let count = leb-true (k .count) mostPackets (l .0) in
       let a = all count in
-      let t = both (lengthsOk (heldPackets k)) _ (sym (seen-tests noneSeen (heldPackets k) epoch) ∙ rw a at (join _ _ (l .1) (e .1))) in
+      let t = both (packetsOk (heldPackets k)) _ (sym (seen-tests noneSeen (heldPackets k) epoch) ∙ rw a at (join _ _ (l .1) (e .1))) in
       record {
         count-high = count;
-        lengths-ok = t .0;
+        packets-ok = t .0;
         sum-is = omega (arith, seen-bytes noneSeen (heldPackets k), ap (λ (x : Seen). x .bytes) a, eqb-true (seen .bytes) (k .bytes) (s .1));
         bytes-high = leb-true (k .bytes) q (b .1);
         epochs-ok = t .1;
@@ -102,7 +105,7 @@ module _ (k : Queue) (epoch q : ℕ) where
   unfolding seenOk
   passed t =
       let a = all (t .count-high) in
-      let e = both (seen .ok) _ (ap (λ (s : Seen). s .ok && leb (s .epoch) epoch) a ∙ seen-tests noneSeen (heldPackets k) epoch ∙ join _ _ (t .lengths-ok) (t .epochs-ok)) in
+      let e = both (seen .ok) _ (ap (λ (s : Seen). s .ok && leb (s .epoch) epoch) a ∙ seen-tests noneSeen (heldPackets k) epoch ∙ join _ _ (t .packets-ok) (t .epochs-ok)) in
       let b : seen .bytes ≡ k .bytes = omega (arith, seen-bytes noneSeen (heldPackets k), ap (λ (x : Seen). x .bytes) a, t .sum-is) in
       join _ _ (join _ _ (join _ _ (join _ _ (le-leb (k .count) mostPackets (t .count-high)) (e .0)) (eq-eqb _ _ b)) (le-leb (k .bytes) q (t .bytes-high))) (e .1)
 

@@ -3,21 +3,25 @@ ghost use mathlib.Core.Path.{_≡_};
 ghost use mathlib.Core.Bool.{_&&_};
 ghost use Prim.Native.Nat.{_+_, _^_, _≤_, _<_, min};
 ghost use lib.Dec.{leb};
-ghost use lib.ListN.{length, take};
-ghost use Rattle.lists.specs.Part.{put, removed};
-ghost use Rattle.settings.specs.Range.{mostPackets, packetLengthOk};
-ghost use Rattle.queue.specs.Held.{queueOk, hasSpace};
-ghost use Rattle.queue.specs.Seen.{noneSeen, seenWith, seenOk};
+ghost use lib.ListN.{length};
+ghost use Rattle.lists.specs.Part.{part, put, removed};
+ghost use Rattle.settings.specs.Range.{mostPackets};
+ghost use Rattle.queue.specs.Held.{packetOk, queueOk, hasSpace};
+ghost use Rattle.queue.specs.Seen.{noneSeen, seenWith, seenOk, noPlace, placeWith};
 use settings::MOST_PACKET_BYTES;
 use settings::MOST_PACKETS;
+use settings::MOST_PORT;
 
-// The largest packet in the width of a packet's length.
-const MOST_LENGTH: u32 = MOST_PACKET_BYTES as u32;
+// The largest packet and the last port, in the width of a packet's fields.
+const MOST_LENGTH: u16 = MOST_PACKET_BYTES as u16;
 
-// One held packet: the epoch that was open when it came, and its length.
+const LAST_PORT: u16 = MOST_PORT as u16;
+
+// One held packet, in 8 bytes: the epoch that was open when it came, its length, and the port by which it leaves.
 pub struct Packet {
     pub epoch: u32,
-    pub length: u32,
+    pub length: u16,
+    pub port: u16,
 }
 
 // The packets in the order in which they came: how many, their bytes together, and each of them. Their bytes stand in the lent buffer, one after the other.
@@ -28,13 +32,14 @@ pub struct Queue {
 }
 
 // A packet's length, in the width of the other counts of bytes.
-pub fn size(n: u32) -> usize
+pub fn size(n: u16) -> usize
     ensures { λ r. ⌜ r ≡ n ⌝ }
 {
     n as usize
 }
 
-// What was seen of the first packets: the epoch of the last of them, their bytes together, and whether their lengths were in range and no epoch fell.
+// What was seen of the first packets: the epoch of the last of them, their bytes together, and whether their lengths and
+// ports were in range and no epoch fell.
 pub struct Seen {
     pub epoch: u32,
     pub bytes: usize,
@@ -51,9 +56,10 @@ pub fn none_seen() -> Seen
     }
 }
 
-// Whether the packets before were in their ranges and the next one is: its length, and its epoch, which must not be below that of the one before.
-fn follows(s: Seen, epoch: u32, n: u32) -> bool
-    ensures { λ r. ⌜ r ≡ (s .ok && packetLengthOk n && leb (s .epoch) epoch) ⌝ }
+// Whether the packets before were in their ranges and the next one is: its length, its port, and its epoch, which must
+// not be below that of the one before.
+fn follows(s: Seen, epoch: u32, n: u16, port: u16) -> bool
+    ensures { λ r. ⌜ r ≡ (s .ok && packetOk n port && leb (s .epoch) epoch) ⌝ }
 {
     let low = s.epoch;
     let ok = s.ok;
@@ -66,6 +72,9 @@ fn follows(s: Seen, epoch: u32, n: u32) -> bool
     if MOST_LENGTH < n {
         return false;
     }
+    if LAST_PORT < port {
+        return false;
+    }
     if epoch < low {
         return false;
     }
@@ -73,13 +82,13 @@ fn follows(s: Seen, epoch: u32, n: u32) -> bool
 }
 
 // One packet more.
-pub fn seen_with(s: Seen, epoch: u32, n: u32) -> Seen
+pub fn seen_with(s: Seen, epoch: u32, n: u16, port: u16) -> Seen
     requires { ⌜ s .bytes < 2 ^ 63 ⌝ }
-    ensures { λ r. ⌜ r ≡ seenWith s epoch n ⌝ }
+    ensures { λ r. ⌜ r ≡ seenWith s epoch n port ⌝ }
     ensures { λ r. ⌜ r .bytes < s .bytes + 2 ^ 32 ⌝ }
 {
     let bytes = s.bytes;
-    let ok = follows(s, epoch, n);
+    let ok = follows(s, epoch, n, port);
     Seen {
         epoch: epoch,
         bytes: bytes + n as usize,
@@ -133,10 +142,45 @@ pub fn queue_ok(k: Queue, epoch: u32, q: usize) -> bool
     let mut seen = none_seen();
     let mut i = 0;
     while i < looked {
-        seen = seen_with(seen, packets[i].epoch, packets[i].length);
+        seen = seen_with(seen, packets[i].epoch, packets[i].length, packets[i].port);
         i += 1;
     }
     seen_ok(seen, count, bytes, epoch, q)
+}
+
+// Where the first packet of a port stands among those looked at, and how many bytes are before its own; 0 and 0 where
+// there is none.
+pub struct Place {
+    pub at: usize,
+    pub before: usize,
+    pub found: bool,
+}
+
+pub fn no_place() -> Place
+    ensures { λ r. ⌜ r ≡ noPlace ⌝ }
+{
+    Place {
+        at: 0,
+        before: 0,
+        found: false,
+    }
+}
+
+// One packet more, which stands at a place behind some bytes.
+pub fn place_with(s: Place, wanted: usize, port: u16, at: usize, before: usize) -> Place
+    ensures { λ r. ⌜ r ≡ placeWith s wanted port at before ⌝ }
+{
+    if s.found {
+        return s;
+    }
+    if port as usize != wanted {
+        return s;
+    }
+    Place {
+        at: at,
+        before: before,
+        found: true,
+    }
 }
 
 // Whether a packet of n bytes can be held: no sum is made, so none can wrap.
@@ -157,12 +201,12 @@ pub fn has_space(k: Queue, q: usize, n: usize) -> bool
     true
 }
 
-// Of the bytes held, copies the first n to the head of the destination, and moves the others to the front.
-pub fn hand_out(held: &mut [u8], n: usize, bytes: usize, destination: &mut [u8])
-    requires { ⌜ (n ≤ bytes) × (bytes ≤ length (now held)) × (n ≤ length (now destination)) ⌝ }
-    ensures { λ _. ⌜ now (destination .exit) ≡ put (now (destination .entry)) 0 (take n (now (held .entry))) ⌝ }
-    ensures { λ _. ⌜ now (held .exit) ≡ removed 0 n bytes (now (held .entry)) ⌝ }
+// Of the bytes held, copies the n from at on to the head of the destination, and closes up those behind them.
+pub fn hand_out(held: &mut [u8], at: usize, n: usize, bytes: usize, destination: &mut [u8])
+    requires { ⌜ (at + n ≤ bytes) × (bytes ≤ length (now held)) × (n ≤ length (now destination)) ⌝ }
+    ensures { λ _. ⌜ now (destination .exit) ≡ put (now (destination .entry)) 0 (part at n (now (held .entry))) ⌝ }
+    ensures { λ _. ⌜ now (held .exit) ≡ removed at n bytes (now (held .entry)) ⌝ }
 {
-    lists::copy_front(destination, lists::part_of(held, 0, n));
-    lists::remove(held, 0, n, bytes);
+    lists::copy_front(destination, lists::part_of(held, at, n));
+    lists::remove(held, at, n, bytes);
 }

@@ -1,4 +1,5 @@
--- The numbers of document 01, "Numbers from the input" and "Numbers from the state", by name. Assumes nothing.
+-- The numbers of document 01, "Numbers from the input" and "Numbers from the state", and of document 02, by name.
+-- Assumes nothing.
 use Prim.Native.Nat.{ℕ}
 
 -- a setting, a lent length, or a state outside its ranges
@@ -81,3 +82,7 @@ lastEpoch = 19
 -- blocks still due at activation
 abbrev pub blocksDue : ℕ
 blocksDue = 20
+
+-- the port is above 3 (document 02, Job 6)
+abbrev pub noSuchPort : ℕ
+noSuchPort = 23

@@ -1,4 +1,5 @@
-// The numbers of document 01, "Numbers from the input" and "Numbers from the state", by name, as specs/Number.antt has them.
+// The numbers of document 01, "Numbers from the input" and "Numbers from the state", and of document 02, by name, as
+// specs/Number.antt has them.
 
 // a setting, a lent length, or a state outside its ranges
 pub const OUT_OF_RANGE: u64 = 1;
@@ -60,3 +61,6 @@ pub const LAST_EPOCH: u64 = 19;
 
 // blocks still due at activation
 pub const BLOCKS_DUE: u64 = 20;
+
+// the port is above 3 (document 02, Job 6)
+pub const NO_SUCH_PORT: u64 = 23;

@@ -1,6 +1,7 @@
 -- Every definition of the step rules, from lists up, under one name, for the `unfolding` line of what is proved by computing:
 -- to unfold a name is to unfold what its own line names. Assumes nothing.
 use Rattle.lists.specs.Part.{part, put, removed, freed}
+use Rattle.lists.specs.Select.{selected, placeOf}
 use Rattle.lists.specs.Page.{page, withPage, gather}
 use Rattle.lists.specs.LittleEndian.{leBytes, leAt}
 use Rattle.records.specs.Kind.{unitOk, bodyLength, recordLength}
@@ -10,7 +11,7 @@ use Rattle.records.specs.Area.{allZero, areaOf}
 use Rattle.settings.specs.Range.{leastStream, settingsOk, primarySettingsOk, standbySettingsOk}
 use Rattle.marks.specs.Mark.{bit, withBit, markBit, marked, withMark, cleared, countMarks}
 use Rattle.pages.specs.Dirty.{dirtyRecord, dirtyRecords, installedPage, installed}
-use Rattle.queue.specs.Held.{lengthsOk, sumLengths, epochsOk, queueOk, added, addedBytes, withoutOldest, withoutOldestBytes, oldestBytes}
+use Rattle.queue.specs.Held.{packetsOk, sumLengths, epochsOk, queueOk, added, addedBytes, packetBytes, withoutPacket, withoutPacketBytes}
 use Rattle.staging.specs.Slot.{numbersOk, slotsOk, withBlock, withBlockBytes, allDue, onlyDue, stored, flushed, flushedBytes}
 use Rattle.detector.specs.Tick.{ticked}
 use Rattle.detector.specs.Range.{detectorOk}
@@ -32,7 +33,7 @@ use Rattle.rules.specs.World.{startWorld}
 use Rattle.rules.specs.Step.{step}
 
 unfoldable listRules : Unit {0}
-unfolding part put removed freed page withPage gather leBytes leAt
+unfolding part put removed freed selected placeOf page withPage gather leBytes leAt
 listRules = tt
 
 unfoldable recordRules : Unit {0}
@@ -40,7 +41,7 @@ unfolding unitOk bodyLength recordLength fieldsOf readRecord frame unitRecord st
 recordRules = tt
 
 unfoldable partRules : Unit {0}
-unfolding leastStream settingsOk primarySettingsOk standbySettingsOk bit withBit markBit marked withMark cleared countMarks dirtyRecord dirtyRecords installedPage installed lengthsOk sumLengths epochsOk queueOk added addedBytes withoutOldest withoutOldestBytes oldestBytes numbersOk slotsOk withBlock withBlockBytes allDue onlyDue stored flushed flushedBytes ticked
+unfolding leastStream settingsOk primarySettingsOk standbySettingsOk bit withBit markBit marked withMark cleared countMarks dirtyRecord dirtyRecords installedPage installed packetsOk sumLengths epochsOk queueOk added addedBytes packetBytes withoutPacket withoutPacketBytes numbersOk slotsOk withBlock withBlockBytes allDue onlyDue stored flushed flushedBytes ticked
 partRules = tt
 
 unfoldable primaryRules : Unit {0}

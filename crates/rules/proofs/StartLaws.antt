@@ -175,11 +175,11 @@ pub zero-refuses : (w : World) (c : Call) → w .primary .state ≡ noPrimary �
 unfolding step memoryWriteReply memoryWriteRefusal diskWriteReply diskWriteRefusal packetReply packetRefusal takeReply takeRefusal checkpointReply checkpointRefusal drainReply drainRefusal ackReply ackJudged primaryTickReply primaryTickRefusal readReply judged flushReply flushRefusal standbyTickReply standbyTickRefusal activationReply activationRefusal activeMemoryWriteReply activeMemoryWriteRefusal activeDiskWriteReply activeDiskWriteRefusal
 zero-refuses w (world.memoryWrite page offset bytes) p s = rw (p, no-primary)
 zero-refuses w (world.diskWrite block bytes) p s = rw (p, no-primary)
-zero-refuses w (world.packet bytes) p s = rw (p, no-primary)
+zero-refuses w (world.packet port bytes) p s = rw (p, no-primary)
 zero-refuses w (world.checkpoint processor) p s = rw (p, no-primary)
 zero-refuses w (world.drain n destination) p s = rw (p, no-primary)
 zero-refuses w (world.ack n) p s = rw (p, no-primary)
-zero-refuses w (world.take destination) p s = rw (p, no-primary)
+zero-refuses w (world.take port destination) p s = rw (p, no-primary)
 zero-refuses w world.primaryTick p s = rw (p, no-primary)
 zero-refuses w (world.read n reply) p s = rw (s, no-standby)
 zero-refuses w (world.flush n) p s = rw (s, no-standby)

@@ -14,7 +14,7 @@ use Rattle.detector.specs.Range.{detectorOk}
 abbrev pub protected : Primary → Bool
 protected p = not (p .alone)
 
--- number 1 of a state, exactly as document 01 lists it
+-- number 1 of a state, exactly as document 01 lists it, and document 02 for held ports (Job 6)
 unfoldable pub primaryOk : Primary → Bool
 primaryOk p =
     primarySettingsOk (p .settings)

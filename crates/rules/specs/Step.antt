@@ -73,17 +73,17 @@ stepDiskWrite w block bytes =
     }))
     (r .number) (r .value)
 
-abbrev pub stepPacket : World → List ℕ → Stepped
-stepPacket w bytes =
+abbrev pub stepPacket : World → ℕ → List ℕ → Stepped
+stepPacket w port bytes =
     let p = w .primary in
-    let r = packetReply (p .state) (length (p .held)) (length bytes) in
+    let r = packetReply (p .state) (length (p .held)) port (length bytes) in
     stepped
     (atPrimary w (record {
       state = r .state;
       memory = p .memory;
       disk = p .disk;
       dirty = p .dirty;
-      held = packetHeld (p .state) (p .held) bytes;
+      held = packetHeld (p .state) (p .held) port bytes;
       stream = p .stream;
     }))
     (r .number) (r .value)
@@ -143,21 +143,21 @@ stepAck w n =
     }
 
 -- what is handed out is what the destination then holds
-abbrev pub stepTake : World → List ℕ → Stepped
-stepTake w destination =
+abbrev pub stepTake : World → ℕ → List ℕ → Stepped
+stepTake w port destination =
     let p = w .primary in
-    let r = takeReply (p .state) (length (p .held)) (length destination) in
+    let r = takeReply (p .state) (length (p .held)) port (length destination) in
     record {
       next = atPrimary w (record {
         state = r .state;
         memory = p .memory;
         disk = p .disk;
         dirty = p .dirty;
-        held = takeHeld (p .state) (p .held) destination;
+        held = takeHeld (p .state) (p .held) port destination;
         stream = p .stream;
       });
       outcome = outcome (r .number) (r .value);
-      handed = take (r .value) (takeDestination (p .state) (p .held) destination);
+      handed = take (r .value) (takeDestination (p .state) (p .held) port destination);
     }
 
 abbrev pub stepPrimaryTick : World → Stepped
@@ -283,11 +283,11 @@ stepActiveDiskWrite w block bytes =
 unfoldable pub step : World → Call → Stepped
 step w (world.memoryWrite page offset bytes) = stepMemoryWrite w page offset bytes
 step w (world.diskWrite block bytes) = stepDiskWrite w block bytes
-step w (world.packet bytes) = stepPacket w bytes
+step w (world.packet port bytes) = stepPacket w port bytes
 step w (world.checkpoint processor) = stepCheckpoint w processor
 step w (world.drain n destination) = stepDrain w n destination
 step w (world.ack n) = stepAck w n
-step w (world.take destination) = stepTake w destination
+step w (world.take port destination) = stepTake w port destination
 step w world.primaryTick = stepPrimaryTick w
 step w (world.read n reply) = stepRead w n reply
 step w (world.flush n) = stepFlush w n

@@ -34,11 +34,11 @@ fixed-accepted : (u : ℕ) (c : Call) (value : ℕ) (p : Plain) → p .activated
 unfolding plainAccepted
 fixed-accepted u (call.memoryWrite page offset bytes) value p a f = record { received = refl; activated = a }
 fixed-accepted u (call.diskWrite block bytes) value p a f = record { received = refl; activated = a }
-fixed-accepted u (call.packet bytes) value p a f = record { received = refl; activated = a }
+fixed-accepted u (call.packet port bytes) value p a f = record { received = refl; activated = a }
 fixed-accepted u (call.checkpoint processor) value p a f = record { received = refl; activated = a }
 fixed-accepted u (call.drain n destination) value p a f = record { received = refl; activated = a }
 fixed-accepted u (call.ack n) value p a f = record { received = refl; activated = a }
-fixed-accepted u (call.take destination) value p a f = record { received = refl; activated = a }
+fixed-accepted u (call.take port destination) value p a f = record { received = refl; activated = a }
 fixed-accepted u call.primaryTick value p a f = record { received = refl; activated = a }
 fixed-accepted u (call.read n reply) value p a f = absurd (f n reply refl)
 fixed-accepted u (call.flush n) value p a f = record { received = refl; activated = a }

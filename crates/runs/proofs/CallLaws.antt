@@ -51,11 +51,11 @@ primary-kept : (w : World) (c : Call) → PrimaryReached (w .primary .state) →
 unfolding step
 primary-kept w (call.memoryWrite page offset bytes) r = memory-write-reached _ _ _ _ _ _ r
 primary-kept w (call.diskWrite block bytes) r = disk-write-reached _ _ _ _ _ r
-primary-kept w (call.packet bytes) r = packet-reached _ _ _ r
+primary-kept w (call.packet port bytes) r = packet-reached _ _ _ _ r
 primary-kept w (call.checkpoint processor) r = checkpoint-reached _ _ _ _ _ r
 primary-kept w (call.drain n destination) r = drain-reached _ _ _ _ r
 primary-kept w (call.ack n) r = ack-reached _ _ r
-primary-kept w (call.take destination) r = take-reached _ _ _ r
+primary-kept w (call.take port destination) r = take-reached _ _ _ _ r
 primary-kept w call.primaryTick r = primary-tick-reached _ r
 primary-kept w (call.read n reply) r = r
 primary-kept w (call.flush n) r = r
@@ -74,11 +74,11 @@ module _ (P : Standby → Type 0)
   unfolding step flushReply standbyTickReply activationReply activeMemoryWriteReply activeDiskWriteReply
   standby-kept w (call.memoryWrite page offset bytes) r = r
   standby-kept w (call.diskWrite block bytes) r = r
-  standby-kept w (call.packet bytes) r = r
+  standby-kept w (call.packet port bytes) r = r
   standby-kept w (call.checkpoint processor) r = r
   standby-kept w (call.drain n destination) r = r
   standby-kept w (call.ack n) r = r
-  standby-kept w (call.take destination) r = r
+  standby-kept w (call.take port destination) r = r
   standby-kept w call.primaryTick r = r
   standby-kept w (call.read n reply) r = read _ _ _ r
   standby-kept w (call.flush n) r =
@@ -132,11 +132,11 @@ start-reached g processor b e =
 abbrev pub LentAsBefore : World → Call → Type 0
 LentAsBefore w (call.memoryWrite page offset bytes) = Unit {0}
 LentAsBefore w (call.diskWrite block bytes) = Unit {0}
-LentAsBefore w (call.packet bytes) = Unit {0}
+LentAsBefore w (call.packet port bytes) = Unit {0}
 LentAsBefore w (call.checkpoint processor) = Unit {0}
 LentAsBefore w (call.drain n destination) = drainDestination (w .primary .state) (w .primary .stream) n destination ≡ destination
 LentAsBefore w (call.ack n) = Unit {0}
-LentAsBefore w (call.take destination) = takeDestination (w .primary .state) (w .primary .held) destination ≡ destination
+LentAsBefore w (call.take port destination) = takeDestination (w .primary .state) (w .primary .held) port destination ≡ destination
 LentAsBefore w call.primaryTick = Unit {0}
 LentAsBefore w (call.read n reply) =
     let s = w .standby in
@@ -157,11 +157,11 @@ pub refused-as-before : (w : World) (c : Call) → NotAccepted w c → AsBefore 
 unfolding step memoryWriteReply diskWriteReply packetReply checkpointReply drainReply drainDestination ackReply takeReply takeDestination primaryTickReply readReply readReplyBytes flushReply standbyTickReply activationReply activeMemoryWriteReply activeDiskWriteReply
 refused-as-before w (call.memoryWrite page offset bytes) ne = record { world = refused-world w (call.memoryWrite page offset bytes) ne; value = rw (ne-eqb _ _ ne); handed = refl; lent = tt }
 refused-as-before w (call.diskWrite block bytes) ne = record { world = refused-world w (call.diskWrite block bytes) ne; value = rw (ne-eqb _ _ ne); handed = refl; lent = tt }
-refused-as-before w (call.packet bytes) ne = record { world = refused-world w (call.packet bytes) ne; value = rw (ne-eqb _ _ ne); handed = refl; lent = tt }
+refused-as-before w (call.packet port bytes) ne = record { world = refused-world w (call.packet port bytes) ne; value = rw (ne-eqb _ _ ne); handed = refl; lent = tt }
 refused-as-before w (call.checkpoint processor) ne = record { world = refused-world w (call.checkpoint processor) ne; value = rw (ne-eqb _ _ ne); handed = refl; lent = tt }
 refused-as-before w (call.drain n destination) ne = record { world = refused-world w (call.drain n destination) ne; value = rw (ne-eqb _ _ ne); handed = refl; lent = rw (ne-eqb _ _ ne) }
 refused-as-before w (call.ack n) ne = record { world = refused-world w (call.ack n) ne; value = answer-refused (ackJudged (w .primary .state) (take n (w .acks))) ne .0; handed = refl; lent = tt }
-refused-as-before w (call.take destination) ne = record { world = refused-world w (call.take destination) ne; value = rw (ne-eqb _ _ ne); handed = rw (ne-eqb _ _ ne); lent = rw (ne-eqb _ _ ne) }
+refused-as-before w (call.take port destination) ne = record { world = refused-world w (call.take port destination) ne; value = rw (ne-eqb _ _ ne); handed = rw (ne-eqb _ _ ne); lent = rw (ne-eqb _ _ ne) }
 refused-as-before w call.primaryTick ne = record { world = refused-world w call.primaryTick ne; value = rw (ne-eqb _ _ ne); handed = refl; lent = tt }
 refused-as-before w (call.read n reply) ne =
     let s = w .standby in

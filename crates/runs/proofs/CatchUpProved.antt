@@ -48,14 +48,14 @@ module _ (g : Settings) (b : Both) (a : Agree g b) (alone : b .world .primary .s
       let v = k .drained .agree .inv .holds in
       let count = v .history .count in
       let received = received-is g s refl alone receives acknowledged (k .drained) (k .none) in
-      let left : notTaken (acknowledged .plain) ≡ notTaken (b .plain)
-      = acks-as-many (g .u) (d .ackTurns) (d .ackGiven) read ∙ rounds-as-many (g .u) (d .turns) (d .budget) (d .given) (d .reply) drained ∙ drain-as-many (g .u) b (d .drained) (d .destination) in
+      let left : (port : ℕ) → notTaken (acknowledged .plain) port ≡ notTaken (b .plain) port
+      = λ port. acks-as-many (g .u) (d .ackTurns) (d .ackGiven) read port ∙ rounds-as-many (g .u) (d .turns) (d .budget) (d .given) (d .reply) drained port ∙ drain-as-many (g .u) b (d .drained) (d .destination) port in
       record {
         r = omega (arith, received, v .taker .receivedIs, epoch, count);
         a = omega (arith, k .last, v .detector .acknowledgedIs, epoch, count);
         received = received;
         acknowledged = k .last;
-        takes = λ destination room. takes-made g destination room (notTaken (b .plain)) acknowledged (k .drained .agree .inv) (k .last ∙ sym epoch) left;
+        takes = λ destination room ports few. takes-made g destination room ports acknowledged (k .drained .agree .inv) (k .last ∙ sym epoch) (λ port. omega (arith, few port, left port));
       }
 
 -- from any pair with both invariants

@@ -216,7 +216,7 @@ module _ (processor : Processor) where
               countIs = v .detector .countIs;
               quiet = λ z. absurd (omega (arith, acknowledged-received g b i, received-exists g b i, simp length-append at z));
             };
-            packets = packets-checkpoint cks (new b) _ (b .plain .accepted) (b .plain .taken) refl (v .packets);
+            packets = λ port. packets-checkpoint cks (new b) port _ _ _ refl (v .packets port);
             taker = v .taker;
             primaryKept = record {
               settings = k .settings;

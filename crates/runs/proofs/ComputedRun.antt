@@ -1,6 +1,6 @@
 -- One list of calls from an accepted start, computed: every outcome, the standby at the end, and three cuts of it. Assumes nothing.
 -- Numbers that occur in it, which are all that a list of this length can give after an accepted start:
---   2 3 4, 5 (reply, destination), 13 (checkpoint, ACK, record, activation, guest write), 14, 15, 16, 17, 18, 20, and cut short (256).
+--   2 3 4, 5 (reply, destination), 13 (checkpoint, ACK, record, activation, guest write), 14, 15, 16, 17, 18, 20, 23 (packet, take), and cut short (256).
 -- The others: 1, every state stays in range and `step` lends what start was lent; 6 to 11, the link and the ACKs bring what the other end wrote,
 -- in order and once; 12 is the disk choice's; 19 comes after 4,294,967,294 checkpoints.
 use Prim.Native.Nat.{ℕ}
@@ -29,16 +29,17 @@ rows =
     ∷ row (call.diskWrite 2 (unit 41)) 0 1
     ∷ row (call.diskWrite 0 (unit 42)) 0 1
     ∷ row (call.diskWrite 1 (unit 43)) 14 0
-    ∷ row (call.packet []) 4 0
-    ∷ row (call.packet (replicate 40 51)) 0 1
-    ∷ row (call.packet (replicate 30 52)) 16 0
-    ∷ row (call.take (zeros 64)) 18 0
+    ∷ row (call.packet 4 []) 4 0
+    ∷ row (call.packet 4 (replicate 65 51)) 23 0
+    ∷ row (call.packet 1 (replicate 40 51)) 0 1
+    ∷ row (call.packet 0 (replicate 30 52)) 16 0
+    ∷ row (call.take 1 (zeros 64)) 18 0
     ∷ row (call.checkpoint (processorOf 61)) 0 1
     -- epoch 2: the stream is full
     ∷ row (call.diskWrite 1 (unit 43)) 0 2
     ∷ row (call.memoryWrite 1 0 (9 ∷ [])) 0 2
     ∷ row (call.checkpoint (processorOf 62)) 15 0
-    ∷ row (call.packet (replicate 20 52)) 0 2
+    ∷ row (call.packet 0 (replicate 20 52)) 0 2
     -- checkpoint 1 on its way, in parts
     ∷ row (call.drain 100 (zeros 200)) 0 100
     ∷ row (call.read 50 (zeros 8)) 256 0
@@ -53,9 +54,12 @@ rows =
     ∷ row call.activation 13 0
     ∷ row (call.ack 5) 256 0
     ∷ row (call.ack 8) 0 1
-    ∷ row (call.take (zeros 39)) 5 0
-    ∷ row (call.take (zeros 50)) 0 40
-    ∷ row (call.take (zeros 50)) 18 0
+    -- port 1's packet is free, port 0's is not
+    ∷ row (call.take 4 []) 23 0
+    ∷ row (call.take 0 []) 18 0
+    ∷ row (call.take 1 (zeros 39)) 5 0
+    ∷ row (call.take 1 (zeros 50)) 0 40
+    ∷ row (call.take 1 (zeros 50)) 18 0
     -- checkpoint 2, for which one slot of three is free until a flush; it takes six ticks, twice T, never three between
     -- two records
     ∷ row (call.diskWrite 0 (unit 44)) 0 2
@@ -75,7 +79,7 @@ rows =
     ∷ row call.standbyTick 0 0
     ∷ row (call.read 12 (zeros 8)) 0 4
     -- epoch 3: the primary becomes alone within a PAGE, the rest of which is dropped
-    ∷ row (call.packet (replicate 10 53)) 0 2
+    ∷ row (call.packet 3 (replicate 10 53)) 0 2
     ∷ row (call.memoryWrite 0 0 (99 ∷ [])) 0 3
     ∷ row (call.checkpoint (processorOf 63)) 0 3
     ∷ row (call.drain 30 (zeros 30)) 0 30
@@ -86,8 +90,9 @@ rows =
     ∷ row (call.drain 200 (zeros 200)) 0 0
     ∷ row (call.checkpoint (processorOf 64)) 13 0
     ∷ row (call.ack 8) 13 0
-    ∷ row (call.take (zeros 20)) 0 20
-    ∷ row (call.take (zeros 20)) 0 10
+    -- port 3's packet goes out from behind port 0's, which is longer
+    ∷ row (call.take 3 (zeros 10)) 0 10
+    ∷ row (call.take 0 (zeros 20)) 0 20
     ∷ row (call.diskWrite 0 (unit 45)) 0 4
     ∷ row (call.diskWrite 1 (unit 46)) 0 4
     ∷ row (call.diskWrite 2 (unit 47)) 0 4
@@ -117,8 +122,8 @@ pub run-outcomes : outcomes steps (begun .world) (callsOf rows) ≡ outcomesOf r
 unfolding allSteps
 run-outcomes = refl
 
--- the packets in the order in which they came
-pub run-packets : handedOut steps (begun .world) (callsOf rows) ≡ replicate 40 51 ∷ replicate 20 52 ∷ replicate 10 53 ∷ []
+-- the packets in the order in which they were taken
+pub run-packets : handedOut steps (begun .world) (callsOf rows) ≡ replicate 40 51 ∷ replicate 10 53 ∷ replicate 20 52 ∷ []
 unfolding allSteps
 run-packets = refl
 
@@ -169,7 +174,7 @@ run-choice = (refl, refl, refl)
 
 -- ---- the same list, the standby cut inside its flush of 2, which counts as one of 1; the primary goes on, and a takeover follows
 abbrev pub standbyCut : Cut
-standbyCut = record { primary = uncut; standby = after 70 (budget 1) }
+standbyCut = record { primary = uncut; standby = after 73 (budget 1) }
 
 abbrev pub cutThere : List Call → Both
 cutThere calls = run steps 64 begun calls
@@ -198,7 +203,7 @@ cut-inside-flush =
 
 -- ---- the same list, the primary cut inside the drain of the rest of checkpoint 2, and the standby going on
 abbrev pub primaryCut : Running → Cut
-primaryCut running = record { primary = after 34 running; standby = uncut }
+primaryCut running = record { primary = after 37 running; standby = uncut }
 
 -- the standby becomes active at checkpoint r and the guest writes there
 pub record PrimaryCut (r : ℕ) (memory disk : List ℕ) (calls : List Call) : Type 0 where

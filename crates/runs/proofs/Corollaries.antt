@@ -38,7 +38,7 @@ module _ (g : Settings) (processor : Processor) (buffers : Buffers) (started : s
   after-call before c later = run-append steps (g .u) before (c ∷ later) (startBoth g processor buffers)
 
   packet-saved : PacketSaved g processor buffers
-  packet-saved before destination later e protected = whole (before ++ (call.take destination ∷ later)) .takes before destination later refl .accepted e .atEnd protected
+  packet-saved before port destination later e protected = whole (before ++ (call.take port destination ∷ later)) .takes before port destination later refl .accepted e .atEnd protected
 
   acknowledged-kept : AcknowledgedKept g processor buffers
   acknowledged-kept before n later e =

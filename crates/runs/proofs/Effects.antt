@@ -10,7 +10,7 @@ use Rattle.records.specs.declared.Reader.the-variants as reader
 use Rattle.records.specs.Kind.{isFor}
 use Rattle.records.specs.Message.{Message, messageKind, Fits}
 use Rattle.records.specs.Message as message
-use Rattle.runs.specs.Plain.{Checkpoint}
+use Rattle.runs.specs.Plain.{Sent, Checkpoint}
 
 -- ---- one record, and a list of them: the fold
 abbrev pub effect : ℕ → Checkpoint → Message → Checkpoint
@@ -34,7 +34,7 @@ pub record Epoch : Type 0 where
   pub number : ℕ
   pub pages : ℕ
   pub blocks : ℕ
-  pub packets : List (List ℕ)
+  pub packets : List Sent
 
 -- the checkpoint at its end
 abbrev pub closed : ℕ → Checkpoint → Epoch → Checkpoint

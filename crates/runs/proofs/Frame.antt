@@ -9,7 +9,7 @@ use Rattle.settings.specs.declared.Settings.{Settings}
 use Rattle.rules.specs.World.{Call, Processor, Buffers, startNumber}
 use Rattle.rules.specs.World as call
 use Rattle.rules.specs.Step.{Stepped, step}
-use Rattle.runs.specs.Plain.{Plain, receivedCheckpoint}
+use Rattle.runs.specs.Plain.{Plain, takenOf, receivedCheckpoint}
 use Rattle.runs.specs.Run.{Both, steps, runCall, run, startBoth}
 use Rattle.runs.specs.Cut.{countedCalls}
 use Rattle.runs.specs.Demand3.{active, TakeRight, TakesRight, TakeoverRight, Holds, Demand3}
@@ -29,11 +29,11 @@ KeepsAccepted g c = (b : Both) → Inv g b → Accepted b c → Inv g (runCall s
 pub record PerCall (g : Settings) : Type 0 where
   pub memoryWrite : (page offset : ℕ) (bytes : List ℕ) → KeepsAccepted g (call.memoryWrite page offset bytes)
   pub diskWrite : (block : ℕ) (bytes : List ℕ) → KeepsAccepted g (call.diskWrite block bytes)
-  pub packet : (bytes : List ℕ) → KeepsAccepted g (call.packet bytes)
+  pub packet : (port : ℕ) (bytes : List ℕ) → KeepsAccepted g (call.packet port bytes)
   pub checkpoint : (processor : Processor) → KeepsAccepted g (call.checkpoint processor)
   pub drain : (n : ℕ) (destination : List ℕ) → KeepsAccepted g (call.drain n destination)
   pub ack : (n : ℕ) → KeepsAccepted g (call.ack n)
-  pub take : (destination : List ℕ) → KeepsAccepted g (call.take destination)
+  pub take : (port : ℕ) (destination : List ℕ) → KeepsAccepted g (call.take port destination)
   pub primaryTick : KeepsAccepted g call.primaryTick
   pub read : (n : ℕ) (reply : List ℕ) → KeepsAccepted g (call.read n reply)
   pub flush : (n : ℕ) → KeepsAccepted g (call.flush n)
@@ -44,7 +44,7 @@ pub record PerCall (g : Settings) : Type 0 where
 
 -- of a take, besides: what it handed out, were the list to end there
 abbrev pub TakeLaw : Settings → Type 0
-TakeLaw g = (b : Both) → Inv g b → (destination : List ℕ) → TakeRight (g .t) (b .plain) (b .plain) (step (b .world) (call.take destination))
+TakeLaw g = (b : Both) → Inv g b → (port : ℕ) (destination : List ℕ) → TakeRight (g .t) port (b .plain) (b .plain) (step (b .world) (call.take port destination))
 
 -- of the three kinds of call that take over
 abbrev pub TakeoverLaw : Settings → Type 0
@@ -56,10 +56,10 @@ abbrev pub StartLaw : Settings → Type 0
 StartLaw g = (processor : Processor) (buffers : Buffers) → startNumber g buffers ≡ 0 → Inv g (startBoth g processor buffers)
 
 -- what it handed out is one of checkpoint r's at any end of which these are the first packets
-take-later : (t : ℕ) (p end : Plain) (s : Stepped) → TakeRight t p p s → FirstOf (receivedCheckpoint p .packets) (receivedCheckpoint end .packets) → TakeRight t p end s
-take-later t p end s x f =
+take-later : (t port : ℕ) (p end : Plain) (s : Stepped) → TakeRight t port p p s → FirstOf (receivedCheckpoint p .packets) (receivedCheckpoint end .packets) → TakeRight t port p end s
+take-later t port p end s x f =
     record {
-      accepted = λ e. let h = x .accepted e in record { queued = h .queued; oldest = h .oldest; saved = h .saved; atEnd = λ z. saved-later (s .handed) (p .taken) p end f (h .saved z) };
+      accepted = λ e. let h = x .accepted e in record { queued = h .queued; oldest = h .oldest; saved = h .saved; atEnd = λ z. saved-later (s .handed) port (takenOf p port) p end f (h .saved z) };
       refused = x .refused;
     }
 
@@ -67,11 +67,11 @@ take-later t p end s x f =
 accepted-keeps : (g : Settings) → PerCall g → (c : Call) → KeepsAccepted g c
 accepted-keeps g k (call.memoryWrite page offset bytes) = k .memoryWrite page offset bytes
 accepted-keeps g k (call.diskWrite block bytes) = k .diskWrite block bytes
-accepted-keeps g k (call.packet bytes) = k .packet bytes
+accepted-keeps g k (call.packet port bytes) = k .packet port bytes
 accepted-keeps g k (call.checkpoint processor) = k .checkpoint processor
 accepted-keeps g k (call.drain n destination) = k .drain n destination
 accepted-keeps g k (call.ack n) = k .ack n
-accepted-keeps g k (call.take destination) = k .take destination
+accepted-keeps g k (call.take port destination) = k .take port destination
 accepted-keeps g k call.primaryTick = k .primaryTick
 accepted-keeps g k (call.read n reply) = k .read n reply
 accepted-keeps g k (call.flush n) = k .flush n
@@ -99,15 +99,15 @@ module _ (g : Settings) (k : PerCall g) where
 
   -- ---- every take of a list
   takes-right : TakeLaw g → (b : Both) → Inv g b → Nested (b .plain .checkpoints) (b .plain .accepted) → (cs : List Call) → TakesRight steps g b cs
-  takes-right t b i n cs before destination later is =
+  takes-right t b i n cs before port destination later is =
       let there = run steps (g .u) b before in
-      let s = step (there .world) (call.take destination) in
-      let rest = call.take destination ∷ later in
+      let s = step (there .world) (call.take port destination) in
+      let rest = call.take port destination ∷ later in
       let end = run steps (g .u) b (before ++ rest) in
       let v = run-inv before b i in
       let more = received-later (g .u) before rest b n (received-exists g there v) (received-exists g end (run-inv (before ++ rest) b i)) in
-      subst (λ (x : List Call). TakeRight (g .t) (there .plain) (run steps (g .u) b x .plain) s) is
-      (take-later (g .t) (there .plain) (end .plain) s (t there v destination) more)
+      subst (λ (x : List Call). TakeRight (g .t) port (there .plain) (run steps (g .u) b x .plain) s) is
+      (take-later (g .t) port (there .plain) (end .plain) s (t there v port destination) more)
 
 -- ---- at every cut
 pub holds : (g : Settings) → TakeoverLaw g → (b : Both) → Inv g b → Holds steps g b

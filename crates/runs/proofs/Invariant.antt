@@ -14,14 +14,14 @@ use Rattle.settings.specs.Range.{ofPrimary, ofStandby, mostEpoch}
 use Rattle.marks.specs.Mark.{wordsFor}
 use Rattle.pages.specs.Dirty.{installed}
 use Rattle.pages.specs.Clean.{Clean}
-use Rattle.queue.specs.HeldList.{Held, heldList}
+use Rattle.queue.specs.HeldList.{Held, heldList, heldOf}
 use Rattle.staging.specs.SlotList.{slotList, dueList, storeAll}
 use Rattle.rules.specs.declared.Choice.the-variants.{PrimaryDisk, StandbyDisk}
 use Rattle.rules.specs.Choose.{areaChoice}
 use Rattle.rules.specs.StandbyState.{isReceiving, isActive}
 use Rattle.rules.specs.Reached.{PrimaryReached, StandbyReached}
 use Rattle.rules.specs.World.{PrimaryEnd, StandbyEnd}
-use Rattle.runs.specs.Plain.{Checkpoint, noCheckpoint}
+use Rattle.runs.specs.Plain.{Sent, Checkpoint, ofPort, timesIn, noCheckpoint}
 use Rattle.runs.specs.Run.{Both}
 use Rattle.runs.proofs.FirstLaws.{FirstOf}
 use Rattle.runs.proofs.Effects.{effects, Epoch, checkpointsAfter, lastAfter, sent, All, Before, AllBefore, Readable}
@@ -84,28 +84,38 @@ pub record Detector (t : ℕ) (alone : Bool) (count acknowledged : ℕ) (acks : 
   pub countIs : alone ≡ false → count ≡ count′
   pub quiet : a + 1 ≡ last → count′ ≡ 0
 
--- ---- the packet accepted n-th, and those behind it, are in every checkpoint from their epoch on
-abbrev pub Released : ℕ → List Checkpoint → List Held → Type 0
-Released n checkpoints [] = Unit {0}
-Released n checkpoints (h ∷ hs) =
-    ((j : ℕ) → h .epoch ≤ j → j < length checkpoints → n < length (getD checkpoints j noCheckpoint .packets)) × Released (n + 1) checkpoints hs
+-- ---- a port's packets
+
+-- how many of them a checkpoint has
+abbrev pub savedIn : ℕ → Checkpoint → ℕ
+savedIn port c = length (ofPort port (c .packets))
+
+-- the one accepted n-th, and those behind it, are in every checkpoint from their epoch on
+abbrev pub Released : ℕ → ℕ → List Checkpoint → List Held → Type 0
+Released port n checkpoints [] = Unit {0}
+Released port n checkpoints (h ∷ hs) =
+    ((j : ℕ) → h .epoch ≤ j → j < length checkpoints → n < savedIn port (getD checkpoints j noCheckpoint)) × Released port (n + 1) checkpoints hs
 
 -- and in none before it; none has an epoch above the open one
-abbrev pub Unreleased : ℕ → List Checkpoint → List Held → Type 0
-Unreleased n checkpoints [] = Unit {0}
-Unreleased n checkpoints (h ∷ hs) =
-    (h .epoch ≤ length checkpoints) × ((j : ℕ) → j < length checkpoints → n < length (getD checkpoints j noCheckpoint .packets) → h .epoch ≤ j) × Unreleased (n + 1) checkpoints hs
+abbrev pub Unreleased : ℕ → ℕ → List Checkpoint → List Held → Type 0
+Unreleased port n checkpoints [] = Unit {0}
+Unreleased port n checkpoints (h ∷ hs) =
+    (h .epoch ≤ length checkpoints) × ((j : ℕ) → j < length checkpoints → n < savedIn port (getD checkpoints j noCheckpoint) → h .epoch ≤ j) × Unreleased port (n + 1) checkpoints hs
 
 abbrev pub bytesOf : Held → List ℕ
 bytesOf h = h .bytes
 
--- the queue is the packets accepted and not yet taken; the packets of each checkpoint are the first of those accepted
-pub record Packets (held : List Held) (accepted : List (List ℕ)) (taken : ℕ) (checkpoints : List Checkpoint) : Type 0 where
+-- its queue is its packets accepted and not yet taken; those of each checkpoint are the first of those accepted
+pub record Packets (port : ℕ) (held : List Held) (accepted : List (List ℕ)) (taken : ℕ) (checkpoints : List Checkpoint) : Type 0 where
   pub queued : map bytesOf held ≡ drop taken accepted
   pub sum : taken + length held ≡ length accepted
-  pub released : Released taken checkpoints held
-  pub unreleased : Unreleased taken checkpoints held
-  pub first : (j : ℕ) → j < length checkpoints → FirstOf (getD checkpoints j noCheckpoint .packets) accepted
+  pub released : Released port taken checkpoints held
+  pub unreleased : Unreleased port taken checkpoints held
+  pub first : (j : ℕ) → j < length checkpoints → FirstOf (ofPort port (getD checkpoints j noCheckpoint .packets)) accepted
+
+-- the group of one port, of what is held, accepted and taken by all of them
+abbrev pub PortPackets : List Held → List Sent → List ℕ → List Checkpoint → ℕ → Type 0
+PortPackets held accepted taken checkpoints port = Packets port (heldOf port held) (ofPort port accepted) (timesIn port taken) checkpoints
 
 -- ---- the standby: until it is active it has base, and while receiving what it staged is what the records consumed do to base;
 -- once active it has the plain standby's images
@@ -151,7 +161,7 @@ pub record InvAt (g : Settings) (h : Ghost) (b : Both) : Type 0 where
   pub link : Link (g .u) (isWide (g .m)) (h .ahead) (h .opened) (h .consumed) (h .pending) (b .world .link) (b .world .primary .stream) (h .lost) (b .world .primary .state .waiting) (b .world .primary .state .alone)
   pub images : Images (g .u) (g .m) (b .world .primary .memory) (b .world .primary .dirty) (b .world .primary .disk) (b .plain .memory) (b .plain .disk) (b .world .primary .state .alone) (effects (g .u) (lastAfter (g .u) (h .base) (h .ahead)) (h .opened))
   pub detector : Detector (g .t) (b .world .primary .state .alone) (b .world .primary .state .detector .count) (b .world .primary .state .acknowledged) (b .world .acks) (b .plain .a) (b .plain .r) (b .plain .count) (length (b .plain .checkpoints)) (h .acks)
-  pub packets : Packets (heldList (b .world .primary .state .queue) (b .world .primary .held)) (b .plain .accepted) (b .plain .taken) (b .plain .checkpoints)
+  pub packets : (port : ℕ) → PortPackets (heldList (b .world .primary .state .queue) (b .world .primary .held)) (b .plain .accepted) (b .plain .taken) (b .plain .checkpoints) port
   pub taker : Taker (g .u) (g .m) (b .world .standby) (b .plain .activated) (b .plain .standbyMemory) (b .plain .standbyDisk) (h .base) (h .consumed) (b .plain .r)
   pub primaryKept : PrimaryKept g (b .world .primary)
   pub standbyKept : StandbyKept g (b .world .standby)

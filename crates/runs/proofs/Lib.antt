@@ -14,6 +14,7 @@ pub mod RuledOut
 pub mod RecordSteps
 pub mod Refused
 pub mod FirstLaws
+pub mod SentLaws
 pub mod Effects
 pub mod Invariant
 pub mod Conclusions

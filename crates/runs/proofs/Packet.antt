@@ -17,35 +17,35 @@ use Rattle.rules.proofs.PacketLaws.{PacketFacts, packet-accepted, packet-state-
 use Rattle.rules.proofs.PrimaryFacts.{primary-facts}
 use Rattle.runs.specs.Plain.{withPackets, plainAccepted, plainStep}
 use Rattle.runs.specs.Run.{Both, steps, runCall}
-use Rattle.runs.proofs.Invariant.{Packets, Inv}
-use Rattle.runs.proofs.PacketsLaws.{packets-more}
+use Rattle.runs.proofs.Invariant.{PortPackets, Inv}
+use Rattle.runs.proofs.PacketsLaws.{packets-sent}
 use Rattle.runs.proofs.Frame.{Accepted, KeepsAccepted}
 
-module _ (bytes : List ℕ) where
+module _ (port : ℕ) (bytes : List ℕ) where
   abbrev pub after : Both → Both
   after b =
       let p = b .world .primary in
       record {
         world = atPrimary (b .world) (record {
-          state = withQueue (p .state) (added (p .state .queue) (p .state .epoch) (length bytes));
+          state = withQueue (p .state) (added (p .state .queue) (p .state .epoch) port (length bytes));
           memory = p .memory;
           disk = p .disk;
           dirty = p .dirty;
           held = addedBytes (p .state .queue) (p .held) bytes;
           stream = p .stream;
         });
-        plain = withPackets (b .plain) (b .plain .accepted ++ (bytes ∷ [])) (b .plain .taken);
+        plain = withPackets (b .plain) (b .plain .accepted ++ (record { port = port; bytes = bytes } ∷ [])) (b .plain .taken);
       }
 
-  pub after-is : (u : ℕ) (b : Both) → Accepted b (call.packet bytes) → runCall steps u b (call.packet bytes) ≡ after b
+  pub after-is : (u : ℕ) (b : Both) → Accepted b (call.packet port bytes) → runCall steps u b (call.packet port bytes) ≡ after b
   unfolding step packetReply packetHeld plainStep plainAccepted
   after-is u b e = rw (eq-eqb _ _ e)
 
-  facts : (b : Both) → Accepted b (call.packet bytes) → PacketFacts (b .world .primary .state) (length (b .world .primary .held)) (length bytes)
+  facts : (b : Both) → Accepted b (call.packet port bytes) → PacketFacts (b .world .primary .state) (length (b .world .primary .held)) port (length bytes)
   unfolding step packetReply
-  facts b e = packet-accepted (b .world .primary .state) (length (b .world .primary .held)) (length bytes) e
+  facts b e = packet-accepted (b .world .primary .state) (length (b .world .primary .held)) port (length bytes) e
 
-  after-inv : (g : Settings) (b : Both) → Inv g b → PacketFacts (b .world .primary .state) (length (b .world .primary .held)) (length bytes) → Inv g (after b)
+  after-inv : (g : Settings) (b : Both) → Inv g b → PacketFacts (b .world .primary .state) (length (b .world .primary .held)) port (length bytes) → Inv g (after b)
   after-inv g b i f =
       let p = b .world .primary in
       let v = i .holds in
@@ -57,7 +57,7 @@ module _ (bytes : List ℕ) where
       let array = k .reached .packets in
       let ok = primary-facts (p .state) (f .ok) .queue in
       let space = space-of queue q n (f .count-low) (f .bytes-fit) in
-      let h : Held = record { epoch = epoch; bytes = bytes } in
+      let h : Held = record { epoch = epoch; port = port; bytes = bytes } in
       record {
         ghost = i .ghost;
         holds = record {
@@ -65,23 +65,23 @@ module _ (bytes : List ℕ) where
           link = v .link;
           images = v .images;
           detector = v .detector;
-          packets = subst (λ (l : List Held). Packets l (b .plain .accepted ++ (bytes ∷ [])) (b .plain .taken) (b .plain .checkpoints))
-              (sym (held-added queue array epoch q ok (p .held) (f .held-is) bytes space))
-              (packets-more (heldList queue (p .held)) (b .plain .accepted) (b .plain .taken) (b .plain .checkpoints) h (v .history .count) (v .packets));
+          packets = subst (λ (l : List Held). (q : ℕ) → PortPackets l (b .plain .accepted ++ (record { port = port; bytes = bytes } ∷ [])) (b .plain .taken) (b .plain .checkpoints) q)
+              (sym (held-added queue array epoch q ok (p .held) (f .held-is) port bytes space))
+              (packets-sent (heldList queue (p .held)) (b .plain .accepted) (b .plain .taken) (b .plain .checkpoints) (v .packets) h (v .history .count));
           taker = v .taker;
           primaryKept = record {
             settings = k .settings;
             patience = k .patience;
-            reached = packet-state-reached (p .state) (length (p .held)) n f (k .reached);
+            reached = packet-state-reached (p .state) (length (p .held)) port n f (k .reached);
             memory = k .memory;
             disk = k .disk;
             dirty = k .dirty;
-            held = length-added-bytes queue array epoch q ok (p .held) (f .held-is) bytes space ∙ k .held;
+            held = length-added-bytes queue array epoch q ok (p .held) (f .held-is) port bytes space ∙ k .held;
             stream = k .stream;
           };
           standbyKept = v .standbyKept;
         };
       }
 
-pub packet-keeps : (g : Settings) (bytes : List ℕ) → KeepsAccepted g (call.packet bytes)
-packet-keeps g bytes b i e = subst (Inv g) (sym (after-is bytes (g .u) b e)) (after-inv bytes g b i (facts bytes b e))
+pub packet-keeps : (g : Settings) (port : ℕ) (bytes : List ℕ) → KeepsAccepted g (call.packet port bytes)
+packet-keeps g port bytes b i e = subst (Inv g) (sym (after-is port bytes (g .u) b e)) (after-inv port bytes g b i (facts port bytes b e))

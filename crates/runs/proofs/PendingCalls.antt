@@ -37,11 +37,11 @@ module _ (g : Settings) where
   pub memory-write-pending : (page offset : ℕ) (bytes : List ℕ) → KeepsPending g (call.memoryWrite page offset bytes)
   memory-write-pending page offset bytes b i e p = pending-after g (call.memoryWrite page offset bytes) b _ (memory-write.after-is page offset bytes (g .u) b e) p
 
-  pub packet-pending : (bytes : List ℕ) → KeepsPending g (call.packet bytes)
-  packet-pending bytes b i e p = pending-after g (call.packet bytes) b _ (packet.after-is bytes (g .u) b e) p
+  pub packet-pending : (port : ℕ) (bytes : List ℕ) → KeepsPending g (call.packet port bytes)
+  packet-pending port bytes b i e p = pending-after g (call.packet port bytes) b _ (packet.after-is port bytes (g .u) b e) p
 
-  pub take-pending : (destination : List ℕ) → KeepsPending g (call.take destination)
-  take-pending destination b i e p = pending-after g (call.take destination) b _ (take-call.after-is destination (g .u) b e) p
+  pub take-pending : (port : ℕ) (destination : List ℕ) → KeepsPending g (call.take port destination)
+  take-pending port destination b i e p = pending-after g (call.take port destination) b _ (take-call.after-is port destination (g .u) b e) p
 
   pub flush-pending : (n : ℕ) → KeepsPending g (call.flush n)
   flush-pending n b i e p = pending-after g (call.flush n) b _ (flush.after-is n (g .u) b e) p

@@ -11,10 +11,11 @@ use Rattle.rules.specs.World.{Call}
 use Rattle.rules.specs.World as call
 use Rattle.rules.specs.Step.{Outcome, step}
 use Rattle.rules.proofs.ReplyLaws.{pick-cases}
-use Rattle.runs.specs.Plain.{Checkpoint, Plain, noCheckpoint, receivedCheckpoint, plainAccepted, plainStep}
+use Rattle.runs.specs.Plain.{Sent, Checkpoint, Plain, ofPort, noCheckpoint, receivedCheckpoint, plainAccepted, plainStep}
 use Rattle.runs.specs.Run.{Both, Steps, steps, runCall, run}
 use Rattle.runs.specs.Demand3.{Saved}
 use Rattle.runs.proofs.FirstLaws.{FirstOf, first-all, first-more, first-below, first-same}
+use Rattle.runs.proofs.SentLaws.{first-of-port}
 use Rattle.runs.proofs.PacketsLaws.{checkpoint-cases}
 
 -- ---- a list of calls and another after it
@@ -43,7 +44,7 @@ later-trans p q s x y =
     }
 
 -- ---- the packets of a checkpoint are the first of each later one's, and of those accepted
-pub record Nested (checkpoints : List Checkpoint) (accepted : List (List ℕ)) : Type 0 where
+pub record Nested (checkpoints : List Checkpoint) (accepted : List Sent) : Type 0 where
   pub first : (i : ℕ) → i < length checkpoints → FirstOf (getD checkpoints i noCheckpoint .packets) accepted
   pub later : (i j : ℕ) → i ≤ j → j < length checkpoints → FirstOf (getD checkpoints i noCheckpoint .packets) (getD checkpoints j noCheckpoint .packets)
 
@@ -55,7 +56,7 @@ nested-one c =
       later = λ i j a l. let z : i ≡ 0 = omega arith in let y : j ≡ 0 = omega arith in rw (z, y) (first-all (c .packets) (c .packets) refl);
     }
 
-nested-checkpoint : (checkpoints : List Checkpoint) (accepted : List (List ℕ)) (c : Checkpoint) → c .packets ≡ accepted → Nested checkpoints accepted
+nested-checkpoint : (checkpoints : List Checkpoint) (accepted : List Sent) (c : Checkpoint) → c .packets ≡ accepted → Nested checkpoints accepted
     → Nested (checkpoints ++ (c ∷ [])) accepted
 nested-checkpoint checkpoints accepted c e k =
     let first : (i : ℕ) → i < length (checkpoints ++ (c ∷ [])) → FirstOf (getD (checkpoints ++ (c ∷ [])) i noCheckpoint .packets) accepted
@@ -68,7 +69,7 @@ nested-checkpoint checkpoints accepted c e k =
           (subst (FirstOf (getD (checkpoints ++ (c ∷ [])) i noCheckpoint .packets)) (sym e) (first i (omega arith)));
     }
 
-nested-packet : (checkpoints : List Checkpoint) (accepted : List (List ℕ)) (x : List ℕ) → Nested checkpoints accepted → Nested checkpoints (accepted ++ (x ∷ []))
+nested-packet : (checkpoints : List Checkpoint) (accepted : List Sent) (x : Sent) → Nested checkpoints accepted → Nested checkpoints (accepted ++ (x ∷ []))
 nested-packet checkpoints accepted x k =
     record { first = λ i l. first-more (getD checkpoints i noCheckpoint .packets) accepted (x ∷ []) (k .first i l); later = k .later }
 
@@ -88,14 +89,14 @@ kept-accepted : (u : ℕ) (c : Call) (value : ℕ) (p : Plain) → Kept p (plain
 unfolding plainAccepted
 kept-accepted u (call.memoryWrite page offset bytes) value p = same p _ (omega arith) refl refl
 kept-accepted u (call.diskWrite block bytes) value p = same p _ (omega arith) refl refl
-kept-accepted u (call.packet bytes) value p =
-    record { later = unchanged p _ (omega arith) refl; nested = nested-packet (p .checkpoints) (p .accepted) bytes }
+kept-accepted u (call.packet port bytes) value p =
+    record { later = unchanged p _ (omega arith) refl; nested = nested-packet (p .checkpoints) (p .accepted) (record { port = port; bytes = bytes }) }
 kept-accepted u (call.checkpoint processor) value p =
     let c : Checkpoint = record { memory = p .memory; disk = p .disk; processor = processor .bytes; packets = p .accepted } in
     record { later = record { received = omega arith; more = c ∷ []; added = refl }; nested = nested-checkpoint (p .checkpoints) (p .accepted) c refl }
 kept-accepted u (call.drain n destination) value p = same p _ (omega arith) refl refl
 kept-accepted u (call.ack n) value p = same p _ (omega arith) refl refl
-kept-accepted u (call.take destination) value p = same p _ (omega arith) refl refl
+kept-accepted u (call.take port destination) value p = same p _ (omega arith) refl refl
 kept-accepted u call.primaryTick value p = same p _ (omega arith) refl refl
 kept-accepted u (call.read n reply) value p = same p _ (one-more (isCommit value) (p .r) (p .r + 1) (omega arith)) refl refl
 kept-accepted u (call.flush n) value p = same p _ (omega arith) refl refl
@@ -129,11 +130,13 @@ received-nested p q l k below last =
     (k .later (p .r) (q .r) (l .received) last)
 
 -- so what is one of checkpoint r's stays one
-pub saved-later : (packet : List ℕ) (n : ℕ) (p q : Plain) → FirstOf (receivedCheckpoint p .packets) (receivedCheckpoint q .packets) → Saved packet n p → Saved packet n q
-saved-later packet n p q f s =
-    let xs = receivedCheckpoint p .packets in
-    let ys = receivedCheckpoint q .packets in
-    record { below = first-below n xs ys f (s .below); same = s .same ∙ first-same n xs ys f (s .below) }
+pub saved-later : (packet : List ℕ) (port n : ℕ) (p q : Plain) → FirstOf (receivedCheckpoint p .packets) (receivedCheckpoint q .packets) → Saved packet port n p
+    → Saved packet port n q
+saved-later packet port n p q f s =
+    let xs = ofPort port (receivedCheckpoint p .packets) in
+    let ys = ofPort port (receivedCheckpoint q .packets) in
+    let first : FirstOf xs ys = first-of-port port (receivedCheckpoint p .packets) (receivedCheckpoint q .packets) f in
+    record { below = first-below n xs ys first (s .below); same = s .same ∙ first-same n xs ys first (s .below) [] }
 
 -- along a list of calls
 pub received-later : (u : ℕ) (before later : List Call) (b : Both) → Nested (b .plain .checkpoints) (b .plain .accepted)

@@ -55,11 +55,11 @@ module _ (g : Settings) where
   accepted-pending : (c : Call) → KeepsPending g c
   accepted-pending (call.memoryWrite page offset bytes) = memory-write-pending g page offset bytes
   accepted-pending (call.diskWrite block bytes) = disk-write-pending g block bytes
-  accepted-pending (call.packet bytes) = packet-pending g bytes
+  accepted-pending (call.packet port bytes) = packet-pending g port bytes
   accepted-pending (call.checkpoint processor) = checkpoint-pending g processor
   accepted-pending (call.drain n destination) = drain-pending g n destination
   accepted-pending (call.ack n) = ack-pending g n
-  accepted-pending (call.take destination) = take-pending g destination
+  accepted-pending (call.take port destination) = take-pending g port destination
   accepted-pending call.primaryTick = primary-tick-pending g
   accepted-pending (call.read n reply) = read-pending g n reply
   accepted-pending (call.flush n) = flush-pending g n

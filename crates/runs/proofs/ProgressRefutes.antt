@@ -16,9 +16,10 @@ use Rattle.rules.specs.World.{World, Call}
 use Rattle.rules.specs.World as call
 use Rattle.rules.specs.Step.{Stepped}
 use Rattle.runs.specs.Run.{Steps, steps, run}
-use Rattle.runs.specs.Progress.{numberOf, GoesOn, ProgressOf, CatchesUp, CatchUpOf}
+use Rattle.runs.specs.Progress.{numberOf, GoesOn, ProgressOf, notTaken, CatchesUp, CatchUpOf}
 use Rattle.runs.proofs.Compute.{allSteps}
 use Rattle.runs.proofs.CutLaws.{noCut, counted-uncut}
+use Rattle.runs.proofs.SentLaws.{one-named}
 use Rattle.runs.proofs.Small.{small, processorOf, buffers, begun, small-starts, unit, zeros, sent, reads, stateCame, commitCame}
 use Rattle.runs.proofs.Wrong.{insteadOf, wrongly, accepts, leaving, primaryWith, travelling}
 use Rattle.runs.proofs.RuledOut.{refuses, sendsCommit, drainsZeros}
@@ -32,7 +33,7 @@ module _ (κ : Steps) (calls : List Call) where
   goesOn : ProgressOf κ → GoesOn κ small (run κ 64 begun calls .world)
   goesOn p = subst (λ (cs : List Call). GoesOn κ small (run κ 64 begun cs .world)) (counted-uncut calls) (p small (processorOf 1) buffers small-starts calls noCut)
 
-  catchesUp : CatchUpOf κ → CatchesUp κ small (run κ 64 begun calls)
+  pub catchesUp : CatchUpOf κ → CatchesUp κ small (run κ 64 begun calls)
   catchesUp p = subst (λ (cs : List Call). CatchesUp κ small (run κ 64 begun cs)) (counted-uncut calls) (p small (processorOf 1) buffers small-starts calls noCut)
 
 -- ---- a standby that refuses every record
@@ -126,24 +127,24 @@ refutes-using-acks p = let z : _≡_ {A = ℕ} 0 8 = ap length (goesOn _ twoAcks
 
 -- ---- 18 with a packet free to go
 abbrev keepsPackets : Steps
-keepsPackets = wrongly (insteadOf (call.take []) (refuses nothingFree))
+keepsPackets = wrongly (insteadOf (call.take 0 []) (refuses nothingFree))
 
 pub never-hands-out : CatchUpOf keepsPackets → ⊥
 unfolding allSteps
 never-hands-out p =
     let w = after keepsPackets commitCame in
-    let z : _≡_ {A = ℕ} 18 0 = catchesUp keepsPackets commitCame p refl refl (leastExchange small w) (least-enough small w) .takes (zeros 1514) (lit≤ tt) .0 in
+    let z : _≡_ {A = ℕ} 18 0 = catchesUp keepsPackets commitCame p refl refl (leastExchange small w) (least-enough small w) .takes (zeros 1514) (lit≤ tt) (0 ∷ []) (one-named 0 (notTaken (run keepsPackets 64 begun commitCame .plain)) (lit≤ tt)) .0 in
     omega arith
 
 -- ---- a primary that accepts each packet and holds none
 abbrev holdsNone : Steps
-holdsNone = wrongly (insteadOf (call.packet []) stays)
+holdsNone = wrongly (insteadOf (call.packet 0 []) stays)
 
 pub never-holds : CatchUpOf holdsNone → ⊥
 unfolding allSteps
 never-holds p =
     let w = after holdsNone commitCame in
-    let z : _≡_ {A = ℕ} 18 0 = catchesUp holdsNone commitCame p refl refl (leastExchange small w) (least-enough small w) .takes (zeros 1514) (lit≤ tt) .0 in
+    let z : _≡_ {A = ℕ} 18 0 = catchesUp holdsNone commitCame p refl refl (leastExchange small w) (least-enough small w) .takes (zeros 1514) (lit≤ tt) (0 ∷ []) (one-named 0 (notTaken (run holdsNone 64 begun commitCame .plain)) (lit≤ tt)) .0 in
     omega arith
 
 -- ---- a checkpoint that is accepted and does nothing: its epoch stays open for ever

@@ -36,9 +36,9 @@ module _ (w : World) where
   unfolding step diskWriteReply diskWriteDisk diskWriteStream
   refused-disk-write block bytes ne = rw (ne-eqb _ _ ne)
 
-  refused-packet : (bytes : List ℕ) → NotAccepted w (call.packet bytes) → step w (call.packet bytes) .next ≡ w
+  refused-packet : (port : ℕ) (bytes : List ℕ) → NotAccepted w (call.packet port bytes) → step w (call.packet port bytes) .next ≡ w
   unfolding step packetReply packetHeld
-  refused-packet bytes ne = rw (ne-eqb _ _ ne)
+  refused-packet port bytes ne = rw (ne-eqb _ _ ne)
 
   refused-checkpoint : (processor : call.Processor) → NotAccepted w (call.checkpoint processor) → step w (call.checkpoint processor) .next ≡ w
   unfolding step checkpointReply checkpointDirty checkpointStream
@@ -48,9 +48,9 @@ module _ (w : World) where
   unfolding step drainReply drainStream drainDestination
   refused-drain n destination ne = rw (ne-eqb _ _ ne) (ap (λ (l : List ℕ). record { primary = w .primary; standby = w .standby; link = l; acks = w .acks }) (append-nil (w .link)))
 
-  refused-take : (destination : List ℕ) → NotAccepted w (call.take destination) → step w (call.take destination) .next ≡ w
+  refused-take : (port : ℕ) (destination : List ℕ) → NotAccepted w (call.take port destination) → step w (call.take port destination) .next ≡ w
   unfolding step takeReply takeHeld takeDestination
-  refused-take destination ne = rw (ne-eqb _ _ ne)
+  refused-take port destination ne = rw (ne-eqb _ _ ne)
 
   refused-primary-tick : NotAccepted w call.primaryTick → step w call.primaryTick .next ≡ w
   unfolding step primaryTickReply
@@ -98,11 +98,11 @@ module _ (w : World) where
   pub refused-world : (c : Call) → NotAccepted w c → step w c .next ≡ w
   refused-world (call.memoryWrite page offset bytes) ne = refused-memory-write page offset bytes ne
   refused-world (call.diskWrite block bytes) ne = refused-disk-write block bytes ne
-  refused-world (call.packet bytes) ne = refused-packet bytes ne
+  refused-world (call.packet port bytes) ne = refused-packet port bytes ne
   refused-world (call.checkpoint processor) ne = refused-checkpoint processor ne
   refused-world (call.drain n destination) ne = refused-drain n destination ne
   refused-world (call.ack n) ne = refused-ack n ne
-  refused-world (call.take destination) ne = refused-take destination ne
+  refused-world (call.take port destination) ne = refused-take port destination ne
   refused-world call.primaryTick ne = refused-primary-tick ne
   refused-world (call.read n reply) ne = refused-read n reply ne
   refused-world (call.flush n) ne = refused-flush n ne

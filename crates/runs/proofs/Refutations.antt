@@ -81,6 +81,6 @@ fixed number value w c = answering (step w c) number value
 pub refutes-fixed-reply : (number value : ℕ) → Demand3Of (wrongly (fixed number value)) → ⊥
 unfolding allSteps
 refutes-fixed-reply zero value d =
-    let z : 0 < 0 = takeOf _ d [] [] [] .accepted refl .queued in omega arith
+    let z : 0 < 0 = takeOf _ d [] 0 [] [] .accepted refl .queued in omega arith
 refutes-fixed-reply (suc n) value d =
     let z : suc n ≡ 0 = holdsAfter _ d [] .takeover refl 0 (lit≤ tt) .accepted .0 in omega arith

@@ -45,7 +45,7 @@ refuses n w c s = refusing w n
 
 -- ---- 18 with a packet free to go
 -- not "hands out the oldest packet if its epoch is acknowledged"
-pub rules-out-18 : OtherNumber (refuses nothingFree) (worldAfter (commitCame ++ (call.ack 8 ∷ []))) (call.take (zeros 1))
+pub rules-out-18 : OtherNumber (refuses nothingFree) (worldAfter (commitCame ++ (call.ack 8 ∷ []))) (call.take 0 (zeros 1))
 unfolding allSteps
 rules-out-18 e = let z : _≡_ {A = ℕ} 18 0 = e in omega arith
 
@@ -60,7 +60,7 @@ unfolding allSteps
 rules-out-15-block e = let z : _≡_ {A = ℕ} 15 0 = e in omega arith
 
 -- not "16 64 packets held, or Q would be passed"
-pub rules-out-16 : OtherNumber (refuses queueFull) (worldAfter []) (call.packet (unit 99))
+pub rules-out-16 : OtherNumber (refuses queueFull) (worldAfter []) (call.packet 0 (unit 99))
 unfolding allSteps
 rules-out-16 e = let z : _≡_ {A = ℕ} 16 0 = e in omega arith
 

@@ -121,11 +121,11 @@ module _ (t n : ℕ) (w : World) (h : Silent t n (w .standby .state)) where
   unfolding step flushReply standbyTickReply activationReply activeMemoryWriteReply activeDiskWriteReply
   accepted-goes (call.memoryWrite page offset bytes) e = same
   accepted-goes (call.diskWrite block bytes) e = same
-  accepted-goes (call.packet bytes) e = same
+  accepted-goes (call.packet port bytes) e = same
   accepted-goes (call.checkpoint processor) e = same
   accepted-goes (call.drain k destination) e = same
   accepted-goes (call.ack k) e = same
-  accepted-goes (call.take destination) e = same
+  accepted-goes (call.take port destination) e = same
   accepted-goes call.primaryTick e = same
   accepted-goes (call.read k reply) e = read-goes t n state h _ _ e
   accepted-goes (call.flush k) e =

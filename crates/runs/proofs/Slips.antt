@@ -33,7 +33,7 @@ acknowledgesAtState w c s =
 pub refutes-ack-at-state : Demand3Of (wrongly (insteadOf (call.read 0 []) acknowledgesAtState)) → ⊥
 unfolding allSteps
 refutes-ack-at-state d =
-    let z : 0 < 0 = takeOf _ d (stateCame ++ (call.ack 8 ∷ [])) (zeros 1) [] .accepted refl .saved refl .below in omega arith
+    let z : 0 < 0 = takeOf _ d (stateCame ++ (call.ack 8 ∷ [])) 0 (zeros 1) [] .accepted refl .saved refl .below in omega arith
 
 -- ---- releasing up to the open epoch, as if the primary were alone
 -- not "hands out the oldest packet if its epoch is acknowledged"
@@ -43,10 +43,10 @@ releasesOpen w c s =
     let t = step (primaryWith w (withDetectorAloneWaiting (p .state) (p .state .detector) true (p .state .waiting)) (p .dirty) (p .stream)) c in
     leaving t (primaryWith (t .next) (withDetectorAloneWaiting (t .next .primary .state) (p .state .detector) (p .state .alone) (p .state .waiting)) (p .dirty) (p .stream))
 
-pub refutes-release-open : Demand3Of (wrongly (insteadOf (call.take []) releasesOpen)) → ⊥
+pub refutes-release-open : Demand3Of (wrongly (insteadOf (call.take 0 []) releasesOpen)) → ⊥
 unfolding allSteps
 refutes-release-open d =
-    let z : 0 < 0 = takeOf _ d (call.packet (99 ∷ []) ∷ []) (zeros 1) [] .accepted refl .saved refl .below in omega arith
+    let z : 0 < 0 = takeOf _ d (call.packet 0 (99 ∷ []) ∷ []) 0 (zeros 1) [] .accepted refl .saved refl .below in omega arith
 
 -- ---- storing a BLOCK on arrival
 -- not "No block reaches the disk before it is due"

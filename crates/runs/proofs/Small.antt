@@ -88,7 +88,7 @@ abbrev pub sent : List Call
 sent =
     call.memoryWrite 0 0 (77 ∷ [])
     ∷ call.diskWrite 1 (unit 88)
-    ∷ call.packet (99 ∷ [])
+    ∷ call.packet 0 (99 ∷ [])
     ∷ call.checkpoint (processorOf 2)
     ∷ call.drain 380 (zeros 380)
     ∷ []
@@ -118,6 +118,6 @@ module _ (κ : Steps) (d : Demand3Of κ) (calls : List Call) where
   holdsAfter = wholeRun .end
 
 -- and of a take, after some calls and before others
-pub takeOf : (κ : Steps) → Demand3Of κ → (before : List Call) (destination : List ℕ) (later : List Call)
-    → TakeRight 3 (run κ 64 begun before .plain) (run κ 64 begun (before ++ (call.take destination ∷ later)) .plain) (κ .real (run κ 64 begun before .world) (call.take destination))
-takeOf κ d before destination later = wholeRun κ d (before ++ (call.take destination ∷ later)) .takes before destination later refl
+pub takeOf : (κ : Steps) → Demand3Of κ → (before : List Call) (port : ℕ) (destination : List ℕ) (later : List Call)
+    → TakeRight 3 port (run κ 64 begun before .plain) (run κ 64 begun (before ++ (call.take port destination ∷ later)) .plain) (κ .real (run κ 64 begun before .world) (call.take port destination))
+takeOf κ d before port destination later = wholeRun κ d (before ++ (call.take port destination ∷ later)) .takes before port destination later refl

@@ -8,6 +8,7 @@ use lib.ListN.{getD, replicate}
 use borrow.Author.Tests.{eq-eqb, lt-leb}
 use Rattle.records.specs.Area.{areaLength}
 use Rattle.records.proofs.AreaLaws.{area-zero}
+use Rattle.lists.specs.Select.{selected}
 use Rattle.settings.specs.declared.Settings.{Settings}
 use Rattle.settings.proofs.RangeLaws.{settings-facts}
 use Rattle.marks.specs.Mark.{cleared}
@@ -20,10 +21,10 @@ use Rattle.rules.specs.Choose.{areaChoice}
 use Rattle.rules.specs.Start.{openedPrimary, openedStandby, started, startCopy, startMarks, startArea}
 use Rattle.rules.specs.World.{Processor, Buffers, startLent, startNumber, startWorld}
 use Rattle.rules.proofs.StartLaws.{StartFacts, start-accepted, opened-primary, opened-standby}
-use Rattle.runs.specs.Plain.{Checkpoint, noCheckpoint, plainStart}
+use Rattle.runs.specs.Plain.{Checkpoint, ofPort, noCheckpoint, plainStart}
 use Rattle.runs.specs.Run.{Both, startBoth}
 use Rattle.runs.proofs.FirstLaws.{FirstOf}
-use Rattle.runs.proofs.Invariant.{Packets, Inv}
+use Rattle.runs.proofs.Invariant.{PortPackets, Inv}
 use Rattle.runs.proofs.StagedPages.{installed-none}
 use Rattle.runs.proofs.Frame.{StartLaw}
 
@@ -56,12 +57,14 @@ module _ (g : Settings) (processor : Processor) (b : Buffers) (f : StartFacts g 
   abbrev zeroth : Checkpoint
   zeroth = record { memory = b .memory; disk = b .disk; processor = processor .bytes; packets = [] }
 
-  first : (j : ℕ) → j < 1 → FirstOf (getD (zeroth ∷ []) j noCheckpoint .packets) []
-  first zero h = ([], refl)
-  first (suc j) h = absurd (omega arith)
+  first : (port j : ℕ) → j < 1 → FirstOf (ofPort port (getD (zeroth ∷ []) j noCheckpoint .packets)) []
+  unfolding selected
+  first port zero h = ([], refl)
+  first port (suc j) h = absurd (omega arith)
 
-  packets : Packets [] [] 0 (zeroth ∷ [])
-  packets = record { queued = refl; sum = refl; released = tt; unreleased = tt; first = first }
+  packets : (port : ℕ) → PortPackets [] [] [] (zeroth ∷ []) port
+  unfolding selected
+  packets port = record { queued = refl; sum = refl; released = tt; unreleased = tt; first = first port }
 
   start-inv : Inv g (begun g processor b)
   unfolding storeAll dueList slotList stagedFrom
@@ -74,7 +77,7 @@ module _ (g : Settings) (processor : Processor) (b : Buffers) (f : StartFacts g 
           link = record { records = refl; bytes = refl; lossless = λ z. refl; readable = tt; consumedBefore = tt; aheadBefore = tt; openedBefore = tt };
           images = record { memoryIs = refl; diskIs = refl; size = l .memory-is; clean = clean-clear (b .memory) (b .dirty) (g .u) (g .m); stored = λ z. refl };
           detector = record { acknowledgedIs = refl; rising = omega arith; acksAre = refl; aloneIs = sym (lt-leb (g .t) 0 (settings-facts g (f .inRange) .t-low)); countIs = λ z. refl; quiet = λ z. refl };
-          packets = subst (λ (h : List Held). Packets h [] 0 (zeroth ∷ [])) (sym (held-empty (b .held))) packets;
+          packets = subst (λ (h : List Held). (port : ℕ) → PortPackets h [] [] (zeroth ∷ []) port) (sym (held-empty (b .held))) packets;
           taker = record {
             receivedIs = refl;
             modeIs = refl;

@@ -11,7 +11,7 @@ use Rattle.lists.specs.Refusal.{pick}
 use Rattle.rules.specs.World.{World, Call}
 use Rattle.rules.specs.World as call
 use Rattle.rules.specs.Step.{Stepped, step}
-use Rattle.runs.specs.Plain.{Plain, checkpointAt, withCheckpoint, plainStep}
+use Rattle.runs.specs.Plain.{Sent, Plain, takenOf, checkpointAt, withCheckpoint, plainStep}
 use Rattle.runs.specs.Run.{Steps, run}
 use Rattle.runs.specs.Demand3.{Saved, Demand3Of}
 use Rattle.runs.proofs.Compute.{allSteps}
@@ -27,10 +27,10 @@ released = commitCame ++ (call.ack 8 ∷ [])
 abbrev pub handsOther : World → Call → Stepped → Stepped
 handsOther w c s = record { next = s .next; outcome = s .outcome; handed = pick (s .outcome .number) (98 ∷ []) [] }
 
-pub refutes-other-packet : Demand3Of (wrongly (insteadOf (call.take []) handsOther)) → ⊥
+pub refutes-other-packet : Demand3Of (wrongly (insteadOf (call.take 0 []) handsOther)) → ⊥
 unfolding allSteps
 refutes-other-packet d =
-    let e = takeOf _ d released (zeros 1) [] .accepted refl .oldest in
+    let e = takeOf _ d released 0 (zeros 1) [] .accepted refl .oldest in
     let z : _≡_ {A = ℕ} 98 99 = ap (λ l. getD l 0 0) e in omega arith
 
 -- `refused`: a take that hands out bytes and answers 18
@@ -38,15 +38,15 @@ refutes-other-packet d =
 abbrev pub handsRefused : World → Call → Stepped → Stepped
 handsRefused w c s = record { next = s .next; outcome = s .outcome; handed = pick (s .outcome .number) (s .handed) (99 ∷ []) }
 
-pub refutes-handed-refused : Demand3Of (wrongly (insteadOf (call.take []) handsRefused)) → ⊥
+pub refutes-handed-refused : Demand3Of (wrongly (insteadOf (call.take 0 []) handsRefused)) → ⊥
 unfolding allSteps
 refutes-handed-refused d =
-    let e = takeOf _ d (call.packet (99 ∷ []) ∷ []) (zeros 1) [] .refused (λ (z : _≡_ {A = ℕ} 18 0). omega arith) in
+    let e = takeOf _ d (call.packet 0 (99 ∷ []) ∷ []) 0 (zeros 1) [] .refused (λ (z : _≡_ {A = ℕ} 18 0). omega arith) in
     let z : _≡_ {A = ℕ} 1 0 = ap length e in omega arith
 
 -- ---- plain pairs whose checkpoints hold other packets, beside the right ends
 -- not "Checkpoint: the next holds .. the packets accepted so far"
-abbrev pub holding : (Plain → List (List ℕ)) → Steps
+abbrev pub holding : (Plain → List Sent) → Steps
 holding packets =
     record {
       real = step;
@@ -59,37 +59,37 @@ holding packets =
     }
 
 -- `saved .same`: as many packets, each empty
-abbrev pub onlyCount : Plain → List (List ℕ)
-onlyCount p = map (λ (x : List ℕ). []) (p .accepted)
+abbrev pub onlyCount : Plain → List Sent
+onlyCount p = map (λ (x : Sent). record { port = x .port; bytes = [] }) (p .accepted)
 
 pub refutes-count-of-packets : Demand3Of (holding onlyCount) → ⊥
 unfolding allSteps
 refutes-count-of-packets d =
-    let z : _≡_ {A = ℕ} 1 0 = ap length (takeOf _ d released (zeros 1) [] .accepted refl .saved refl .same) in omega arith
+    let z : _≡_ {A = ℕ} 1 0 = ap length (takeOf _ d released 0 (zeros 1) [] .accepted refl .saved refl .same) in omega arith
 
 -- after the take a second checkpoint is received
 abbrev pub receivedAgain : List Call
 receivedAgain = call.checkpoint (processorOf 3) ∷ call.drain 380 (zeros 380) ∷ reads 2
 
--- `atEnd .below`: only the packets still queued
-abbrev pub onlyQueued : Plain → List (List ℕ)
-onlyQueued p = drop (p .taken) (p .accepted)
+-- `atEnd .below`: only the packets still queued, all of them of port 0
+abbrev pub onlyQueued : Plain → List Sent
+onlyQueued p = drop (takenOf p 0) (p .accepted)
 
 pub refutes-only-queued : Demand3Of (holding onlyQueued) → ⊥
 unfolding allSteps
 refutes-only-queued d =
-    let z : 0 < 0 = takeOf _ d released (zeros 1) receivedAgain .accepted refl .atEnd refl .below in omega arith
+    let z : 0 < 0 = takeOf _ d released 0 (zeros 1) receivedAgain .accepted refl .atEnd refl .below in omega arith
 
 -- `atEnd .same`: the same, with an empty packet for each that was taken
-abbrev pub emptyTaken : Plain → List (List ℕ)
-emptyTaken p = replicate (p .taken) [] ++ onlyQueued p
+abbrev pub emptyTaken : Plain → List Sent
+emptyTaken p = replicate (takenOf p 0) (record { port = 0; bytes = [] }) ++ onlyQueued p
 
 pub refutes-empty-taken : Demand3Of (holding emptyTaken) → ⊥
 unfolding allSteps
 refutes-empty-taken d =
-    let z : _≡_ {A = ℕ} 1 0 = ap length (takeOf _ d released (zeros 1) receivedAgain .accepted refl .atEnd refl .same) in omega arith
+    let z : _≡_ {A = ℕ} 1 0 = ap length (takeOf _ d released 0 (zeros 1) receivedAgain .accepted refl .atEnd refl .same) in omega arith
 
 -- in both, the packet is one of checkpoint r's where the take is made
-pub right-where-made : Saved (99 ∷ []) 0 (run (holding onlyQueued) 64 begun released .plain) × Saved (99 ∷ []) 0 (run (holding emptyTaken) 64 begun released .plain)
+pub right-where-made : Saved (99 ∷ []) 0 0 (run (holding onlyQueued) 64 begun released .plain) × Saved (99 ∷ []) 0 0 (run (holding emptyTaken) 64 begun released .plain)
 unfolding allSteps
 right-where-made = (record { below = lit≤ tt; same = refl }, record { below = lit≤ tt; same = refl })

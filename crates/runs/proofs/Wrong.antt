@@ -15,11 +15,11 @@ use Rattle.runs.specs.Run.{Steps}
 abbrev kindNumber : Call → ℕ
 kindNumber (call.memoryWrite page offset bytes) = 0
 kindNumber (call.diskWrite block bytes) = 1
-kindNumber (call.packet bytes) = 2
+kindNumber (call.packet port bytes) = 2
 kindNumber (call.checkpoint processor) = 3
 kindNumber (call.drain n destination) = 4
 kindNumber (call.ack n) = 5
-kindNumber (call.take destination) = 6
+kindNumber (call.take port destination) = 6
 kindNumber call.primaryTick = 7
 kindNumber (call.read n reply) = 8
 kindNumber (call.flush n) = 9

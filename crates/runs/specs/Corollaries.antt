@@ -12,10 +12,10 @@ use Rattle.rules.specs.Choose.{choiceOf, chosenDisk}
 use Rattle.rules.specs.World.{StandbyEnd, Processor, Call, Buffers, startNumber}
 use Rattle.rules.specs.World as call
 use Rattle.rules.specs.Step.{Stepped, step}
-use Rattle.runs.specs.Plain.{Checkpoint, receivedCheckpoint, isAlone}
+use Rattle.runs.specs.Plain.{Checkpoint, takenOf, receivedCheckpoint}
 use Rattle.runs.specs.Run.{Both, steps, run, startBoth}
 use Rattle.runs.specs.Cut.{Cut, countedCalls}
-use Rattle.runs.specs.Demand3.{active, TakeoverRight, Saved}
+use Rattle.runs.specs.Demand3.{active, TakeoverRight, underProtection, Saved}
 
 -- a takeover there gives checkpoint r, and r is e or a later one
 pub record StillReceived (g : Settings) (e : ℕ) (b : Both) : Type 0 where
@@ -46,10 +46,11 @@ module _ (g : Settings) (processor : Processor) (buffers : Buffers) where
   -- takeover gives
   abbrev pub PacketSaved : Type 0
   PacketSaved =
-      (before : List Call) (destination : List ℕ) (later : List Call)
-      → answerAfter before (call.take destination) .outcome .number ≡ 0
-      → isAlone (g .t) (pairAfter before .plain) ≡ false
-      → Saved (answerAfter before (call.take destination) .handed) (pairAfter before .plain .taken) (pairAfter (before ++ (call.take destination ∷ later)) .plain)
+      (before : List Call) (port : ℕ) (destination : List ℕ) (later : List Call)
+      → answerAfter before (call.take port destination) .outcome .number ≡ 0
+      → underProtection (g .t) (pairAfter before .plain)
+      → Saved (answerAfter before (call.take port destination) .handed) port (takenOf (pairAfter before .plain) port)
+      (pairAfter (before ++ (call.take port destination ∷ later)) .plain)
 
   -- ---- 2. the acknowledged checkpoint is received, at every cut; and no takeover after an accepted ACK gives one
   -- before its epoch

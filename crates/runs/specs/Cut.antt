@@ -25,11 +25,11 @@ pub record Cut : Type 0 where
 abbrev pub isPrimarys : Call → Bool
 isPrimarys (call.memoryWrite page offset bytes) = true
 isPrimarys (call.diskWrite block bytes) = true
-isPrimarys (call.packet bytes) = true
+isPrimarys (call.packet port bytes) = true
 isPrimarys (call.checkpoint processor) = true
 isPrimarys (call.drain n destination) = true
 isPrimarys (call.ack n) = true
-isPrimarys (call.take destination) = true
+isPrimarys (call.take port destination) = true
 isPrimarys call.primaryTick = true
 isPrimarys (call.read n reply) = false
 isPrimarys (call.flush n) = false
@@ -42,11 +42,11 @@ isPrimarys (call.activeDiskWrite block bytes) = false
 abbrev pub withBudget : ℕ → Call → List Call
 withBudget b (call.memoryWrite page offset bytes) = []
 withBudget b (call.diskWrite block bytes) = []
-withBudget b (call.packet bytes) = []
+withBudget b (call.packet port bytes) = []
 withBudget b (call.checkpoint processor) = []
 withBudget b (call.drain n destination) = []
 withBudget b (call.ack n) = []
-withBudget b (call.take destination) = []
+withBudget b (call.take port destination) = []
 withBudget b call.primaryTick = []
 withBudget b (call.read n reply) = []
 withBudget b (call.flush n) = call.flush (min b n) ∷ []

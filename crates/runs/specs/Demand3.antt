@@ -11,7 +11,7 @@ use Rattle.rules.specs.Choose.{choiceOf, chosenDisk}
 use Rattle.rules.specs.World.{World, Processor, Call, Buffers, startNumber}
 use Rattle.rules.specs.World as call
 use Rattle.rules.specs.Step.{Stepped}
-use Rattle.runs.specs.Plain.{Plain, receivedCheckpoint, isAlone}
+use Rattle.runs.specs.Plain.{Plain, ofPort, takenOf, receivedCheckpoint, isAlone}
 use Rattle.runs.specs.Run.{Both, Steps, steps, run, startBoth}
 use Rattle.runs.specs.Cut.{Cut, countedCalls}
 
@@ -49,32 +49,37 @@ pub record TakeoverRight (κ : Steps) (g : Settings) (b : Both) (n : ℕ) : Type
   pub disk : afterTakeover κ g b n .world .standby .disk ≡ receivedCheckpoint (b .plain) .disk
   pub processor : afterTakeover κ g b n .world .standby .state .processor ≡ receivedCheckpoint (b .plain) .processor
 
--- ---- "Each accepted take gave the oldest packet; under protection it is one of checkpoint r's"
+-- ---- "Each accepted take gave the oldest packet; under protection it is one of checkpoint r's", of the port that it
+-- names (document 02, Job 6: "That port's oldest packet goes out, in the plain pair too")
 
--- a packet is the n-th, from 0, of checkpoint r's
-pub record Saved (packet : List ℕ) (n : ℕ) (p : Plain) : Type 0 where
-  pub below : n < length (receivedCheckpoint p .packets)
-  pub same : packet ≡ getD (receivedCheckpoint p .packets) n []
+-- protection is on
+abbrev pub underProtection : ℕ → Plain → Type 0
+underProtection t p = isAlone t p ≡ false
+
+-- a packet is the n-th, from 0, of checkpoint r's packets of a port
+pub record Saved (packet : List ℕ) (port n : ℕ) (p : Plain) : Type 0 where
+  pub below : n < length (ofPort port (receivedCheckpoint p .packets))
+  pub same : packet ≡ getD (ofPort port (receivedCheckpoint p .packets)) n []
 
 -- p is the plain pair where the take is made, end the one at the cut: its checkpoint r is what a takeover then would
 -- have or, once the standby is active, what it took over, since r is fixed from then on (Corollaries: ReceivedFixed)
-pub record HandedRight (t : ℕ) (p end : Plain) (handed : List ℕ) : Type 0 where
-  pub queued : p .taken < length (p .accepted)
-  pub oldest : handed ≡ getD (p .accepted) (p .taken) []
-  pub saved : isAlone t p ≡ false → Saved handed (p .taken) p
-  pub atEnd : isAlone t p ≡ false → Saved handed (p .taken) end
+pub record HandedRight (t port : ℕ) (p end : Plain) (handed : List ℕ) : Type 0 where
+  pub queued : takenOf p port < length (ofPort port (p .accepted))
+  pub oldest : handed ≡ getD (ofPort port (p .accepted)) (takenOf p port) []
+  pub saved : underProtection t p → Saved handed port (takenOf p port) p
+  pub atEnd : underProtection t p → Saved handed port (takenOf p port) end
 
 -- and a refused one gives none
-pub record TakeRight (t : ℕ) (p end : Plain) (s : Stepped) : Type 0 where
-  pub accepted : s .outcome .number ≡ 0 → HandedRight t p end (s .handed)
+pub record TakeRight (t port : ℕ) (p end : Plain) (s : Stepped) : Type 0 where
+  pub accepted : s .outcome .number ≡ 0 → HandedRight t port p end (s .handed)
   pub refused : (s .outcome .number ≡ 0 → ⊥) → s .handed ≡ []
 
 -- of every take of a list, which ends at the cut
 abbrev pub TakesRight : Steps → Settings → Both → List Call → Type 0
 TakesRight κ g b calls =
-    (before : List Call) (destination : List ℕ) (later : List Call) → before ++ (call.take destination ∷ later) ≡ calls
+    (before : List Call) (port : ℕ) (destination : List ℕ) (later : List Call) → before ++ (call.take port destination ∷ later) ≡ calls
     → let there = run κ (g .u) b before in
-    TakeRight (g .t) (there .plain) (run κ (g .u) b calls .plain) (κ .real (there .world) (call.take destination))
+    TakeRight (g .t) port (there .plain) (run κ (g .u) b calls .plain) (κ .real (there .world) (call.take port destination))
 
 -- ---- "the primary's disk, valid until an activation is accepted"; "the standby's, valid from then on"
 abbrev pub validDisk : Plain → List ℕ

@@ -1,23 +1,33 @@
 -- The plain pair (document 01, "Whole runs"): fed each call's arguments, number and value only. Assumes nothing.
 use Prim.Native.Nat.{ℕ, _+_}
 use mathlib.Core.Bool.{Bool, true, false, cond, not}
-use mathlib.Core.List.{List, [], _∷_, _++_}
+use mathlib.Core.List.{List, [], _∷_, _++_, map}
 use lib.Dec.{leb, eqb}
 use lib.ListN.{length, getD}
 use Rattle.lists.specs.Refusal.{pick}
 use Rattle.lists.specs.Page.{withPage}
+use Rattle.lists.specs.Select.{selected}
 use Rattle.records.specs.Kind.{isCommit}
 use Rattle.pages.specs.Write.{written}
 use Rattle.rules.specs.World.{Call}
 use Rattle.rules.specs.World as call
 use Rattle.rules.specs.Step.{Outcome}
 
+-- an accepted packet: the port by which it leaves, and its bytes
+pub record Sent : Type 0 where
+  pub port : ℕ
+  pub bytes : List ℕ
+
+-- the packets of a port, in order
+abbrev pub ofPort : ℕ → List Sent → List (List ℕ)
+ofPort port sent = map (λ (s : Sent). s .bytes) (selected (λ (s : Sent). eqb (s .port) port) sent)
+
 -- a checkpoint: "the primary's images, the processor state given and the packets accepted so far"
 pub record Checkpoint : Type 0 where
   pub memory : List ℕ
   pub disk : List ℕ
   pub processor : List ℕ
-  pub packets : List (List ℕ)
+  pub packets : List Sent
 
 pub record Plain : Type 0 where
   -- the primary's guest memory and disk
@@ -27,9 +37,10 @@ pub record Plain : Type 0 where
   pub standbyMemory : List ℕ
   pub standbyDisk : List ℕ
   pub activated : Bool
-  -- every packet accepted, the oldest first, and how many of them have left: the queue is the rest
-  pub accepted : List (List ℕ)
-  pub taken : ℕ
+  -- every packet accepted, the oldest first, and the port of each that has left: a port's queue is the rest of its
+  -- packets
+  pub accepted : List Sent
+  pub taken : List ℕ
   pub checkpoints : List Checkpoint
   -- the checkpoint received, the one acknowledged, and the tick count
   pub r : ℕ
@@ -46,6 +57,14 @@ checkpointAt p i = getD (p .checkpoints) i noCheckpoint
 abbrev pub receivedCheckpoint : Plain → Checkpoint
 receivedCheckpoint p = checkpointAt p (p .r)
 
+-- how often a port is named
+abbrev pub timesIn : ℕ → List ℕ → ℕ
+timesIn port ports = length (selected (λ (n : ℕ). eqb n port) ports)
+
+-- how many of its packets have left
+abbrev pub takenOf : Plain → ℕ → ℕ
+takenOf p port = timesIn port (p .taken)
+
 -- "from T on it is alone"
 abbrev pub isAlone : ℕ → Plain → Bool
 isAlone t p = leb t (p .count)
@@ -61,7 +80,7 @@ plainStart memory disk processor =
       standbyDisk = [];
       activated = false;
       accepted = [];
-      taken = 0;
+      taken = [];
       checkpoints = record { memory = memory; disk = disk; processor = processor; packets = [] } ∷ [];
       r = 0;
       a = 0;
@@ -77,7 +96,7 @@ abbrev pub withActivatedStandbyImages : Plain → Bool → List ℕ → List ℕ
 withActivatedStandbyImages p activated memory disk =
     record { memory = p .memory; disk = p .disk; standbyMemory = memory; standbyDisk = disk; activated = activated; accepted = p .accepted; taken = p .taken; checkpoints = p .checkpoints; r = p .r; a = p .a; count = p .count }
 
-abbrev pub withPackets : Plain → List (List ℕ) → ℕ → Plain
+abbrev pub withPackets : Plain → List Sent → List ℕ → Plain
 withPackets p accepted taken =
     record { memory = p .memory; disk = p .disk; standbyMemory = p .standbyMemory; standbyDisk = p .standbyDisk; activated = p .activated; accepted = accepted; taken = taken; checkpoints = p .checkpoints; r = p .r; a = p .a; count = p .count }
 
@@ -97,12 +116,12 @@ unacknowledged p = not (eqb (p .a + 1) (length (p .checkpoints)))
 unfoldable pub plainAccepted : ℕ → Call → ℕ → Plain → Plain
 plainAccepted u (call.memoryWrite page offset bytes) value p = withImages p (written u (p .memory) page offset bytes) (p .disk)
 plainAccepted u (call.diskWrite block bytes) value p = withImages p (p .memory) (withPage u (p .disk) block bytes)
-plainAccepted u (call.packet bytes) value p = withPackets p (p .accepted ++ (bytes ∷ [])) (p .taken)
+plainAccepted u (call.packet port bytes) value p = withPackets p (p .accepted ++ (record { port = port; bytes = bytes } ∷ [])) (p .taken)
 plainAccepted u (call.checkpoint processor) value p =
     withCheckpoint p (record { memory = p .memory; disk = p .disk; processor = processor .bytes; packets = p .accepted })
 plainAccepted u (call.drain n destination) value p = p
 plainAccepted u (call.ack n) value p = withCounts p (p .r) value 0
-plainAccepted u (call.take destination) value p = withPackets p (p .accepted) (p .taken + 1)
+plainAccepted u (call.take port destination) value p = withPackets p (p .accepted) (port ∷ p .taken)
 plainAccepted u call.primaryTick value p = withCounts p (p .r) (p .a) (cond (unacknowledged p) (p .count + 1) (p .count))
 plainAccepted u (call.read n reply) value p = withCounts p (cond (isCommit value) (p .r + 1) (p .r)) (p .a) (p .count)
 plainAccepted u (call.flush n) value p = p

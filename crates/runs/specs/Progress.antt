@@ -5,7 +5,7 @@
 use Prim.Native.Nat.{ℕ, zero, suc, _+_, _-_, _*_, _≤_, _<_, min}
 use mathlib.Core.Path.{_≡_}
 use mathlib.Core.Bool.{Bool, true, false, _&&_, _||_, not}
-use mathlib.Core.List.{List, [], _∷_, _++_}
+use mathlib.Core.List.{List, [], _∷_, _++_, map}
 use lib.Dec.{leb, ltb, eqb}
 use lib.ListN.{length, take, drop, replicate}
 use Rattle.lists.specs.LittleEndian.{leAt}
@@ -18,7 +18,7 @@ use Rattle.settings.specs.Range.{mostPacketBytes}
 use Rattle.rules.specs.StandbyState.{isReceiving}
 use Rattle.rules.specs.World.{World, Processor, Call, Buffers}
 use Rattle.rules.specs.World as call
-use Rattle.runs.specs.Plain.{Checkpoint, Plain, checkpointAt}
+use Rattle.runs.specs.Plain.{Checkpoint, Plain, ofPort, timesIn, takenOf, checkpointAt}
 use Rattle.runs.specs.Run.{Both, Steps, steps, run, startBoth}
 use Rattle.runs.specs.Cut.{Cut, countedCalls}
 use Rattle.runs.specs.Demand3.{AllAccepted}
@@ -132,11 +132,12 @@ pub record Enough (g : Settings) (w : World) (x : Exchange) : Type 0 where
 abbrev pub lastCheckpoint : Plain → Checkpoint
 lastCheckpoint p = checkpointAt p (length (p .checkpoints) - 1)
 
--- how many of its packets have not left
-abbrev pub notTaken : Plain → ℕ
-notTaken p = length (lastCheckpoint p .packets) - p .taken
+-- how many of its packets of a port have not left
+abbrev pub notTaken : Plain → ℕ → ℕ
+notTaken p port = length (ofPort port (lastCheckpoint p .packets)) - takenOf p port
 
--- the last checkpoint is received and acknowledged; so its packets that had not left can then all be taken
+-- the last checkpoint is received and acknowledged; so its packets that had not left can then all be taken, in any
+-- order of the ports
 pub record CaughtUp (κ : Steps) (before after : Both) : Type 0 where
   -- by the plain pair
   pub r : after .plain .r + 1 ≡ length (after .plain .checkpoints)
@@ -145,7 +146,8 @@ pub record CaughtUp (κ : Steps) (before after : Both) : Type 0 where
   pub received : after .world .standby .state .received + 1 ≡ before .world .primary .state .epoch
   pub acknowledged : after .world .primary .state .acknowledged + 1 ≡ before .world .primary .state .epoch
   pub takes : (destination : List ℕ) → mostPacketBytes ≤ length destination
-      → AllAccepted κ (after .world) (replicate (notTaken (before .plain)) (call.take destination))
+      → (ports : List ℕ) → ((port : ℕ) → timesIn port ports ≤ notTaken (before .plain) port)
+      → AllAccepted κ (after .world) (map (λ (port : ℕ). call.take port destination) ports)
 
 -- where the primary is protected and the standby receives, every exchange that is enough leads there
 abbrev pub CatchesUp : Steps → Settings → Both → Type 0

@@ -22,11 +22,11 @@ byCall c read tick rest =
     elim c [
       | call.memoryWrite page offset bytes ↦ rest
       | call.diskWrite block bytes ↦ rest
-      | call.packet bytes ↦ rest
+      | call.packet port bytes ↦ rest
       | call.checkpoint processor ↦ rest
       | call.drain n destination ↦ rest
       | call.ack n ↦ rest
-      | call.take destination ↦ rest
+      | call.take port destination ↦ rest
       | call.primaryTick ↦ rest
       | call.read n reply ↦ read
       | call.flush n ↦ rest

@@ -65,6 +65,10 @@ isEmpty l = eqb (length l) 0
 abbrev pub mostLent : ℕ
 mostLent = mostPacketBytes + 1
 
+-- "`pair` uses port 0" (document 02, Job 6)
+abbrev pub usedPort : ℕ
+usedPort = 0
+
 -- "drain one whole record": the bytes of the record at the head of the stream
 abbrev pub firstRecordLength : World → ℕ
 firstRecordLength w = headerLength + leAt 2 (w .primary .stream) 0
@@ -101,11 +105,11 @@ takeoverDone w =
 unfoldable pub perform : World → Command → Done
 perform w (command.Write p v) = done (step w (call.memoryWrite p 0 (v ∷ [])))
 perform w (command.Disk b v) = done (step w (call.diskWrite b (replicate (pairSettings .u) v)))
-perform w (command.Send n) = done (step w (call.packet (replicate (min n mostLent) 0)))
+perform w (command.Send n) = done (step w (call.packet usedPort (replicate (min n mostLent) 0)))
 perform w (command.Close v) = done (step w (call.checkpoint (processorOf v)))
 perform w command.Move = moveDone w
 perform w command.Acknowledge = acknowledgeDone w
-perform w command.Take = done (step w (call.take (replicate mostLent 0)))
+perform w command.Take = done (step w (call.take usedPort (replicate mostLent 0)))
 perform w command.Flush = done (step w (call.flush 1))
 perform w command.Takeover = takeoverDone w
 perform w command.Other = refused w outOfRange

@@ -19,6 +19,9 @@ const MOST_LENT: usize = MOST_PACKET_BYTES + 1;
 // The same in the width of a command's number.
 const MOST_LENT_LENGTH: u64 = MOST_LENT as u64;
 
+// "`pair` uses port 0" (document 02, Job 6).
+const PORT: usize = 0;
+
 // The site with the primary's box in the state of a reply, and what is printed of the reply.
 fn replied(s: Site, p: PrimaryBox, r: PrimaryReply) -> Performed
     ensures { λ d. ⌜ doneOf d ≡ done (stepped (atPrimary (worldOf s) (record { state = r .state; memory = p .memory; disk = p .disk; dirty = p .dirty; held = p .held; stream = p .stream })) (r .number) (r .value)) ⌝ }
@@ -83,7 +86,7 @@ pub fn send(s: Site, length: u64) -> Performed
     let mut held = p.held;
     let zeros = [0u8; MOST_LENT];
     let n = lent(length);
-    let r = primary::packets::packet(p.state, &mut held, &zeros[..n]);
+    let r = primary::packets::packet(p.state, &mut held, PORT, &zeros[..n]);
     p.held = held;
     replied(s, p, r)
 }
@@ -110,7 +113,7 @@ pub fn take(s: Site) -> Performed
     let mut p = s.primary;
     let mut held = p.held;
     let mut destination = [0u8; MOST_LENT];
-    let r = primary::packets::take(p.state, &mut held, &mut destination);
+    let r = primary::packets::take(p.state, &mut held, PORT, &mut destination);
     p.held = held;
     replied(s, p, r)
 }

@@ -1,4 +1,5 @@
--- The ranges of the settings (document 01, "Settings"; M and L: document 02, Job 7). Assumes nothing.
+-- The ranges of the settings (document 01, "Settings"; M and L: document 02, Job 7), and those of a held packet.
+-- Assumes nothing.
 use Prim.Native.Nat.{ℕ, _+_, _*_}
 use mathlib.Core.Bool.{Bool, _&&_}
 use lib.Dec.{leb}
@@ -17,6 +18,13 @@ mostPacketBytes = 1514
 
 abbrev pub packetLengthOk : ℕ → Bool
 packetLengthOk n = within 1 mostPacketBytes n
+
+-- "A held packet gains a port, 0 to 3" (document 02, Job 6)
+abbrev pub mostPort : ℕ
+mostPort = 3
+
+abbrev pub portOk : ℕ → Bool
+portOk n = leb n mostPort
 
 -- the last epoch that there is
 abbrev pub mostEpoch : ℕ

@@ -16,6 +16,9 @@ pub const MOST_PACKETS: usize = 64;
 
 pub const MOST_PACKET_BYTES: usize = 1514;
 
+// "A held packet gains a port, 0 to 3" (document 02, Job 6).
+pub const MOST_PORT: usize = 3;
+
 // The last epoch that there is.
 pub const MOST_EPOCH: u32 = 4294967295;
 

@@ -37,7 +37,7 @@ module _ {A : Type 0} where
   length-rest n total l k = length-drop n (take total l) ∙ ap (λ (m : ℕ). m - n) (length-take-le total l k)
 
   pub freed-parts : (z : A) (n total : ℕ) (l : List A) → n ≤ total → total ≤ length l
-      → freed z n total l ≡ drop n (take total l) ++ (replicate n z ++ drop total l)
+      → freed z 0 n total l ≡ drop n (take total l) ++ (replicate n z ++ drop total l)
   unfolding freed removed part
   freed-parts z n total l h k =
       let rest = drop n (take total l) in
@@ -46,15 +46,15 @@ module _ {A : Type 0} where
       let t : length (rest ++ replicate n z) ≡ total = length-append rest (replicate n z) ∙ omega (arith, length-replicate n z) in
       rw (e, put-next l rest (replicate n z) (total - n) m (omega arith), put-front, t, append-assoc)
 
-  pub freed-none : (z : A) (total : ℕ) (l : List A) → total ≤ length l → freed z 0 total l ≡ l
+  pub freed-none : (z : A) (total : ℕ) (l : List A) → total ≤ length l → freed z 0 0 total l ≡ l
   freed-none z total l k = freed-parts z 0 total l (omega arith) k ∙ take-append-drop total l
 
-  drop-freed : (z : A) (n total : ℕ) (l : List A) → n ≤ total → total ≤ length l → drop (total - n) (freed z n total l) ≡ replicate n z ++ drop total l
+  drop-freed : (z : A) (n total : ℕ) (l : List A) → n ≤ total → total ≤ length l → drop (total - n) (freed z 0 n total l) ≡ replicate n z ++ drop total l
   drop-freed z n total l h k = rw (freed-parts z n total l h k) (drop-at (drop n (take total l)) _ (total - n) (length-rest n total l k))
 
   -- a of them freed, then b: a + b freed
-  pub freed-freed : (z : A) (a b total : ℕ) (l : List A) → a + b ≤ total → total ≤ length l → freed z b (total - a) (freed z a total l) ≡ freed z (a + b) total l
+  pub freed-freed : (z : A) (a b total : ℕ) (l : List A) → a + b ≤ total → total ≤ length l → freed z 0 b (total - a) (freed z 0 a total l) ≡ freed z 0 (a + b) total l
   freed-freed z a b total l h k =
-      let w : length (freed z a total l) ≡ length l = length-freed z a total l (omega arith) k in
-      freed-parts z b (total - a) (freed z a total l) (omega arith) (omega arith)
+      let w : length (freed z 0 a total l) ≡ length l = length-freed z 0 a total l (omega arith) k in
+      freed-parts z b (total - a) (freed z 0 a total l) (omega arith) (omega arith)
       ∙ rw (take-freed z a total l (omega arith) k, drop-freed z a total l (omega arith) k, drop-drop, ← append-assoc (replicate b z) (replicate a z) (drop total l), replicate-append-replicate, freed-parts z (a + b) total l h k, add-comm b a)

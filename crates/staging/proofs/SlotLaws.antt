@@ -102,7 +102,7 @@ module _ (k : Slots) (array : length (k .numbers) ≡ mostSlots) where
 
     pub array-flushed : length (flushed k count .numbers) ≡ mostSlots
     unfolding flushed
-    array-flushed = length-freed 0 count (k .staged) (k .numbers) h (omega arith) ∙ array
+    array-flushed = length-freed 0 0 count (k .staged) (k .numbers) (omega arith) (omega arith) ∙ array
 
 -- ---- kept in range, where there are no more slots than the array has entries
 module _ (k : Slots) (s d : ℕ) (array : length (k .numbers) ≡ mostSlots) (few : s ≤ mostSlots) where

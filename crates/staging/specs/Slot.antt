@@ -51,7 +51,7 @@ stored u numbers slots disk (suc i) = withPage u (stored u numbers slots disk i)
 
 -- "freed slots are used again": the rest moves to the front, the freed entries are 0, the bytes behind stay
 unfoldable pub flushed : Slots → ℕ → Slots
-flushed k count = record { staged = k .staged - count; due = k .due - count; numbers = freed 0 count (k .staged) (k .numbers) }
+flushed k count = record { staged = k .staged - count; due = k .due - count; numbers = freed 0 0 count (k .staged) (k .numbers) }
 
 unfoldable pub flushedBytes : ℕ → Slots → ℕ → List ℕ → List ℕ
 flushedBytes u k count slots = removed 0 (count * u) (k .staged * u) slots

@@ -8,10 +8,10 @@ use Rattle.bench.proofs.bench_packets.Statement.{statement}
 use Rattle.bench.proofs.bench_packets.Tie as tie
 
 abbrev Inv-loop : tie.InvT-loop
-Inv-loop kept size bytes rounds held₀ one destination₀ p₀ last₀ i₀ held destination p last i = (i ≤ rounds) × (length held ≡ length held₀) × (length destination ≡ length destination₀)
+Inv-loop kept size bytes rounds held₀ port one destination₀ p₀ last₀ i₀ held destination p last i = (i ≤ rounds) × (length held ≡ length held₀) × (length destination ≡ length destination₀)
 
 abbrev μ-loop : tie.MeasureT-loop
-μ-loop kept size bytes rounds held₀ one destination₀ p₀ last₀ i₀ held destination p last i = rounds - i
+μ-loop kept size bytes rounds held₀ port one destination₀ p₀ last₀ i₀ held destination p last i = rounds - i
 
 queue-of-requires : tie.Need-queue-of-requires Inv-loop μ-loop
 queue-of-requires c κs = search needs

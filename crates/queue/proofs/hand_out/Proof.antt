@@ -1,9 +1,8 @@
 -- `queue::hand_out` meets its contract. Assumes nothing.
 use borrow.Author.Needs.{needs}
-use mathlib.Core.Path.{_∙_}
 use native.Mathlib.Omega.{arith}
 use denote.Ref.{now}
-use Rattle.lists.proofs.PartLaws.{length-part, part-zero}
+use Rattle.lists.proofs.PartLaws.{length-part}
 use Rattle.queue.proofs.hand_out.Statement.{statement}
 use Rattle.queue.proofs.hand_out.Tie as tie
 
@@ -13,7 +12,7 @@ part-of-requires c κs = search needs
 copy-front-requires : tie.Need-copy-front-requires
 copy-front-requires c κs =
     let a = c .before .before .before .before .before .args in
-    let n = length-part 0 (a .n) (now (a .held)) (omega arith) in
+    let n = length-part (a .at) (a .n) (now (a .held)) (omega arith) in
     rw (c .part-of .ensures) (omega arith)
 
 remove-requires : tie.Need-remove-requires
@@ -27,8 +26,7 @@ same-length-2 c = search needs
 
 returns : tie.Need-returns
 returns c =
-    let a = c .before .before .before .before .before .before .before .before .before .before .before .before .args in
-    let e = c .before .before .before .before .before .before .before .part-of .ensures ∙ part-zero (a .n) (now (a .held)) in
+    let e = c .before .before .before .before .before .before .before .part-of .ensures in
     (rw e at (c .before .before .before .before .before .before .copy-front .ensures), c .before .before .remove .ensures)
 
 pub hand-out-spec : {M : Type 1} → statement M

@@ -43,6 +43,12 @@ mul-seen-with-2 c = omega arith
 element-copy-out-seen-with-2 : tie.Need-element-copy-out-seen-with-2 Inv-loop μ-loop
 element-copy-out-seen-with-2 c = omega arith
 
+mul-seen-with-3 : tie.Need-mul-seen-with-3 Inv-loop μ-loop
+mul-seen-with-3 c = omega arith
+
+element-copy-out-seen-with-3 : tie.Need-element-copy-out-seen-with-3 Inv-loop μ-loop
+element-copy-out-seen-with-3 c = omega arith
+
 seen-with-requires : tie.Need-seen-with-requires Inv-loop μ-loop
 seen-with-requires c κs = omega arith
 
@@ -77,6 +83,8 @@ queue-ok-spec =
     element-copy-out-seen-with
     mul-seen-with-2
     element-copy-out-seen-with-2
+    mul-seen-with-3
+    element-copy-out-seen-with-3
     seen-with-requires
     add-i
     loop-less

@@ -1,25 +1,27 @@
--- `primary_words::packets_of` meets its contract. The loop's invariant: the packets read, and the rest.
--- Assumes nothing.
+-- `primary_words::packets_of` meets its contract. The loop's invariant: the packets read, and the rest, which fit their
+-- fields. Assumes nothing.
 use Prim.Native.Nat.{ℕ, _+_, _*_, _-_, _≤_}
 use mathlib.Core.Path.{_≡_, refl, sym}
 use mathlib.Core.List.{List, _++_}
+use mathlib.Core.Bool.{true}
 use native.Mathlib.Omega.{arith}
-use lib.ListN.{length, take, drop, set}
-use Rattle.capi.specs.PrimaryWords.{packetsOf, packetsAt}
-use Rattle.capi.proofs.PrimaryWordLaws.{primary-many, packet-field, packet-cons, read-more, read-all}
+use lib.ListN.{length, take, drop}
+use Rattle.capi.specs.PrimaryWords.{primaryLength, packetsAt, packetsFit, packetsOf}
+use Rattle.capi.proofs.PrimaryWordLaws.{primary-word-facts, packet-fields, packet-cons, read-more, read-all}
 use borrow.Author.Needs.{needs}
 use Rattle.capi.proofs.primary_words.packets_of.Statement.{statement}
 use Rattle.capi.proofs.primary_words.packets_of.Tie as tie
 
 abbrev Inv-loop : tie.InvT-loop
 Inv-loop w packets₀ i₀ packets i =
-    (i ≤ 64) × (length packets ≡ 64) × (packetsOf (drop packetsAt w) ≡ take i packets ++ packetsOf (drop (packetsAt + 2 * i) w))
+    let rest = drop (packetsAt + 3 * i) w in
+    (i ≤ 64) × (length w ≡ primaryLength) × (length packets ≡ 64) × (packetsFit rest ≡ true) × (packetsOf (drop packetsAt w) ≡ take i packets ++ packetsOf rest)
 
 abbrev μ-loop : tie.MeasureT-loop
 μ-loop w packets₀ i₀ packets i = 64 - i
 
 loop-holds : tie.Need-loop-holds Inv-loop μ-loop
-loop-holds c = (omega arith, search needs, refl)
+loop-holds c = let f = primary-word-facts _ (c .before .pre) in (omega arith, f .many, search needs, f .packets, refl)
 
 mul-at : tie.Need-mul-at Inv-loop μ-loop
 mul-at c = search needs
@@ -31,22 +33,34 @@ mul-field : tie.Need-mul-field Inv-loop μ-loop
 mul-field c = search needs
 
 shared-slice-read-field : tie.Need-shared-slice-read-field Inv-loop μ-loop
-shared-slice-read-field c = omega (arith, primary-many _ (c .before .before .before .before .pre))
+shared-slice-read-field c = search needs
 
 field-requires : tie.Need-field-requires Inv-loop μ-loop
-field-requires c κs = packet-field _ _ (c .before .before .before .before .pre) (omega arith) (omega arith)
+field-requires c κs = let l = c .before .before .loop in packet-fields _ (packetsAt + 3 * l .i) (omega arith) (l .inv .3) .0
 
-add-field : tie.Need-add-field Inv-loop μ-loop
-add-field c = search needs
+add-field16 : tie.Need-add-field16 Inv-loop μ-loop
+add-field16 c = search needs
 
-mul-field-2 : tie.Need-mul-field-2 Inv-loop μ-loop
-mul-field-2 c = search needs
+mul-field16 : tie.Need-mul-field16 Inv-loop μ-loop
+mul-field16 c = search needs
 
-shared-slice-read-field-2 : tie.Need-shared-slice-read-field-2 Inv-loop μ-loop
-shared-slice-read-field-2 c = omega (arith, primary-many _ (c .before .before .before .before .before .before .pre))
+shared-slice-read-field16 : tie.Need-shared-slice-read-field16 Inv-loop μ-loop
+shared-slice-read-field16 c = search needs
 
-field-requires-2 : tie.Need-field-requires-2 Inv-loop μ-loop
-field-requires-2 c κs = packet-field _ _ (c .before .before .before .before .before .before .pre) (omega arith) (omega arith)
+field16-requires : tie.Need-field16-requires Inv-loop μ-loop
+field16-requires c κs = let l = c .before .before .before .before .loop in packet-fields _ (packetsAt + 3 * l .i) (omega arith) (l .inv .3) .1
+
+add-field16-2 : tie.Need-add-field16-2 Inv-loop μ-loop
+add-field16-2 c = search needs
+
+mul-field16-2 : tie.Need-mul-field16-2 Inv-loop μ-loop
+mul-field16-2 c = search needs
+
+shared-slice-read-field16-2 : tie.Need-shared-slice-read-field16-2 Inv-loop μ-loop
+shared-slice-read-field16-2 c = search needs
+
+field16-requires-2 : tie.Need-field16-requires-2 Inv-loop μ-loop
+field16-requires-2 c κs = let l = c .before .before .before .before .before .before .loop in packet-fields _ (packetsAt + 3 * l .i) (omega arith) (l .inv .3) .2
 
 mul-packets : tie.Need-mul-packets Inv-loop μ-loop
 mul-packets c = search needs
@@ -62,23 +76,24 @@ loop-less c = search needs
 
 loop-again : tie.Need-loop-again Inv-loop μ-loop
 loop-again c =
-    let w : List ℕ = c .before .before .before .before .before .before .before .args .w .now in
-    let l = c .before .before .before .before .before .loop in
-    let at : ℕ = packetsAt + 2 * l .i in
-    let many : length w ≡ 143 = primary-many _ (c .before .before .before .before .before .before .before .pre) in
-    let e : packetsAt + 2 * (l .i + 1) ≡ at + 2 = omega arith in (
+    let w : List ℕ = c .before .before .before .before .before .before .before .before .before .args .w .now in
+    let l = c .before .before .before .before .before .before .before .loop in
+    let at : ℕ = packetsAt + 3 * l .i in
+    let e : packetsAt + 3 * (l .i + 1) ≡ at + 3 = omega arith in (
       omega arith,
+      l .inv .1,
       search needs,
-      rw (c .before .before .field .ensures, c .field2 .ensures, e) (read-more w (l .packets) _ (l .i) at (omega arith) (packet-cons w at (omega arith)) (l .inv .2)),
+      rw e (packet-fields w at (omega arith) (l .inv .3) .3),
+      rw (c .before .before .before .before .field .ensures, c .before .before .field16 .ensures, c .field162 .ensures, e)
+          (read-more w (l .packets) _ (l .i) at (omega arith) (packet-cons w at (omega arith)) (l .inv .4)),
     )
 
 returns : tie.Need-returns Inv-loop μ-loop
 returns c =
     let w : List ℕ = c .before .before .before .args .w .now in
     let l = c .before .loop in
-    let many : length w ≡ 143 = primary-many _ (c .before .before .before .pre) in
     let e : l .i ≡ 64 = omega arith in
-    sym (read-all w (l .packets) 64 (packetsAt + 2 * 64) (l .inv .1) (omega arith) (rw e at (l .inv .2)))
+    sym (read-all w (l .packets) 64 (packetsAt + 3 * 64) (l .inv .2) (omega arith) (rw e at (l .inv .4)))
 
 pub packets-of-spec : {M : Type 1} → statement M
 packets-of-spec =
@@ -92,10 +107,14 @@ packets-of-spec =
     mul-field
     shared-slice-read-field
     field-requires
-    add-field
-    mul-field-2
-    shared-slice-read-field-2
-    field-requires-2
+    add-field16
+    mul-field16
+    shared-slice-read-field16
+    field16-requires
+    add-field16-2
+    mul-field16-2
+    shared-slice-read-field16-2
+    field16-requires-2
     mul-packets
     array-set-from-packets
     add-i

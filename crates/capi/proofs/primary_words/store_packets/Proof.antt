@@ -10,8 +10,8 @@ use lib.Seq.{take-all}
 use Rattle.lists.specs.Part.{put}
 use Rattle.lists.proofs.PartLaws.{put-none, length-put}
 use Rattle.queue.specs.declared.Packet.{Packet}
-use Rattle.capi.specs.Word.{allFit32}
-use Rattle.capi.specs.PrimaryWords.{packetWords, packetsAt, primaryLength}
+use Rattle.queue.specs.Held.{noPacket}
+use Rattle.capi.specs.PrimaryWords.{packetWords, packetsAt, packetsFit, primaryLength}
 use Rattle.capi.proofs.PrimaryWordLaws.{length-packetWords, store-more, fits-packets-more}
 use borrow.Author.Needs.{needs}
 use Rattle.capi.proofs.primary_words.store_packets.Statement.{statement}
@@ -19,7 +19,7 @@ use Rattle.capi.proofs.primary_words.store_packets.Tie as tie
 
 abbrev Inv-loop : tie.InvT-loop
 Inv-loop w₀ packets i₀ w i =
-    (i ≤ 64) × (length w ≡ primaryLength) × (w ≡ put w₀ packetsAt (packetWords (take i packets))) × (allFit32 (packetWords (take i packets)) ≡ true)
+    (i ≤ 64) × (length w ≡ primaryLength) × (w ≡ put w₀ packetsAt (packetWords (take i packets))) × (packetsFit (packetWords (take i packets)) ≡ true)
 
 abbrev μ-loop : tie.MeasureT-loop
 μ-loop w₀ packets i₀ w i = 64 - i
@@ -29,7 +29,7 @@ array : (c : tie.Start Inv-loop μ-loop) → length (c .args .t2) ≡ 64
 array c = search needs
 
 loop-holds : tie.Need-loop-holds Inv-loop μ-loop
-unfolding packetWords allFit32
+unfolding packetWords packetsFit
 loop-holds c = (omega arith, c .before .pre, sym (put-none _ packetsAt), refl)
 
 mul-k : tie.Need-mul-k Inv-loop μ-loop
@@ -60,16 +60,16 @@ loop-again c =
     let w : List ℕ = a .w .now in
     let ks : List Packet = a .t2 in
     let i : ℕ = s .i in
-    let k : Packet = getD ks i (record { epoch = 0; length = 0 }) in
+    let k : Packet = getD ks i noPacket in
     let many : length ks ≡ 64 = array (c .before .before .before .before .before .before .before .before) in
     let n : length (s .w) ≡ primaryLength = s .inv .1 in
     let m : length w ≡ primaryLength = c .before .before .before .before .before .before .before .before .pre in
     let r = c .before .before .store-packet .ensures in
-    let e : c .before .before .store-packet .last .0 ≡ put (s .w) (packetsAt + 2 * i) (packetWords (k ∷ [])) = r .0 in (
+    let e : c .before .before .store-packet .last .0 ≡ put (s .w) (packetsAt + 3 * i) (packetWords (k ∷ [])) = r .0 in (
       omega arith,
-      ap length e ∙ length-put (s .w) (packetsAt + 2 * i) (packetWords (k ∷ [])) (rw (length-packetWords (k ∷ [])) (omega arith)) ∙ n,
-      e ∙ ap (λ (x : List ℕ). put x (packetsAt + 2 * i) (packetWords (k ∷ []))) (s .inv .2) ∙ store-more w ks (record { epoch = 0; length = 0 }) packetsAt i (omega arith) (omega arith),
-      fits-packets-more ks (record { epoch = 0; length = 0 }) i (omega arith) (s .inv .3) (r .1),
+      ap length e ∙ length-put (s .w) (packetsAt + 3 * i) (packetWords (k ∷ [])) (rw (length-packetWords (k ∷ [])) (omega arith)) ∙ n,
+      e ∙ ap (λ (x : List ℕ). put x (packetsAt + 3 * i) (packetWords (k ∷ []))) (s .inv .2) ∙ store-more w ks noPacket packetsAt i (omega arith) (omega arith),
+      fits-packets-more ks noPacket i (omega arith) (s .inv .3) (r .1),
     )
 
 same-length : tie.Need-same-length Inv-loop μ-loop

@@ -12,17 +12,17 @@ returns c = simp (ne-eqb _ _ (c .if1 .taken))
 all-fit32-requires : tie.Need-all-fit32-requires
 all-fit32-requires c κs = search needs
 
-all-fit32-requires-2 : tie.Need-all-fit32-requires-2
-all-fit32-requires-2 c κs = search needs
+packets-fit-requires : tie.Need-packets-fit-requires
+packets-fit-requires c κs = search needs
 
 shared-slice-read-result : tie.Need-shared-slice-read-result
 shared-slice-read-result c = search needs
 
 returns-2 : tie.Need-returns-2
 unfolding primaryWordsOk
-returns-2 c = rw (eq-eqb _ _ (c .before .before .before .if1 .left), c .before .before .all-fit32 .ensures, c .before .all-fit322 .ensures)
+returns-2 c = rw (eq-eqb _ _ (c .before .before .before .if1 .left), c .before .before .all-fit32 .ensures, c .before .packets-fit .ensures)
 
 pub words-ok-spec : {M : Type 1} → statement M
 words-ok-spec =
     tie.close
-    (tie.spec returns all-fit32-requires all-fit32-requires-2 shared-slice-read-result returns-2)
+    (tie.spec returns all-fit32-requires packets-fit-requires shared-slice-read-result returns-2)

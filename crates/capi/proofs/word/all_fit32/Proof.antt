@@ -1,11 +1,11 @@
 -- `word::all_fit32` meets its contract. The loop's invariant: the words passed and the test of the rest. Assumes nothing.
 use Prim.Native.Nat.{_+_, _-_, _≤_}
 use mathlib.Core.Path.{_≡_, refl, sym, ap, _∙_}
-use mathlib.Core.Bool.{Bool, _&&_}
+use mathlib.Core.Bool.{Bool, _&&_, and-assoc}
 use native.Mathlib.Omega.{arith}
 use lib.ListN.{getD}
 use Rattle.capi.specs.Word.{fits32, allFit32, between}
-use Rattle.capi.proofs.WordLaws.{fits-more, fits-end, test-more, test-end}
+use Rattle.capi.proofs.WordLaws.{fits-more, fits-end, test-end}
 use borrow.Author.Needs.{needs}
 use Rattle.capi.proofs.word.all_fit32.Statement.{statement}
 use Rattle.capi.proofs.word.all_fit32.Tie as tie
@@ -37,7 +37,7 @@ loop-again c =
     let l = c .before .before .loop in (
       omega arith,
       omega arith,
-      test-more (l .low) (fits32 (getD (a .w .now) (l .i) 0)) (allFit32 (between (l .i + 1) (a .to) (a .w .now)))
+      and-assoc (l .low) (fits32 (getD (a .w .now) (l .i) 0)) (allFit32 (between (l .i + 1) (a .to) (a .w .now)))
           ∙ ap (λ (x : Bool). l .low && x) (sym (fits-more (a .w .now) (l .i) (a .to) (omega arith) (omega arith))) ∙ l .inv .2,
     )
 

@@ -20,10 +20,10 @@ use Rattle.primary.proofs.packets.packet.Statement.{statement}
 use Rattle.primary.proofs.packets.packet.Tie as tie
 
 abbrev Inv-loop : tie.InvT-loop
-Inv-loop p held bytes epoch n packets count total looked seen₀ i₀ seen i = Looked looked packets seen i
+Inv-loop p held port bytes epoch n packets count total looked seen₀ i₀ seen i = Looked looked packets seen i
 
 abbrev μ-loop : tie.MeasureT-loop
-μ-loop p held bytes epoch n packets count total looked seen₀ i₀ seen i = looked - i
+μ-loop p held port bytes epoch n packets count total looked seen₀ i₀ seen i = looked - i
 
 -- the array's length, which the type gives
 array : (c : tie.Start Inv-loop μ-loop) → length (c .args .p .queue .packets) ≡ mostPackets
@@ -52,6 +52,12 @@ mul-seen-with-2 c = omega arith
 element-copy-out-seen-with-2 : tie.Need-element-copy-out-seen-with-2 Inv-loop μ-loop
 element-copy-out-seen-with-2 c = omega arith
 
+mul-seen-with-3 : tie.Need-mul-seen-with-3 Inv-loop μ-loop
+mul-seen-with-3 c = omega arith
+
+element-copy-out-seen-with-3 : tie.Need-element-copy-out-seen-with-3 Inv-loop μ-loop
+element-copy-out-seen-with-3 c = omega arith
+
 seen-with-requires : tie.Need-seen-with-requires Inv-loop μ-loop
 seen-with-requires c κs = omega arith
 
@@ -72,11 +78,14 @@ packet-refusal-requires c κs =
     looked-all (c .before .before .before .before .before .before .before .before .args .p .queue) _ _ _ _ _ (c .before .before .before .looked-at .ensures) (c .before .loop .inv) (λ h. omega arith)
 
 -- what acceptance says
-facts : (c : tie.Then1 Inv-loop μ-loop) → let a = c .before .before .before .before .before .before .before .before .before .before .args in PacketFacts (a .p) (length (now (a .held))) (length (now (a .bytes)))
-facts c = packet-accepted _ _ _ (sym (c .before .packet-refusal .ensures) ∙ c .if1 .taken)
+facts : (c : tie.Then1 Inv-loop μ-loop) → let a = c .before .before .before .before .before .before .before .before .before .before .args in PacketFacts (a .p) (length (now (a .held))) (a .port) (length (now (a .bytes)))
+facts c = packet-accepted _ _ _ _ (sym (c .before .packet-refusal .ensures) ∙ c .if1 .taken)
 
-cast-t28 : tie.Need-cast-t28 Inv-loop μ-loop
-cast-t28 c = let f = facts c in omega (arith, f .length-high)
+cast-t33 : tie.Need-cast-t33 Inv-loop μ-loop
+cast-t33 c = let f = facts c in omega (arith, f .length-high)
+
+cast-t34 : tie.Need-cast-t34 Inv-loop μ-loop
+cast-t34 c = let f = facts c in omega (arith, f .port-high)
 
 mul-packets : tie.Need-mul-packets Inv-loop μ-loop
 mul-packets c = let f = facts c in omega (arith, f .count-low)
@@ -128,12 +137,15 @@ packet-spec =
     element-copy-out-seen-with
     mul-seen-with-2
     element-copy-out-seen-with-2
+    mul-seen-with-3
+    element-copy-out-seen-with-3
     seen-with-requires
     add-i
     loop-less
     loop-again
     packet-refusal-requires
-    cast-t28
+    cast-t33
+    cast-t34
     mul-packets
     array-set-from-packets
     copy-into-requires

@@ -16,11 +16,17 @@ ok c =
     let q = c .before .seen-ok in
     both-ok _ (sym (n .ensures) ∙ not-false (n .result) (c .before .before .if1 .left)) (sym (c .before .before .before .before .before .before .before .pre) ∙ sym (q .ensures) ∙ not-false (q .result) (c .if2 .left))
 
+numbers-ok-requires : tie.Need-numbers-ok-requires
+numbers-ok-requires c κs = search needs
+
 returns : tie.Need-returns
 unfolding packetRefusal
 returns c =
     let n = c .before .numbers-ok in
     simp (numbers-bad (c .before .before .before .before .before .args .p) (sym (n .ensures) ∙ not-true (n .result) (c .if1 .taken)))
+
+seen-ok-requires : tie.Need-seen-ok-requires
+seen-ok-requires c κs = search needs
 
 returns-2 : tie.Need-returns-2
 unfolding packetRefusal
@@ -42,22 +48,20 @@ returns-5 c = simp (ok (c .before .before .before), eq-eqb _ _ (c .before .befor
 
 returns-6 : tie.Need-returns-6
 unfolding packetRefusal
-returns-6 c =
-    rw (ok (c .before .before .before .before .before), eq-eqb _ _ (c .before .before .before .before .if3 .left), le-leb _ _ (c .before .before .before .if4 .left), le-leb _ _ (c .before .before .if5 .left), sym (c .before .has-space .ensures) ∙ not-true (c .before .has-space .result) (c .if6 .taken))
+returns-6 c = rw (ok (c .before .before .before .before), eq-eqb _ _ (c .before .before .before .if3 .left), le-leb _ _ (c .before .before .if4 .left), le-leb _ _ (c .before .if5 .left), lt-leb _ _ (c .if6 .taken))
+
+has-space-requires : tie.Need-has-space-requires
+has-space-requires c κs = search needs
 
 returns-7 : tie.Need-returns-7
 unfolding packetRefusal
 returns-7 c =
-    rw (ok (c .before .before .before .before .before), eq-eqb _ _ (c .before .before .before .before .if3 .left), le-leb _ _ (c .before .before .before .if4 .left), le-leb _ _ (c .before .before .if5 .left), sym (c .before .has-space .ensures) ∙ not-false (c .before .has-space .result) (c .if6 .left))
+    rw (ok (c .before .before .before .before .before .before), eq-eqb _ _ (c .before .before .before .before .before .if3 .left), le-leb _ _ (c .before .before .before .before .if4 .left), le-leb _ _ (c .before .before .before .if5 .left), le-leb _ _ (c .before .before .if6 .left), sym (c .before .has-space .ensures) ∙ not-true (c .before .has-space .result) (c .if7 .taken))
 
-numbers-ok-requires : tie.Need-numbers-ok-requires
-numbers-ok-requires c κs = search needs
-
-seen-ok-requires : tie.Need-seen-ok-requires
-seen-ok-requires c κs = search needs
-
-has-space-requires : tie.Need-has-space-requires
-has-space-requires c κs = search needs
+returns-8 : tie.Need-returns-8
+unfolding packetRefusal
+returns-8 c =
+    rw (ok (c .before .before .before .before .before .before), eq-eqb _ _ (c .before .before .before .before .before .if3 .left), le-leb _ _ (c .before .before .before .before .if4 .left), le-leb _ _ (c .before .before .before .if5 .left), le-leb _ _ (c .before .before .if6 .left), sym (c .before .has-space .ensures) ∙ not-false (c .before .has-space .result) (c .if7 .left))
 
 pub packet-refusal-spec : {M : Type 1} → statement M
 packet-refusal-spec =
@@ -70,6 +74,7 @@ packet-refusal-spec =
     returns-3
     returns-4
     returns-5
-    has-space-requires
     returns-6
-    returns-7)
+    has-space-requires
+    returns-7
+    returns-8)
