@@ -5,3 +5,4 @@ pub mod SeenLaws
 pub mod PlaceLaws
 pub mod QueueLaws
 pub mod HeldLaws
+pub mod PortLaws

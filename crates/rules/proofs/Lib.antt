@@ -5,6 +5,7 @@ pub mod DetectorFacts
 pub mod PrimaryFacts
 pub mod WriteLaws
 pub mod PacketLaws
+pub mod PortLaws
 pub mod CheckpointLaws
 pub mod StreamLaws
 pub mod PrimaryTickLaws

@@ -4,6 +4,7 @@ pub mod Reply
 pub mod Start
 pub mod PrimaryWrites
 pub mod Packets
+pub mod Ports
 pub mod Checkpoint
 pub mod Stream
 pub mod PrimaryTick
