@@ -10,7 +10,7 @@ use lib.ListN.{length, getD}
 use Rattle.lists.specs.Part.{put}
 use Rattle.records.specs.Kind.{isWide}
 use Rattle.records.specs.Write.{commitRecord}
-use Rattle.records.specs.Number.{streamFull, queueFull, slotsFull, nothingFree}
+use Rattle.records.specs.Number.{streamFull, queueFull, slotsFull, nothingFree, noSuchPort}
 use Rattle.rules.specs.PrimaryState.{withWaiting}
 use Rattle.rules.specs.Checkpoint.{dirtyCount}
 use Rattle.rules.specs.World.{World, Call}
@@ -49,7 +49,7 @@ pub rules-out-18 : OtherNumber (refuses nothingFree) (worldAfter (commitCame ++ 
 unfolding allSteps
 rules-out-18 e = let z : _≡_ {A = ℕ} 18 0 = e in omega arith
 
--- ---- 15 to 17 with space
+-- ---- 15 to 17 with space, 23 with a port that there is
 -- not "15 the stream lacks the bytes needed"
 pub rules-out-15 : OtherNumber (refuses streamFull) (worldAfter []) (call.checkpoint (processorOf 2))
 unfolding allSteps
@@ -63,6 +63,11 @@ rules-out-15-block e = let z : _≡_ {A = ℕ} 15 0 = e in omega arith
 pub rules-out-16 : OtherNumber (refuses queueFull) (worldAfter []) (call.packet 0 (unit 99))
 unfolding allSteps
 rules-out-16 e = let z : _≡_ {A = ℕ} 16 0 = e in omega arith
+
+-- not "23 when the port is above 3"
+pub rules-out-23 : OtherNumber (refuses noSuchPort) (worldAfter []) (call.packet 3 (unit 99))
+unfolding allSteps
+rules-out-23 e = let z : _≡_ {A = ℕ} 23 0 = e in omega arith
 
 -- not "17 S blocks staged"
 pub rules-out-17 : OtherNumber (refuses slotsFull) (worldAfter sent) (call.read 74 [])
