@@ -1,22 +1,24 @@
 -- `queue::place_with` meets its contract. Assumes nothing.
-use mathlib.Core.Path.{sym}
-use borrow.Author.Tests.{eq-eqb, ne-eqb}
-use Rattle.queue.proofs.PlaceLaws.{place-found, place-passed, place-new}
+use mathlib.Core.Path.{sym, ap}
+use mathlib.Core.Bool.{Bool, true, cond}
+use Rattle.queue.specs.declared.Place.{Place}
+use Rattle.queue.specs.Seen.{placeWith}
 use Rattle.queue.proofs.place_with.Statement.{statement}
 use Rattle.queue.proofs.place_with.Tie as tie
 
 returns : tie.Need-returns
-returns c = let a = c .before .args in sym (place-found (a .s) (a .wanted) (a .port) (a .at) (a .before) (c .if1 .taken))
+unfolding placeWith
+returns c =
+    let a = c .before .before .args in
+    let new : Place = record { at = a .at; before = a .before; found = true } in
+    sym (ap (λ (b : Bool). cond b (a .s) new) (c .if1 .taken))
 
 returns-2 : tie.Need-returns-2
+unfolding placeWith
 returns-2 c =
     let a = c .before .before .args in
-    sym (place-passed (a .s) (a .wanted) (a .port) (a .at) (a .before) (c .before .if1 .left) (ne-eqb _ _ (c .if2 .taken)))
-
-returns-3 : tie.Need-returns-3
-returns-3 c =
-    let a = c .before .before .args in
-    sym (place-new (a .s) (a .wanted) (a .port) (a .at) (a .before) (c .before .if1 .left) (eq-eqb _ _ (c .if2 .left)))
+    let new : Place = record { at = a .at; before = a .before; found = true } in
+    sym (ap (λ (b : Bool). cond b (a .s) new) (c .if1 .left))
 
 pub place-with-spec : {M : Type 1} → statement M
-place-with-spec = tie.close (tie.spec returns returns-2 returns-3)
+place-with-spec = tie.close (tie.spec returns returns-2)
