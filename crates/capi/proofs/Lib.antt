@@ -2,6 +2,7 @@ pub mod WordLaws
 pub mod PrimaryWordLaws
 pub mod StandbyWordLaws
 pub mod DoneLaws
+pub mod KeptLaws
 pub mod AnswerLaws
 pub mod MissingLaws
 pub mod StepLaws

@@ -11,14 +11,14 @@ use lib.Dec.{leb}
 use lib.ListN.{length, take, drop, getD, set, length-append, length-drop, drop-of-length-le}
 use lib.Seq.{take-suc-set, take-suc, take-all, length-take-le, append-snoc}
 use Rattle.lists.specs.Part.{put}
-use Rattle.lists.proofs.PartLaws.{put-put, put-next, put-whole}
+use Rattle.lists.proofs.PartLaws.{put-put, put-front, put-next, put-whole}
 use Rattle.lists.proofs.TestLaws.{both, join}
 use Rattle.queue.specs.declared.Packet.{Packet}
 use Rattle.queue.specs.Held.{noPacket}
 use Rattle.rules.specs.declared.Primary.{Primary}
 use Rattle.capi.specs.Word.{isFlag, flagOf, flagWord, fits32, fits16, most32, most16, allFit32, between}
 use Rattle.capi.specs.PrimaryWords.{packetsFit, packetsOf, packetWords, headWords, primaryWords, primaryWordsOk, primaryOf, primaryLength, packetsAt}
-use Rattle.capi.proofs.WordLaws.{fits-at, words-from}
+use Rattle.capi.proofs.WordLaws.{fits-at, words-from, put-behind}
 
 -- what words that are a state have
 pub record PrimaryWordFacts (w : List ℕ) : Type 0 where
@@ -147,6 +147,72 @@ store-both w p h k =
     put-next w (headWords p) (packetWords ks) packetsAt refl (omega arith)
     ∙ put-whole w (headWords p ++ packetWords ks) (rw (length-append (headWords p) (packetWords ks)) (omega arith))
 
+-- the words of the packets of words
+packets-words : (n : ℕ) (w : List ℕ) → length w ≡ 3 * n → packetWords (packetsOf w) ≡ w
+unfolding packetsOf packetWords
+packets-words zero [] h = refl
+packets-words zero (a ∷ w) h = absurd (omega arith)
+packets-words (suc n) [] h = absurd (omega arith)
+packets-words (suc n) (a ∷ []) h = absurd (omega arith)
+packets-words (suc n) (a ∷ b ∷ []) h = absurd (omega arith)
+packets-words (suc n) (a ∷ b ∷ c ∷ w) h = rw (packets-words n w (omega arith))
+
+-- one packet replaced
+packet-words-set : (ks : List Packet) (i : ℕ) (x : Packet) → i < length ks → packetWords (set ks i x) ≡ put (packetWords ks) (3 * i) (packetWords (x ∷ []))
+unfolding packetWords
+packet-words-set [] i x h = absurd (omega arith)
+packet-words-set (k ∷ ks) zero x h = sym (put-front (packetWords (k ∷ ks)) (packetWords (x ∷ [])))
+packet-words-set (k ∷ ks) (suc i) x h =
+    let e : 3 * suc i ≡ 3 + 3 * i = omega arith in
+    rw e
+    (ap (λ (l : List ℕ). packetWords (k ∷ []) ++ l) (packet-words-set ks i x (omega arith))
+    ∙ sym (put-behind (packetWords (k ∷ [])) (packetWords ks) (packetWords (x ∷ [])) (3 * i)))
+
+fits-packets-set : (ks : List Packet) (i : ℕ) (x : Packet) → packetsFit (packetWords ks) ≡ true → packetsFit (packetWords (x ∷ [])) ≡ true
+    → packetsFit (packetWords (set ks i x)) ≡ true
+unfolding packetsFit packetWords
+fits-packets-set [] i x p q = p
+fits-packets-set (k ∷ ks) zero x p q =
+    let old = fits32 (k .epoch) && fits16 (k .length) && fits16 (k .port) in
+    let new = fits32 (x .epoch) && fits16 (x .length) && fits16 (x .port) in
+    join new (packetsFit (packetWords ks)) (both new true q .0) (both old (packetsFit (packetWords ks)) p .1)
+fits-packets-set (k ∷ ks) (suc i) x p q =
+    let one = fits32 (k .epoch) && fits16 (k .length) && fits16 (k .port) in
+    let e = both one (packetsFit (packetWords ks)) p in
+    join one (packetsFit (packetWords (set ks i x))) (e .0) (fits-packets-set ks i x (e .1) q)
+
+-- all 64 of them
+pub packets-many : (w : List ℕ) → primaryWordsOk w ≡ true → length (primaryOf w .queue .packets) ≡ 64
+unfolding primaryOf
+packets-many w ok =
+    let rest = drop packetsAt w in
+    let n : length rest ≡ 3 * 64 = rw (length-drop packetsAt w) (omega (arith, primary-word-facts w ok .many)) in
+    omega (arith, length-packetWords (packetsOf rest), ap length (packets-words 64 rest n), n)
+
+pub fits-one : (w : List ℕ) (i : ℕ) (x : Packet) → primaryWordsOk w ≡ true → packetsFit (packetWords (x ∷ [])) ≡ true
+    → packetsFit (packetWords (set (primaryOf w .queue .packets) i x)) ≡ true
+unfolding primaryOf
+fits-one w i x ok q =
+    let f = primary-word-facts w ok in
+    let rest = drop packetsAt w in
+    let n : length rest ≡ 3 * 64 = rw (length-drop packetsAt w) (omega (arith, f .many)) in
+    fits-packets-set (packetsOf rest) i x (rw (packets-words 64 rest n) (f .packets)) q
+
+-- the head of the words and then one packet, where the others stay
+pub store-one : (w : List ℕ) (p : Primary) (i : ℕ) (x : Packet) → primaryWordsOk w ≡ true → i < 64
+    → p .queue .packets ≡ set (primaryOf w .queue .packets) i x
+    → put (put w 0 (headWords p)) (packetsAt + 3 * i) (packetWords (x ∷ [])) ≡ primaryWords p
+unfolding primaryWords headWords primaryOf
+store-one w p i x ok h e =
+    let f = primary-word-facts w ok in
+    let rest = drop packetsAt w in
+    let n : length rest ≡ 3 * 64 = rw (length-drop packetsAt w) (omega (arith, f .many)) in
+    let again : packetWords (packetsOf rest) ≡ rest = packets-words 64 rest n in
+    let many : length (packetsOf rest) ≡ 64 = packets-many w ok in
+    ap (λ (l : List ℕ). put l (packetsAt + 3 * i) (packetWords (x ∷ []))) (put-front w (headWords p) ∙ ap (λ (l : List ℕ). headWords p ++ l) (sym again))
+    ∙ put-behind (headWords p) (packetWords (packetsOf rest)) (packetWords (x ∷ [])) (3 * i)
+    ∙ ap (λ (l : List ℕ). headWords p ++ l) (sym (packet-words-set (packetsOf rest) i x (omega (arith, many))) ∙ ap packetWords (sym e))
+
 -- ---- the words of a state whose fields of 32 and of 16 bits fit are a state's
 length-primaryWords : (p : Primary) → length (p .queue .packets) ≡ 64 → length (primaryWords p) ≡ primaryLength
 unfolding primaryWords headWords
@@ -182,15 +248,6 @@ pub flag-words : (n : ℕ) → n ≤ 1 → flagWord (flagOf n) ≡ n
 flag-words zero h = refl
 flag-words (suc zero) h = refl
 flag-words (suc (suc n)) h = absurd (omega arith)
-
-packets-words : (n : ℕ) (w : List ℕ) → length w ≡ 3 * n → packetWords (packetsOf w) ≡ w
-unfolding packetsOf packetWords
-packets-words zero [] h = refl
-packets-words zero (a ∷ w) h = absurd (omega arith)
-packets-words (suc n) [] h = absurd (omega arith)
-packets-words (suc n) (a ∷ []) h = absurd (omega arith)
-packets-words (suc n) (a ∷ b ∷ []) h = absurd (omega arith)
-packets-words (suc n) (a ∷ b ∷ c ∷ w) h = rw (packets-words n w (omega arith))
 
 pub primary-words-again : (w : List ℕ) → primaryWordsOk w ≡ true → primaryWords (primaryOf w) ≡ w
 unfolding primaryOf primaryWords headWords

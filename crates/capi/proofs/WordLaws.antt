@@ -2,11 +2,12 @@
 use mathlib.Core.Path.{_≡_, refl, sym, ap, _∙_}
 use mathlib.Core.List.{List, [], _∷_, _++_}
 use mathlib.Core.Bool.{Bool, true, false, _&&_}
-use Prim.Native.Nat.{ℕ, suc, zero, _+_, _-_, _≤_, _<_}
+use Prim.Native.Nat.{ℕ, suc, zero, _+_, _-_, _^_, _≤_, _<_}
 use native.Mathlib.Numerals.{add-one}
-use native.Mathlib.Nat.{add-zero}
+use native.Mathlib.Nat.{add-zero, zero-add}
 use native.Mathlib.Omega.{arith}
 use borrow.Author.Tests.{leb-true, le-leb}
+use lib.Bits.{bitOr, or-lt, or-add-and, and-le-l, and-le-r}
 use lib.Dec.{leb}
 use lib.ListN.{length, take, drop, getD, set}
 use lib.Seq.{drop-cons, take-suc-set, take-suc, take-all, length-take-le, getD-take, getD-drop}
@@ -14,7 +15,7 @@ use Rattle.lists.specs.Part.{part, put}
 use Rattle.lists.proofs.PartLaws.{put-put, length-put, put-none, length-part}
 use Rattle.lists.proofs.ArrayLaws.{set-put, rest-cons, rest-none}
 use Rattle.lists.proofs.ChunkLaws.{part-most}
-use Rattle.lists.proofs.TestLaws.{both, join}
+use Rattle.lists.proofs.TestLaws.{agree, both, join}
 use Rattle.capi.specs.Word.{fits32, allFit32, between, most32}
 
 -- ---- fields of 32 bits
@@ -50,6 +51,19 @@ fits-none = refl
 pub fits-cons : (n : ℕ) (w : List ℕ) → n < 4294967296 → allFit32 w ≡ true → allFit32 (n ∷ w) ≡ true
 unfolding allFit32
 fits-cons n w h e = join (fits32 n) (allFit32 w) (le-leb n most32 (omega arith)) e
+
+-- the bits of two words together fit exactly where both words do
+pub fits-or : (k most a b : ℕ) → most + 1 ≡ 2 ^ k → leb (bitOr a b) most ≡ leb a most && leb b most
+fits-or k most a b e =
+    let s = or-add-and a b in
+    agree (leb (bitOr a b) most) (leb a most && leb b most)
+    (λ h. let o = leb-true (bitOr a b) most h in join (leb a most) (leb b most) (le-leb a most (omega (arith, s, and-le-r a b))) (le-leb b most (omega (arith, s, and-le-l a b))))
+    (λ h.
+    let p = both (leb a most) (leb b most) h in
+    let low : a < 2 ^ k = rw (sym e) (omega (arith, leb-true a most (p .0))) in
+    let high : b < 2 ^ k = rw (sym e) (omega (arith, leb-true b most (p .1))) in
+    let o : bitOr a b < most + 1 = rw e (or-lt k a b low high) in
+    le-leb (bitOr a b) most (omega arith))
 
 -- nothing is left to test
 pub test-end : (a b : Bool) → b ≡ true → a && b ≡ a
@@ -102,6 +116,15 @@ module _ {A : Type 0} where
 
   pub store-end : (d s : List A) (at i : ℕ) → i ≡ length s → put d at (take i s) ≡ put d at s
   store-end d s at i e = ap (put d at) (take-all i s (omega arith))
+
+  -- what is put behind a first part of the list leaves that part
+  pub put-behind : (a b bs : List A) (k : ℕ) → put (a ++ b) (length a + k) bs ≡ a ++ put b k bs
+  unfolding put
+  put-behind [] b bs k = rw (zero-add k)
+  put-behind (x ∷ a) b bs k =
+      let e : length (x ∷ a) + k ≡ suc (length a + k) = omega arith in
+      let d : suc (length a + k) + length bs ≡ suc (length a + k + length bs) = omega arith in
+      rw (e, d) (ap (λ (l : List A). x ∷ l) (put-behind a b bs k))
 
   -- three stores
   pub three-put : (l : List A) (at : ℕ) (a b c : A) → at + 3 ≤ length l → set (set (set l at a) (at + 1) b) (at + 2) c ≡ put l at (a ∷ b ∷ c ∷ [])

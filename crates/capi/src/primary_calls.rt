@@ -1,4 +1,5 @@
-// The primary's calls: the words are tested and read, the call is made, the words of its state are stored.
+// The primary's calls: the words are tested and read, the call is made, the words of its state are stored: those of all
+// packets after a take, which moves them, else those of one at most.
 ghost use Rattle.capi.specs.PrimaryCalls.{MemoryWriteDone, DiskWriteDone, PacketDone, CheckpointDone, DrainDone, AckDone, TakeDone, PrimaryTickDone};
 use crate::primary_words;
 use crate::word;
@@ -22,7 +23,7 @@ pub extern "C" fn primary_memory_write(
     let p = primary_words::primary_of(state);
     let r = primary::writes::memory_write(p, memory, dirty, page, offset, bytes);
     let next = r.state;
-    primary_words::store(state, next);
+    primary_words::store_one(state, next, 0);
     word::reply_word(r.number, r.value)
 }
 
@@ -43,7 +44,7 @@ pub extern "C" fn primary_disk_write(
     let p = primary_words::primary_of(state);
     let r = primary::writes::disk_write(p, disk, stream, block, bytes);
     let next = r.state;
-    primary_words::store(state, next);
+    primary_words::store_one(state, next, 0);
     word::reply_word(r.number, r.value)
 }
 
@@ -61,9 +62,11 @@ pub extern "C" fn primary_packet(
         return number::OUT_OF_RANGE;
     }
     let p = primary_words::primary_of(state);
+    let k = p.queue;
     let r = primary::packets::packet(p, held, port, bytes);
     let next = r.state;
-    primary_words::store(state, next);
+    let at = word::if_accepted(r.number, k.count);
+    primary_words::store_one(state, next, at);
     word::reply_word(r.number, r.value)
 }
 
@@ -85,7 +88,7 @@ pub extern "C" fn primary_checkpoint(
     let p = primary_words::primary_of(state);
     let r = primary::checkpoint::checkpoint(p, memory, dirty, stream, at_checkpoint);
     let next = r.state;
-    primary_words::store(state, next);
+    primary_words::store_one(state, next, 0);
     word::reply_word(r.number, r.value)
 }
 
@@ -105,7 +108,7 @@ pub extern "C" fn primary_drain(
     let p = primary_words::primary_of(state);
     let r = primary::stream::drain(p, stream, n, destination);
     let next = r.state;
-    primary_words::store(state, next);
+    primary_words::store_one(state, next, 0);
     word::reply_word(r.number, r.value)
 }
 
@@ -121,7 +124,7 @@ pub extern "C" fn primary_acknowledge(state: &mut [u64], bytes: &[u8]) -> u64
     let r = primary::stream::acknowledge(p, bytes);
     let next = r.state;
     let answer = r.answer;
-    primary_words::store(state, next);
+    primary_words::store_one(state, next, 0);
     word::record_word(answer)
 }
 
@@ -156,6 +159,6 @@ pub extern "C" fn primary_tick(state: &mut [u64]) -> u64
     let p = primary_words::primary_of(state);
     let r = primary::tick::tick(p);
     let next = r.state;
-    primary_words::store(state, next);
+    primary_words::store_one(state, next, 0);
     word::reply_word(r.number, r.value)
 }

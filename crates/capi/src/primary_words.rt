@@ -3,8 +3,9 @@ ghost use mathlib.Core.Path.{_≡_};
 ghost use mathlib.Core.Bool.{true};
 ghost use mathlib.Core.List.{[], _∷_};
 ghost use Prim.Native.Nat.{_<_, _≤_, _+_};
-ghost use lib.ListN.{length, drop};
+ghost use lib.ListN.{length, drop, set};
 ghost use Rattle.lists.specs.Part.{put};
+ghost use Rattle.queue.specs.Held.{packetAt};
 ghost use Rattle.capi.specs.Word.{allFit32, between};
 ghost use Rattle.capi.specs.PrimaryWords.{primaryLength, packetsAt, packetsFit, packetsOf, primaryOf, packetWords, headWords, primaryWords, primaryWordsOk};
 use crate::word;
@@ -22,20 +23,24 @@ pub(crate) const LENGTH: usize = 207;
 
 const PACKETS: usize = 15;
 
-// Whether the words of all packets fit their fields. All are looked at, whatever the first ones say, as in
-// word::all_fit32.
+// Whether the words of all packets fit their fields: each kind of them with its bits together, so that a packet takes
+// three operations and each kind one test at the end.
 fn packets_fit(w: &[u64]) -> bool
     requires { ⌜ length (now w) ≡ primaryLength ⌝ }
     ensures { λ r. ⌜ r ≡ packetsFit (drop packetsAt (now (w .entry))) ⌝ }
 {
-    let mut low = true;
+    let mut epochs: u64 = 0;
+    let mut lengths: u64 = 0;
+    let mut ports: u64 = 0;
     let mut i = 0;
     while i < MOST_PACKETS {
         let at = PACKETS + 3 * i;
-        low = low & (w[at] <= MOST_32) & (w[at + 1] <= MOST_16) & (w[at + 2] <= MOST_16);
+        epochs = epochs | w[at];
+        lengths = lengths | w[at + 1];
+        ports = ports | w[at + 2];
         i += 1;
     }
-    low
+    (epochs <= MOST_32) & (lengths <= MOST_16) & (ports <= MOST_16)
 }
 
 // Whether words are a state.
@@ -158,6 +163,21 @@ fn store_packets(w: &mut [u64], packets: [Packet; 64])
         store_packet(w, PACKETS + 3 * i, k);
         i += 1;
     }
+}
+
+// Leaves the words of a state that differs from the one lent in its numbers and in one packet at most: the words of the
+// other packets stay, and are not written again.
+pub(crate) fn store_one(w: &mut [u64], p: Primary, i: usize)
+    requires { ⌜ (length (now w) ≡ primaryLength) × (primaryWordsOk (now w) ≡ true) × (i < 64) × (p .queue .packets ≡ set (primaryOf (now w) .queue .packets) i (packetAt (p .queue) i)) ⌝ }
+    ensures { λ _. ⌜ now (w .exit) ≡ primaryWords p ⌝ }
+    ensures { λ _. ⌜ primaryWordsOk (now (w .exit)) ≡ true ⌝ }
+{
+    let k = p.queue;
+    let packets = k.packets;
+    let head = head_words(p);
+    let one = packets[i];
+    word::store_at(w, 0, &head);
+    store_packet(w, PACKETS + 3 * i, one);
 }
 
 // Leaves the words of a state. That they are a state again, the types of its fields give.

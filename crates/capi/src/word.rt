@@ -3,6 +3,7 @@ ghost use mathlib.Core.Path.{_≡_};
 ghost use Prim.Native.Nat.{_<_, _≤_, _+_};
 ghost use lib.ListN.{length};
 ghost use Rattle.lists.specs.Part.{put};
+ghost use Rattle.lists.specs.Refusal.{pick};
 ghost use Rattle.capi.specs.Word.{replyWord, recordWord, answerWord, allFit32, between, flagOf, flagWord};
 use records::CUT_SHORT;
 use rules::Answer;
@@ -63,6 +64,16 @@ fn answer(number: u64, count: u64, value: u64) -> u64
     ensures { λ r. ⌜ r ≡ answerWord number count value ⌝ }
 {
     number % 65536 + 65536 * (count % 65536) + 4294967296 * (value % 4294967296)
+}
+
+// A place that matters where a call is accepted, else the first.
+pub(crate) fn if_accepted(number: u64, at: usize) -> usize
+    ensures { λ r. ⌜ r ≡ pick number at 0 ⌝ }
+{
+    if number == 0 {
+        return at;
+    }
+    0
 }
 
 // The answer of a call that reads no record.

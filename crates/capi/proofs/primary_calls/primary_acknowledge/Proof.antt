@@ -1,9 +1,12 @@
 -- `primary_calls::primary_acknowledge` meets its contract. Assumes nothing.
-use mathlib.Core.Path.{_≡_, sym, _∙_}
+use mathlib.Core.Path.{_≡_, sym, ap, _∙_}
 use mathlib.Core.Bool.{true, false}
+use native.Mathlib.Omega.{arith}
 use borrow.Author.Tests.{not-true, not-false}
+use Rattle.rules.specs.declared.Primary.{Primary}
 use Rattle.capi.specs.PrimaryWords.{primaryWordsOk}
 use Rattle.capi.proofs.PrimaryWordLaws.{primary-many}
+use Rattle.capi.proofs.KeptLaws.{same-differs, ack-kept}
 use Rattle.capi.proofs.DoneLaws.{primary-old, primary-new}
 use borrow.Author.Needs.{needs}
 use Rattle.capi.proofs.primary_calls.primary_acknowledge.Statement.{statement}
@@ -30,8 +33,10 @@ primary-of-requires c κs = good (c .before)
 acknowledge-requires : tie.Need-acknowledge-requires
 acknowledge-requires c κs = search needs
 
-store-requires : tie.Need-store-requires
-store-requires c κs = primary-many _ (good (c .before .before .before .before .before))
+store-one-requires : tie.Need-store-one-requires
+store-one-requires c κs =
+    let g = good (c .before .before .before .before .before) in
+    (primary-many _ g, g, omega arith, same-differs _ _ 0 (ap (λ x. x .state .queue) (c .before .before .acknowledge .ensures .0) ∙ ack-kept _ _ ∙ ap (λ (x : Primary). x .queue) (c .before .before .before .primary-of .ensures)))
 
 record-word-requires : tie.Need-record-word-requires
 record-word-requires c κs = search needs
@@ -43,7 +48,7 @@ returns-2 : tie.Need-returns-2
 returns-2 c =
     let r = c .before .before .before .before .before .before .acknowledge .ensures in
     rw (sym (c .before .before .before .before .before .before .before .primary-of .ensures), sym (r .0))
-    (primary-new (good (c .before .before .before .before .before .before .before .before .before)) (c .record-word .ensures) (c .before .before .before .store .ensures))
+    (primary-new (good (c .before .before .before .before .before .before .before .before .before)) (c .record-word .ensures) (c .before .before .before .store-one .ensures))
 
 pub primary-acknowledge-spec : {M : Type 1} → statement M
 primary-acknowledge-spec =
@@ -54,7 +59,7 @@ primary-acknowledge-spec =
     returns
     primary-of-requires
     acknowledge-requires
-    store-requires
+    store-one-requires
     record-word-requires
     same-length-2
     returns-2)

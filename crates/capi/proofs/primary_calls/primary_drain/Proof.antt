@@ -1,9 +1,12 @@
 -- `primary_calls::primary_drain` meets its contract. Assumes nothing.
-use mathlib.Core.Path.{_≡_, sym, _∙_}
+use mathlib.Core.Path.{_≡_, sym, ap, _∙_}
 use mathlib.Core.Bool.{true, false}
+use native.Mathlib.Omega.{arith}
 use borrow.Author.Tests.{not-true, not-false}
+use Rattle.rules.specs.declared.Primary.{Primary}
 use Rattle.capi.specs.PrimaryWords.{primaryWordsOk}
 use Rattle.capi.proofs.PrimaryWordLaws.{primary-many}
+use Rattle.capi.proofs.KeptLaws.{same-differs, drain-kept}
 use Rattle.capi.proofs.DoneLaws.{leaves-old, primary-old, leaves-new, primary-new}
 use borrow.Author.Needs.{needs}
 use Rattle.capi.proofs.primary_calls.primary_drain.Statement.{statement}
@@ -30,8 +33,10 @@ primary-of-requires c κs = good (c .before)
 drain-requires : tie.Need-drain-requires
 drain-requires c κs = search needs
 
-store-requires : tie.Need-store-requires
-store-requires c κs = primary-many _ (good (c .before .before .before .before .before .before .before .before .before .before .before))
+store-one-requires : tie.Need-store-one-requires
+store-one-requires c κs =
+    let g = good (c .before .before .before .before .before .before .before .before .before .before .before) in
+    (primary-many _ g, g, omega arith, same-differs _ _ 0 (ap (λ x. x .state .queue) (c .before .before .before .before .before .before .drain .ensures .0) ∙ drain-kept _ _ _ _ ∙ ap (λ (x : Primary). x .queue) (c .before .before .before .before .before .before .before .before .before .primary-of .ensures)))
 
 reply-word-requires : tie.Need-reply-word-requires
 reply-word-requires c κs = search needs
@@ -49,7 +54,7 @@ returns-2 : tie.Need-returns-2
 returns-2 c =
     let r = c .before .before .before .before .before .before .before .before .before .before .drain .ensures in
     rw (sym (c .before .before .before .before .before .before .before .before .before .before .before .before .before .primary-of .ensures), sym (r .0))
-    (primary-new (good (c .before .before .before .before .before .before .before .before .before .before .before .before .before .before .before)) (c .reply-word .ensures) (c .before .before .before .store .ensures), leaves-new (good (c .before .before .before .before .before .before .before .before .before .before .before .before .before .before .before)) _ (r .1 .0), leaves-new (good (c .before .before .before .before .before .before .before .before .before .before .before .before .before .before .before)) _ (r .1 .1))
+    (primary-new (good (c .before .before .before .before .before .before .before .before .before .before .before .before .before .before .before)) (c .reply-word .ensures) (c .before .before .before .store-one .ensures), leaves-new (good (c .before .before .before .before .before .before .before .before .before .before .before .before .before .before .before)) _ (r .1 .0), leaves-new (good (c .before .before .before .before .before .before .before .before .before .before .before .before .before .before .before)) _ (r .1 .1))
 
 pub primary-drain-spec : {M : Type 1} → statement M
 primary-drain-spec =
@@ -60,7 +65,7 @@ primary-drain-spec =
     returns
     primary-of-requires
     drain-requires
-    store-requires
+    store-one-requires
     reply-word-requires
     same-length-2
     same-length-3

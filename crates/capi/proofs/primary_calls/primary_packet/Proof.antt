@@ -3,7 +3,8 @@ use mathlib.Core.Path.{_≡_, sym, _∙_}
 use mathlib.Core.Bool.{true, false}
 use borrow.Author.Tests.{not-true, not-false}
 use Rattle.capi.specs.PrimaryWords.{primaryWordsOk}
-use Rattle.capi.proofs.PrimaryWordLaws.{primary-many}
+use Rattle.capi.proofs.PrimaryWordLaws.{primary-many, packets-many}
+use Rattle.capi.proofs.KeptLaws.{packet-stores}
 use Rattle.capi.proofs.DoneLaws.{leaves-old, primary-old, leaves-new, primary-new}
 use borrow.Author.Needs.{needs}
 use Rattle.capi.proofs.primary_calls.primary_packet.Statement.{statement}
@@ -30,8 +31,14 @@ primary-of-requires c κs = good (c .before)
 packet-requires : tie.Need-packet-requires
 packet-requires c κs = search needs
 
-store-requires : tie.Need-store-requires
-store-requires c κs = primary-many _ (good (c .before .before .before .before .before .before .before .before))
+store-one-requires : tie.Need-store-one-requires
+store-one-requires c κs =
+    let g = good (c .before .before .before .before .before .before .before .before .before .before) in
+    let one = packet-stores _ _ _ _ _ _ _ (c .before .before .before .before .before .before .before .before .primary-of .ensures) (packets-many _ g) (c .before .before .before .before .before .packet .ensures .0) (c .before .if-accepted .ensures) in
+    (primary-many _ g, g, one .0, one .1)
+
+if-accepted-requires : tie.Need-if-accepted-requires
+if-accepted-requires c κs = search needs
 
 reply-word-requires : tie.Need-reply-word-requires
 reply-word-requires c κs = search needs
@@ -44,9 +51,9 @@ same-length-3 c = search needs
 
 returns-2 : tie.Need-returns-2
 returns-2 c =
-    let r = c .before .before .before .before .before .before .before .before .packet .ensures in
-    rw (sym (c .before .before .before .before .before .before .before .before .before .before .primary-of .ensures), sym (r .0))
-    (primary-new (good (c .before .before .before .before .before .before .before .before .before .before .before .before)) (c .reply-word .ensures) (c .before .before .before .store .ensures), leaves-new (good (c .before .before .before .before .before .before .before .before .before .before .before .before)) _ (r .1))
+    let r = c .before .before .before .before .before .before .before .before .before .packet .ensures in
+    rw (sym (c .before .before .before .before .before .before .before .before .before .before .before .before .primary-of .ensures), sym (r .0))
+    (primary-new (good (c .before .before .before .before .before .before .before .before .before .before .before .before .before .before)) (c .reply-word .ensures) (c .before .before .before .store-one .ensures), leaves-new (good (c .before .before .before .before .before .before .before .before .before .before .before .before .before .before)) _ (r .1))
 
 pub primary-packet-spec : {M : Type 1} → statement M
 primary-packet-spec =
@@ -57,7 +64,8 @@ primary-packet-spec =
     returns
     primary-of-requires
     packet-requires
-    store-requires
+    if-accepted-requires
+    store-one-requires
     reply-word-requires
     same-length-2
     same-length-3
