@@ -9,6 +9,10 @@ pub const MOST: u64 = 1 << 20;
 
 const MANY_PAGES: [u64; 9] = [255, 256, 257, 884, 1_024, 4_095, 4_096, 4_097, 4_098];
 
+/// Ports above the last; some of them are 0 or 1 when cut to 8, 16 or 32 bits.
+pub const NO_PORTS: [u64; 12] =
+    [4, 5, 255, 256, 257, 65_535, 65_536, 65_537, 1 << 32, (1 << 32) + 1, 1 << 63, u64::MAX];
+
 fn with_stream(r: &Random, mut s: Settings) -> Settings {
     let (record, least) = (page_record(s.u, s.m), least_stream(s.u, s.m, s.b));
     let checkpoint = 2 * record + state_and_commit(s.m);
@@ -106,11 +110,17 @@ pub fn arguments(r: &Random, which: usize, w: &World, odd: u64) -> Args {
         code::STANDBY_MEMORY_WRITE => memory_arguments(r, &mut a, s.u, s.m, odd),
         code::DISK_WRITE => disk_arguments(r, &mut a, p.u, p.d, odd),
         code::STANDBY_DISK_WRITE => disk_arguments(r, &mut a, s.u, s.d, odd),
-        code::PACKET => a.data = packet_bytes(r, p, odd),
+        code::PACKET => {
+            a.port = some_port(r, odd);
+            a.data = packet_bytes(r, p, odd);
+        }
         code::CHECKPOINT => a.cpu = r.cpu(),
         code::DRAIN => drain_arguments(r, &mut a, p),
         code::ACK => a.data = made_up_ack(r, p, odd),
-        code::TAKE => a.out = take_destination(r, p, odd),
+        code::TAKE => {
+            a.port = port_to_take(r, p, odd);
+            a.out = take_destination(r, p, a.port, odd);
+        }
         code::READ => {
             a.data = made_up_record(r, s, odd);
             a.out = reply_buffer(r, odd);
@@ -173,6 +183,17 @@ fn disk_arguments(r: &Random, a: &mut Args, u: u64, d: u64, odd: u64) {
     a.data = r.bytes(length);
 }
 
+fn some_port(r: &Random, odd: u64) -> u64 {
+    if r.percent(odd) { r.pick(&NO_PORTS) } else { r.range(0, MOST_PORT) }
+}
+
+/// Mostly a port of which a packet may leave, where there is one.
+fn port_to_take(r: &Random, p: &Primary, odd: u64) -> u64 {
+    let free: Vec<u64> = (0..=MOST_PORT).filter(|&port| p.free_of(port).is_some()).collect();
+    let port = some_port(r, odd);
+    if port > MOST_PORT || free.is_empty() || r.percent(10) { port } else { r.pick(&free) }
+}
+
 fn packet_bytes(r: &Random, p: &Primary, odd: u64) -> Vec<u8> {
     let room = p.q.saturating_sub(p.held).min(1_514);
     let length = if r.percent(odd) {
@@ -196,12 +217,14 @@ fn drain_arguments(r: &Random, a: &mut Args, p: &Primary) {
     a.out = r.bytes(room.min(MOST));
 }
 
-fn take_destination(r: &Random, p: &Primary, odd: u64) -> Vec<u8> {
-    let length = p.queue[0].length.min(1_600);
+/// Room for the port's oldest packet, or too little; both are sometimes just enough for the oldest of all.
+fn take_destination(r: &Random, p: &Primary, port: u64, odd: u64) -> Vec<u8> {
+    let length = p.queue[p.oldest_of(port).unwrap_or(0)].length.min(1_600);
+    let oldest = p.queue[0].length.min(1_600);
     let room = if r.percent(odd) {
-        r.pick(&[0, 1, length.saturating_sub(1), length / 2])
+        r.pick(&[0, 1, length.saturating_sub(1), length / 2, oldest])
     } else {
-        length + r.pick(&[0, 0, 1, 5, 64])
+        r.pick(&[length, length, length + 1, length + 5, length + 64, length.max(oldest)])
     };
     r.bytes(room)
 }

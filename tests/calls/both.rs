@@ -50,15 +50,14 @@ impl Both {
         self.advance(sink, &mut Step { which, args, part: None })
     }
 
-    /// An accepted take gave the oldest packet; under protection it is one of checkpoint r's.
+    /// An accepted take gave its port's oldest packet. That it is one of checkpoint r's under protection is asked after
+    /// this call and every later one.
     fn check_take(&self, args: &Args, reply: &Reply) -> Check {
-        let plain = &self.plain;
-        demand(plain.left < plain.packets.len(), "a take with no packet queued")?;
+        let (plain, port) = (&self.plain, args.port as usize);
+        let left = plain.left[port];
+        demand(left < plain.packets[port].len(), "a take of a port with no packet queued")?;
         let given = &args.out[..reply.value as usize];
-        demand(plain.packets[plain.left][..] == *given, "a take that is not the oldest packet")?;
-        let protected = !plain.alone();
-        let of_checkpoint = plain.left < plain.received().packets;
-        demand(!protected || of_checkpoint, "a take under protection that checkpoint r has not")
+        demand(plain.packets[port][left][..] == *given, "a take that is not its port's oldest packet")
     }
 
     /// What holds after every call.
@@ -69,6 +68,8 @@ impl Both {
         demand(w.standby.received as usize == plain.r, "the last received epoch is not r")?;
         demand(w.primary.alone == plain.alone(), "alone and the plain count differ")?;
         demand((w.standby.mode == Mode::Active) == plain.activated, "active and activated differ")?;
+        let of_checkpoint = plain.protected.iter().zip(plain.received().packets).all(|(&left, has)| left <= has);
+        demand(of_checkpoint, "a packet left under protection that checkpoint r has not")?;
         demand(w.memory == plain.memory && w.disk == plain.disk, "the primary's images")?;
         if plain.activated {
             demand(w.standby_memory == plain.standby_memory, "the active standby's memory")?;

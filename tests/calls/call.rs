@@ -85,8 +85,8 @@ fn disk_write(l: &mut Lent) -> u64 {
 }
 
 fn packet(l: &mut Lent) -> u64 {
-    let (state, held, data) = (l.word_slice(Primary), l.byte_slice(Held), l.byte_slice(Data));
-    unsafe { primary_packet(state.at, state.len, held.at, held.len, data.at, data.len) }
+    let (state, held, port, data) = (l.word_slice(Primary), l.byte_slice(Held), l.size(Port), l.byte_slice(Data));
+    unsafe { primary_packet(state.at, state.len, held.at, held.len, port, data.at, data.len) }
 }
 
 fn checkpoint(l: &mut Lent) -> u64 {
@@ -110,8 +110,8 @@ fn acknowledge(l: &mut Lent) -> u64 {
 }
 
 fn take(l: &mut Lent) -> u64 {
-    let (state, held, out) = (l.word_slice(Primary), l.byte_slice(Held), l.byte_slice(Out));
-    unsafe { primary_take(state.at, state.len, held.at, held.len, out.at, out.len) }
+    let (state, held, port, out) = (l.word_slice(Primary), l.byte_slice(Held), l.size(Port), l.byte_slice(Out));
+    unsafe { primary_take(state.at, state.len, held.at, held.len, port, out.at, out.len) }
 }
 
 fn tick(l: &mut Lent) -> u64 {

@@ -20,7 +20,8 @@ extern "C" {
         block: usize, bytes: *const u8, bytes_len: usize,
     ) -> u64;
     pub fn primary_packet(
-        state: *mut u64, state_len: usize, held: *mut u8, held_len: usize, bytes: *const u8, bytes_len: usize,
+        state: *mut u64, state_len: usize, held: *mut u8, held_len: usize, port: usize, bytes: *const u8,
+        bytes_len: usize,
     ) -> u64;
     pub fn primary_checkpoint(
         state: *mut u64, state_len: usize, memory: *const u8, memory_len: usize, dirty: *mut u64, dirty_len: usize,
@@ -32,7 +33,7 @@ extern "C" {
     ) -> u64;
     pub fn primary_acknowledge(state: *mut u64, state_len: usize, bytes: *const u8, bytes_len: usize) -> u64;
     pub fn primary_take(
-        state: *mut u64, state_len: usize, held: *mut u8, held_len: usize, destination: *mut u8,
+        state: *mut u64, state_len: usize, held: *mut u8, held_len: usize, port: usize, destination: *mut u8,
         destination_len: usize,
     ) -> u64;
     pub fn primary_tick(state: *mut u64, state_len: usize) -> u64;

@@ -11,6 +11,7 @@ mod capi;
 mod changed_lines;
 mod checker;
 mod cuts;
+mod four_ports;
 mod generate;
 mod guarded;
 mod items;
@@ -24,8 +25,11 @@ mod missing_cases;
 mod model;
 mod names;
 mod no_state;
+mod numbers;
 mod outside;
 mod plain;
+mod port_lists;
+mod ports;
 mod print_form;
 mod random;
 mod recognise;
@@ -64,8 +68,9 @@ const TESTS: [Test; 14] = [
     ("starts with one setting out of its range", 20, refused_starts),
     ("starts with one lent length wrong", 20, spoiled_starts),
     ("starts with T of 2^32 and above", 5, patient_starts),
-    ("words that are no state", 25, no_states),
     ("disk choices", 20, |r, sink, end| until(sink, end, |sink| singles::choice(r, sink))),
+    // the last: every field comes once, also where that is more than its share
+    ("words that are no state", 25, no_states),
 ];
 
 /// The kinds that come on top.
@@ -76,7 +81,8 @@ const LINES: &str = "lines through the program";
 const MARKS: &str = "marks about the ends of words";
 const SILENCE: &str = "records that come slower than T ticks";
 const PARTS: &str = "records that come in parts";
-const ON_TOP: [&str; 7] = [LARGE, WIDE, CUTS, LINES, MARKS, SILENCE, PARTS];
+const FOUR_PORTS: &str = "packets of four ports";
+const ON_TOP: [&str; 8] = [LARGE, WIDE, CUTS, LINES, MARKS, SILENCE, PARTS, FOUR_PORTS];
 
 fn until(sink: &mut Sink, end: u64, mut one: impl FnMut(&mut Sink)) {
     while sink.calls < end {
@@ -166,11 +172,12 @@ fn cut_runs(r: &Random, sink: &mut Sink, calls: u64, seed: u64) {
     }
     println!("  {} runs, {} cuts", tally.runs, tally.cuts);
     println!("  {} takeovers, {} disk choices", tally.takeovers, tally.choices);
-    println!("  {} takes, {} of them under protection", tally.takes, tally.protected_takes);
+    println!("  {} takes, {:?} of them by port under protection", tally.takes, tally.protected_takes);
     let [first, second] = tally.after_checkpoint;
     println!("  takeovers after checkpoint 1 or later {first}, 2 or later {second}, at most {}", tally.highest);
     println!("  runs with a checkpoint longer than T ticks {}", tally.long_checkpoints);
     demanded(demand(tally.long_checkpoints > 0, "no checkpoint was longer than T ticks"));
+    demanded(demand(tally.protected_takes.iter().all(|&takes| takes > 0), "a port had no take under protection"));
 }
 
 /// Makes one test's calls and prints how many they were. One that makes none tests nothing.
@@ -225,13 +232,13 @@ fn main() {
             LINES => demanded(lines::run(&r, sink, &program)),
             MARKS => demanded(marks::run(&r, sink)),
             SILENCE => demanded(silence::run(&r, sink)),
-            _ => demanded(missing::run(&r, sink)),
+            PARTS => demanded(missing::run(&r, sink)),
+            _ => demanded(four_ports::run(&r, sink)),
         });
     }
     // that every number comes is a test of all kinds together
-    let seen_all = only.is_some() || report::all_numbers_seen(&sink);
-    report::print_numbers(&sink);
-    report::print_records(&sink);
+    let seen_all = only.is_some() || report::all_came(&sink);
+    report::print(&sink);
     println!("{} calls compared, {:.1} s", sink.calls, begun.elapsed().as_secs_f64());
     let passed = kinds.len() as u64 + (only.is_none() && seen_all) as u64;
     println!("{passed} passed, {} failed", !seen_all as u64);

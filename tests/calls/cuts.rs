@@ -14,8 +14,9 @@ pub struct Tally {
     pub cuts: u64,
     pub takeovers: u64,
     pub choices: u64,
+    /// All takes, and by port those under protection.
     pub takes: u64,
-    pub protected_takes: u64,
+    pub protected_takes: [u64; PORTS],
     /// Takeovers at a checkpoint above 0, at one above 1, and the highest.
     pub after_checkpoint: [u64; 2],
     pub highest: u64,
@@ -80,7 +81,7 @@ fn advance(sink: &mut Sink, tally: &mut Tally, both: &mut Both, step: &mut Step)
     let reply = both.advance(sink, step)?;
     if step.which == code::TAKE && reply.number == 0 {
         tally.takes += 1;
-        tally.protected_takes += !both.plain.alone() as u64;
+        tally.protected_takes[step.args.port as usize] += !both.plain.alone() as u64;
     }
     Ok(())
 }

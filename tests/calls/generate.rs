@@ -33,6 +33,7 @@ pub struct Mood {
 // read, flush, tick of the standby, activation, memory and disk write at the standby, disk choice.
 const PROTECTED: [u64; 16] = [0, 16, 8, 7, 6, 10, 4, 8, 4, 8, 5, 4, 1, 1, 1, 1];
 const LIVELY: [u64; 16] = [0, 8, 6, 6, 9, 6, 2, 4, 2, 4, 4, 1, 0, 0, 0, 0];
+const PACKETS: [u64; 16] = [0, 3, 1, 24, 9, 6, 4, 14, 1, 4, 4, 1, 0, 0, 0, 0];
 const ALONE: [u64; 16] = [0, 10, 10, 9, 6, 3, 2, 14, 14, 6, 4, 1, 1, 1, 1, 2];
 const TAKEOVER: [u64; 16] = [0, 2, 2, 2, 2, 3, 2, 2, 1, 3, 10, 14, 8, 2, 2, 2];
 const ACTIVE: [u64; 16] = [0, 3, 3, 3, 2, 2, 2, 5, 3, 2, 4, 3, 3, 14, 14, 5];
@@ -142,6 +143,11 @@ pub fn lively_mood(odd: u64, haste: u64, put_off: u64) -> Mood {
     Mood { weights: LIVELY, odd, damage: 0, last_ticks: false, haste, put_off }
 }
 
+/// A mood in which most calls are packets and takes.
+pub fn packets_mood(odd: u64, haste: u64) -> Mood {
+    Mood { weights: PACKETS, odd, damage: 0, last_ticks: false, haste, put_off: 0 }
+}
+
 /// A mood in which every sort of ending may come.
 pub fn ending_mood(r: &Random, odd: u64) -> Mood {
     let weights = r.pick(&[ALONE, TAKEOVER, TAKEOVER, ACTIVE]);
@@ -199,7 +205,7 @@ fn is_idle(w: &World, which: usize) -> bool {
     match which {
         code::READ => s.mode == Mode::Receiving && w.link.len() < head_record(&w.link),
         code::ACK => w.acks.is_empty(),
-        code::TAKE => p.packets == 0 || !(p.alone || p.queue[0].epoch <= p.acknowledged),
+        code::TAKE => (0..=MOST_PORT).all(|port| p.free_of(port).is_none()),
         code::DRAIN => p.waiting == 0,
         code::FLUSH => s.due == 0,
         code::DISK_WRITE => p.d == 0 || !p.alone && p.blocks >= p.b,

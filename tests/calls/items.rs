@@ -22,9 +22,12 @@ pub mod code {
     pub const ALL: usize = 16;
 }
 
-/// The words of the settings, of a primary and of a standby.
+/// The words of the settings, of a primary and of a standby. A primary's first words are followed by its 64 packets, of
+/// three words each: epoch, length and port.
 pub const SETTINGS_WORDS: usize = 8;
-pub const PRIMARY_WORDS: usize = 143;
+pub const PRIMARY_FIRST_WORDS: usize = 15;
+pub const PACKET_WORDS: usize = 3;
+pub const PRIMARY_WORDS: usize = 207;
 pub const STANDBY_WORDS: usize = 79;
 
 /// A part of a call. First the words, then the bytes, then the numbers given, then what is answered. `Cpu` is the
@@ -53,6 +56,7 @@ pub enum Item {
     Place,
     Offset,
     N,
+    Port,
     Number,
     Value,
     Used,
@@ -86,7 +90,7 @@ impl Item {
             Standby => Sort::Numbers(STANDBY_WORDS),
             Marks | StandbyMarks => Sort::Words,
             Cpu | Pending | Kept => Sort::Processor,
-            Place | Offset | N => Sort::Given,
+            Place | Offset | N | Port => Sort::Given,
             Number | Value | Used | Missing | Chosen => Sort::Answered,
             _ => Sort::Bytes,
         }
@@ -106,11 +110,11 @@ pub const INPUT: [&[Item]; code::ALL] = [
     &[Settings, Cpu, Memory, Disk, Marks, Held, Stream, StandbyMemory, StandbyDisk, Pages, StandbyMarks, Blocks, Area],
     &[Primary, Memory, Marks, Place, Offset, Data],
     &[Primary, Disk, Stream, Place, Data],
-    &[Primary, Held, Data],
+    &[Primary, Held, Port, Data],
     &[Primary, Memory, Marks, Stream, Cpu],
     &[Primary, Stream, N, Out],
     &[Primary, Data],
-    &[Primary, Held, Out],
+    &[Primary, Held, Port, Out],
     &[Primary],
     &[Standby, Pending, Kept, StandbyMemory, Pages, StandbyMarks, Blocks, Data, Out],
     &[Standby, Pending, Kept, Blocks, StandbyDisk, N],

@@ -304,5 +304,5 @@ impl<'a> Pair<'a> {
 /// Whether an item is given anew by each call.
 fn is_argument(item: Item) -> bool {
     use Item::*;
-    matches!(item, Settings | Cpu | Data | Out | Place | Offset | N)
+    matches!(item, Settings | Cpu | Data | Out | Place | Offset | N | Port)
 }

@@ -12,6 +12,9 @@ pub const LAST_EPOCH: u32 = u32::MAX;
 /// The upper ends of M and of L (document 02, Job 7).
 pub const MOST_PAGES: u64 = 65_536;
 pub const MOST_STREAM: u64 = 536_870_912;
+/// A packet's ports are 0 to this one (document 02, Job 6).
+pub const MOST_PORT: u64 = 3;
+pub const PORTS: usize = MOST_PORT as usize + 1;
 /// "Up to M 4,096 the writer uses kinds 1 and 4 as before, above that only 8 and 9".
 const MOST_NARROW_PAGES: u64 = 4_096;
 
@@ -30,6 +33,7 @@ pub struct Settings {
 #[derive(Clone, Copy, PartialEq, Eq, Debug, Default)]
 pub struct Packet {
     pub epoch: u32,
+    pub port: u16,
     pub length: u64,
 }
 
@@ -144,14 +148,37 @@ impl Primary {
             return false;
         }
         let (mut sum, mut before) = (0, 0);
-        for packet in &self.queue[..self.packets as usize] {
+        for packet in self.held_packets() {
             if packet.length < 1 || packet.length > 1_514 || packet.epoch < before || packet.epoch > self.open {
+                return false;
+            }
+            if packet.port as u64 > MOST_PORT {
                 return false;
             }
             sum += packet.length;
             before = packet.epoch;
         }
         sum == self.held && sum <= self.q
+    }
+
+    /// The packets held, of all ports, oldest first.
+    fn held_packets(&self) -> &[Packet] {
+        &self.queue[..self.packets.min(64) as usize]
+    }
+
+    /// The place of a port's oldest packet.
+    pub fn oldest_of(&self, port: u64) -> Option<usize> {
+        self.held_packets().iter().position(|packet| packet.port as u64 == port)
+    }
+
+    /// Whether a packet may be handed out, as far as its epoch goes.
+    fn is_free(&self, packet: &Packet) -> bool {
+        self.alone || packet.epoch <= self.acknowledged
+    }
+
+    /// The place of a port's oldest packet, where that one may be handed out.
+    pub fn free_of(&self, port: u64) -> Option<usize> {
+        self.oldest_of(port).filter(|&at| self.is_free(&self.queue[at]))
     }
 
     /// Whether a closed epoch is not acknowledged yet.

@@ -53,7 +53,7 @@ pub fn disk_write(p: &mut Primary, disk: &mut [u8], stream: &mut [u8], block: u6
     accepted(p.open as u64)
 }
 
-pub fn packet(p: &mut Primary, held: &mut [u8], data: &[u8]) -> Reply {
+pub fn packet(p: &mut Primary, held: &mut [u8], port: u64, data: &[u8]) -> Reply {
     if !p.in_range() || !exact(held.len(), p.q) {
         return refused(1);
     }
@@ -61,12 +61,15 @@ pub fn packet(p: &mut Primary, held: &mut [u8], data: &[u8]) -> Reply {
     if !(1..=1_514).contains(&length) {
         return refused(4);
     }
+    if port > MOST_PORT {
+        return refused(23);
+    }
     if p.packets == 64 || length > p.q - p.held {
         return refused(16);
     }
     let at = p.held as usize;
     held[at..at + data.len()].copy_from_slice(data);
-    p.queue[p.packets as usize] = Packet { epoch: p.open, length };
+    p.queue[p.packets as usize] = Packet { epoch: p.open, port: port as u16, length };
     p.packets += 1;
     p.held += length;
     accepted(p.packets)
@@ -135,21 +138,24 @@ pub fn ack(p: &mut Primary, data: &[u8]) -> Reply {
     }
 }
 
-pub fn take(p: &mut Primary, held: &mut [u8], destination: &mut [u8]) -> Reply {
+/// "That port's oldest packet goes out"; what is held behind it closes up.
+pub fn take(p: &mut Primary, held: &mut [u8], port: u64, destination: &mut [u8]) -> Reply {
     if !p.in_range() || !exact(held.len(), p.q) {
         return refused(1);
     }
-    if p.packets == 0 || !(p.alone || p.queue[0].epoch <= p.acknowledged) {
-        return refused(18);
+    if port > MOST_PORT {
+        return refused(23);
     }
-    let length = p.queue[0].length;
+    let Some(place) = p.free_of(port) else { return refused(18) };
+    let length = p.queue[place].length;
     let (count, packets) = (length as usize, p.packets as usize);
     if destination.len() < count {
         return refused(5);
     }
-    destination[..count].copy_from_slice(&held[..count]);
-    held.copy_within(count..p.held as usize, 0);
-    p.queue.copy_within(1..packets, 0);
+    let at = p.queue[..place].iter().map(|packet| packet.length as usize).sum();
+    destination[..count].copy_from_slice(&held[at..at + count]);
+    held.copy_within(at + count..p.held as usize, at);
+    p.queue.copy_within(place + 1..packets, place);
     p.queue[packets - 1] = Packet::default();
     p.packets -= 1;
     p.held -= length;

@@ -1,11 +1,12 @@
 //! The names of the parts of a call, for telling a difference.
-use crate::items::Item;
+use crate::items::{Item, PACKET_WORDS, PRIMARY_FIRST_WORDS};
 
 const SETTINGS: [&str; 8] = ["U", "M", "D", "B", "S", "Q", "L", "T"];
-const PRIMARY: [&str; 15] = [
+const PRIMARY: [&str; PRIMARY_FIRST_WORDS] = [
     "U", "M", "D", "B", "Q", "L", "T", "count of ticks", "open epoch", "acknowledged", "alone",
     "blocks of the open epoch", "waiting bytes", "packets held", "bytes held",
 ];
+const PACKET: [&str; PACKET_WORDS] = ["epoch", "length", "port"];
 const STANDBY: [&str; 11] =
     ["U", "M", "D", "B", "S", "T", "count of ticks", "mode", "last received epoch", "staged", "due"];
 const STANDBY_LAST: [&str; 4] = ["blocks of this epoch", "pages of this epoch", "next page", "STATE seen"];
@@ -39,13 +40,17 @@ pub fn item_name(item: Item) -> &'static str {
 pub fn word_name(item: Item, at: usize) -> String {
     let name = match (item, at) {
         (Item::Settings, 0..8) => SETTINGS[at].to_string(),
-        (Item::Primary, 0..15) => PRIMARY[at].to_string(),
-        (Item::Primary, _) if at % 2 == 1 => format!("packet {}'s epoch", (at - 15) / 2),
-        (Item::Primary, _) => format!("packet {}'s length", (at - 15) / 2),
+        (Item::Primary, 0..PRIMARY_FIRST_WORDS) => PRIMARY[at].to_string(),
+        (Item::Primary, _) => packet_word(at - PRIMARY_FIRST_WORDS),
         (Item::Standby, 0..11) => STANDBY[at].to_string(),
         (Item::Standby, 11..75) => format!("slot {}'s block number", at - 11),
         (Item::Standby, 75..79) => STANDBY_LAST[at - 75].to_string(),
         _ => format!("word {at}"),
     };
     format!("{}: {name}", item_name(item))
+}
+
+/// One word of a packet, counted from the first packet's on.
+fn packet_word(at: usize) -> String {
+    format!("packet {}'s {}", at / PACKET_WORDS, PACKET[at % PACKET_WORDS])
 }

@@ -2,7 +2,7 @@
 //! them and changes nothing, whatever else it is given.
 use crate::arguments::{arguments, fresh_world, small_settings, start_args};
 use crate::guarded::Guarded;
-use crate::items::{code, Item, PRIMARY_WORDS, STANDBY_WORDS};
+use crate::items::{code, Item, PACKET_WORDS, PRIMARY_FIRST_WORDS, PRIMARY_WORDS, STANDBY_WORDS};
 use crate::names::word_name;
 use crate::random::Random;
 use crate::singles::any_world;
@@ -12,13 +12,16 @@ use crate::sink::Sink;
 #[derive(Clone, Copy)]
 enum Field {
     Bits32,
+    Bits16,
     Flag,
     Mode,
 }
 
-/// The fields of a primary by their words: T, the count of ticks, two epochs, alone, and every packet's two numbers.
+/// The fields of a primary by their words: T, the count of ticks, two epochs, alone, and every packet's epoch, length
+/// and port.
 fn primary_fields() -> Vec<(usize, Field)> {
-    let packets = (15..PRIMARY_WORDS).map(|at| (at, Field::Bits32));
+    let packets = (PRIMARY_FIRST_WORDS..PRIMARY_WORDS).step_by(PACKET_WORDS);
+    let packets = packets.flat_map(|at| [(at, Field::Bits32), (at + 1, Field::Bits16), (at + 2, Field::Bits16)]);
     (6..10).map(|at| (at, Field::Bits32)).chain([(10, Field::Flag)]).chain(packets).collect()
 }
 
@@ -32,6 +35,7 @@ fn unfit(field: Field, word: u64) -> Vec<u64> {
     let mut numbers = vec![1 << 32, (1 << 32) + word, (1 << 32) + word + 1, 1 << 63, u64::MAX];
     match field {
         Field::Bits32 => {}
+        Field::Bits16 => numbers.extend([65_536, 65_536 + word, 65_537 + word, u32::MAX as u64]),
         Field::Flag => numbers.extend([2, 3, 256 + word, 65_536 + word, u32::MAX as u64]),
         Field::Mode => numbers.extend([3, 4, 256 + word, 65_536 + word, u32::MAX as u64]),
     }

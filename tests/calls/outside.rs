@@ -3,10 +3,11 @@ use crate::arguments::MOST;
 use crate::model::*;
 use crate::random::Random;
 
-pub const CLAUSES: u64 = 22;
+pub const CLAUSES: u64 = 23;
 
 /// Numbers of 64 bits that are small, or as the number given, when cut to 32. T, counts of ticks and epochs are fields
-/// of 32 bits, so they get none of these here: words with one that does not fit are no state (no_state.rs).
+/// of 32 bits, the lengths and ports of packets of 16, so they get none of these here: words with one that does not fit
+/// are no state (no_state.rs).
 fn wide(r: &Random, number: u64) -> u64 {
     let above = (1 << 32) + (number & 0xffff_ffff);
     r.pick(&[above, above, 1 << 63, u64::MAX, u64::MAX - 1])
@@ -43,7 +44,7 @@ pub fn push_primary(r: &Random, p: &mut Primary, clause: u64) -> bool {
         8 => p.t = r.pick(&[60_001, 65_536]),
         9 => return push_packets(r, p),
         10 => return push_packet_length(r, p, 0),
-        11 => return push_packet_length(r, p, r.pick(&[1_515, 1_515, 1_516, 65_536, u32::MAX as u64])),
+        11 => return push_packet_length(r, p, r.pick(&[1_515, 1_515, 1_516, 65_535])),
         12 => p.held = outside(r, p.held, &[p.held + 1, p.held + 1, p.held + 256]),
         13 if p.held > 0 => p.held -= 1,
         14 if p.held > 0 => p.q = p.held - 1,
@@ -59,6 +60,7 @@ pub fn push_primary(r: &Random, p: &mut Primary, clause: u64) -> bool {
         19 => p.blocks = outside(r, p.blocks, &[p.b + 1, p.b + 2, p.b + 64]),
         20 => (p.alone, p.count) = (true, p.t + r.pick(&[1, 2, 100])),
         21 => (p.alone, p.count) = (false, p.t),
+        22 if packets > 0 => p.queue[r.below(p.packets) as usize].port = r.pick(&[4, 4, 5, 255, 256, 257, 65_535]),
         _ => return false,
     }
     if matches!(clause % CLAUSES, 0 | 1 | 3) {
@@ -80,7 +82,7 @@ fn push_packets(r: &Random, p: &mut Primary) -> bool {
         return false;
     }
     p.packets = outside(r, 64, &[65, 65, 66, 128, u32::MAX as u64]);
-    p.queue = [Packet { epoch: p.acknowledged, length: 1 }; 64];
+    p.queue = [Packet { epoch: p.acknowledged, port: r.range(0, MOST_PORT) as u16, length: 1 }; 64];
     p.held = 64;
     true
 }

@@ -1,7 +1,7 @@
 //! The plain pair of document 01's "Whole runs". It is fed each call's arguments, number and value, and never
 //! sees an end's state or buffers.
 use crate::items::code;
-use crate::model::{is_commit, Reply};
+use crate::model::{is_commit, Reply, PORTS};
 use crate::world::Args;
 use std::rc::Rc;
 
@@ -9,8 +9,8 @@ pub struct Checkpoint {
     pub memory: Vec<u8>,
     pub disk: Vec<u8>,
     pub cpu: [u8; 64],
-    /// How many of the packets accepted belong to it.
-    pub packets: usize,
+    /// How many of the packets accepted of each port belong to it.
+    pub packets: [usize; PORTS],
 }
 
 #[derive(Clone)]
@@ -21,9 +21,11 @@ pub struct Plain {
     pub disk: Vec<u8>,
     pub standby_memory: Vec<u8>,
     pub standby_disk: Vec<u8>,
-    /// Every packet accepted; the first `left` of them have left.
-    pub packets: Vec<Rc<Vec<u8>>>,
-    pub left: usize,
+    /// Each port's queue, whole: every packet accepted, the first `left` of which have left, and the first `protected`
+    /// of these under protection.
+    pub packets: [Vec<Rc<Vec<u8>>>; PORTS],
+    pub left: [usize; PORTS],
+    pub protected: [usize; PORTS],
     pub checkpoints: Vec<Rc<Checkpoint>>,
     pub r: usize,
     pub a: usize,
@@ -34,7 +36,7 @@ pub struct Plain {
 impl Plain {
     /// After an accepted start with these images.
     pub fn start(args: &Args, memory: &[u8], disk: &[u8]) -> Plain {
-        let first = Checkpoint { memory: memory.to_vec(), disk: disk.to_vec(), cpu: args.cpu, packets: 0 };
+        let first = Checkpoint { memory: memory.to_vec(), disk: disk.to_vec(), cpu: args.cpu, packets: [0; PORTS] };
         Plain {
             u: args.settings.u as usize,
             t: args.settings.t,
@@ -42,8 +44,9 @@ impl Plain {
             disk: disk.to_vec(),
             standby_memory: Vec::new(),
             standby_disk: Vec::new(),
-            packets: Vec::new(),
-            left: 0,
+            packets: Default::default(),
+            left: [0; PORTS],
+            protected: [0; PORTS],
             checkpoints: vec![Rc::new(first)],
             r: 0,
             a: 0,
@@ -74,7 +77,7 @@ impl Plain {
         match which {
             code::MEMORY_WRITE => replace(&mut self.memory, byte, &a.data),
             code::DISK_WRITE => replace(&mut self.disk, block, &a.data),
-            code::PACKET => self.packets.push(Rc::new(a.data.clone())),
+            code::PACKET => self.packets[a.port as usize].push(Rc::new(a.data.clone())),
             code::CHECKPOINT => self.checkpoint(a.cpu),
             code::READ if is_commit(reply.value) => self.r += 1,
             code::ACK => {
@@ -82,7 +85,7 @@ impl Plain {
                 self.count = 0;
             }
             code::PRIMARY_TICK if self.a + 1 != self.checkpoints.len() => self.count += 1,
-            code::TAKE => self.left += 1,
+            code::TAKE => self.take(a.port as usize),
             code::ACTIVATION => self.activate(),
             code::STANDBY_MEMORY_WRITE => replace(&mut self.standby_memory, byte, &a.data),
             code::STANDBY_DISK_WRITE => replace(&mut self.standby_disk, block, &a.data),
@@ -91,8 +94,16 @@ impl Plain {
     }
 
     fn checkpoint(&mut self, cpu: [u8; 64]) {
-        let (memory, disk, packets) = (self.memory.clone(), self.disk.clone(), self.packets.len());
+        let (memory, disk, packets) = (self.memory.clone(), self.disk.clone(), self.packets.each_ref().map(Vec::len));
         self.checkpoints.push(Rc::new(Checkpoint { memory, disk, cpu, packets }));
+    }
+
+    /// "The oldest packet leaves, under protection unless alone": that port's.
+    fn take(&mut self, port: usize) {
+        self.left[port] += 1;
+        if !self.alone() {
+            self.protected[port] = self.left[port];
+        }
     }
 
     fn activate(&mut self) {

@@ -107,7 +107,7 @@ pub fn drain(sink: &mut Sink, both: &mut Both, n: u64) -> Check {
     accepted(sink, both, code::DRAIN, Args { n, out, ..Args::none() }).map(|_| ())
 }
 
-fn accepted(sink: &mut Sink, both: &mut Both, which: usize, args: Args) -> Result<Reply, String> {
+pub fn accepted(sink: &mut Sink, both: &mut Both, which: usize, args: Args) -> Result<Reply, String> {
     let reply = both.call(sink, which, args)?;
     if reply.number == 0 { Ok(reply) } else { Err(format!("code {which} is refused with {}", reply.number)) }
 }
@@ -132,7 +132,7 @@ fn make_room(sink: &mut Sink, both: &mut Both) -> Check {
 }
 
 /// The next record of the link is accepted, and the count is 0.
-fn read(sink: &mut Sink, both: &mut Both) -> Check {
+pub fn read(sink: &mut Sink, both: &mut Both) -> Check {
     let data = both.world.link[..head_record(&both.world.link)].to_vec();
     let kind = data[2] as u64;
     let reply = accepted(sink, both, code::READ, Args { data, out: vec![0; 8], ..Args::none() })?;

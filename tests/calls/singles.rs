@@ -68,13 +68,17 @@ fn some_count(r: &Random, t: u64, counting: bool) -> u64 {
     r.pick(&[0, most, most, r.range(0, most)])
 }
 
-/// Packets that fit into Q, with epochs that do not fall and are not above the open one.
+/// Packets that fit into Q, with epochs that do not fall and are not above the open one, of all ports, of two or of
+/// one. What stands behind them may be anything that fits its field.
 fn fill_queue(r: &Random, p: &mut Primary) {
     if r.percent(50) {
         for packet in p.queue.iter_mut() {
-            *packet = Packet { epoch: epoch(r), length: r.pick(&[r.below(2_000), r.below(2_000), r.below(1 << 32)]) };
+            let port = r.pick(&[r.below(4), 4, 65_535, r.below(1 << 16)]) as u16;
+            *packet = Packet { epoch: epoch(r), port, length: r.pick(&[r.below(2_000), 65_535, r.below(1 << 16)]) };
         }
     }
+    let (one, other) = (r.range(0, MOST_PORT) as u16, r.range(0, MOST_PORT) as u16);
+    let ports = r.pick(&[[0, 1, 2, 3], [0, 1, 2, 3], [one, one, one, other], [one; 4]]);
     let wanted = r.pick(&[0, 1, 1, 2, 3, r.range(0, 64), 63, 64]);
     let tiny = r.percent(50);
     let mut epochs = r.pick(&[0, p.acknowledged, p.acknowledged, p.acknowledged + 1, p.open]);
@@ -86,7 +90,7 @@ fn fill_queue(r: &Random, p: &mut Primary) {
         let length = if tiny { 1 } else { r.pick(&[1, 2, r.range(1, 30), r.range(1, 1_514), 1_514, room]) };
         let length = length.min(room).min(1_514);
         epochs = if r.percent(20) { r.range(epochs as u64, p.open as u64) as u32 } else { epochs };
-        p.queue[at] = Packet { epoch: epochs, length };
+        p.queue[at] = Packet { epoch: epochs, port: r.pick(&ports), length };
         p.packets += 1;
         p.held += length;
     }

@@ -4,7 +4,9 @@ use crate::checker::{compare, compare_answer, compare_lent, Check};
 use crate::items::code;
 use crate::kinds::{unit_number, Kinds};
 use crate::lent::Lent;
-use crate::model::{Reply, Standby, CUT_SHORT};
+use crate::model::{Reply, Standby};
+use crate::numbers::Numbers;
+use crate::ports::Ports;
 use crate::print_form::{input_line, Output};
 use crate::view::View;
 use crate::world::{run, Args, World};
@@ -29,8 +31,10 @@ pub struct Sink {
     pub kind: &'static str,
     /// The calls made, the one under way among them.
     pub calls: u64,
-    /// How often each number came, by call code; cut short is counted at 21.
-    pub seen: [[u64; code::ALL]; 22],
+    /// Which numbers came, by call code.
+    pub numbers: Numbers,
+    /// What packets and takes did to the packets of each port.
+    pub ports: Ports,
     /// How many records of each kind were accepted by a read.
     pub records: [u64; 10],
     /// What reads gave by the record's kind.
@@ -51,7 +55,8 @@ impl Sink {
             seed,
             kind: "",
             calls: 0,
-            seen: [[0; code::ALL]; 22],
+            numbers: Numbers::default(),
+            ports: Ports::default(),
             records: [0; 10],
             kinds: Kinds::default(),
             by_count: [0; 3],
@@ -69,6 +74,10 @@ impl Sink {
         let reply = run(which, w, a);
         let check = compare(which, &self.lent, answer, &reply, &View::new(w, a));
         self.end_at_difference(which, check);
+        if matches!(which, code::PACKET | code::TAKE) && reply.number != 1 {
+            let check = self.ports.check(which, reply.number, &self.before, &self.lent);
+            self.end_at_difference(which, check);
+        }
         self.note_text(which, answer);
         self.note(which, &reply, w, a);
         reply
@@ -90,8 +99,7 @@ impl Sink {
 
     /// Counts what a call that was compared gave.
     pub fn note(&mut self, which: usize, reply: &Reply, w: &World, a: &Args) {
-        let row = if reply.number == CUT_SHORT { 21 } else { reply.number as usize };
-        self.seen[row][which] += 1;
+        self.numbers.note(which, reply.number);
         if which != code::READ {
             return;
         }

@@ -1,5 +1,5 @@
 //! The model's world and a call's arguments as the words and bytes of the C interface.
-use crate::items::{given, Item, PRIMARY_WORDS, SETTINGS_WORDS, STANDBY_WORDS};
+use crate::items::{given, Item, PACKET_WORDS, PRIMARY_FIRST_WORDS, PRIMARY_WORDS, SETTINGS_WORDS, STANDBY_WORDS};
 use crate::lent::Lent;
 use crate::model::{Mode, Primary, Settings, Standby};
 use crate::world::{Args, World};
@@ -51,7 +51,8 @@ impl<'a> View<'a> {
         match item {
             Item::Place => self.a.place,
             Item::Offset => self.a.offset,
-            _ => self.a.n,
+            Item::N => self.a.n,
+            _ => self.a.port,
         }
     }
 
@@ -80,12 +81,12 @@ fn settings_words(s: &Settings) -> [u64; SETTINGS_WORDS] {
 
 fn primary_words(p: &Primary) -> [u64; PRIMARY_WORDS] {
     let mut words = [0; PRIMARY_WORDS];
-    words[..15].copy_from_slice(&[
+    words[..PRIMARY_FIRST_WORDS].copy_from_slice(&[
         p.u, p.m, p.d, p.b, p.q, p.l, p.t, p.count, p.open as u64, p.acknowledged as u64, p.alone as u64, p.blocks,
         p.waiting, p.packets, p.held,
     ]);
-    for (entry, packet) in words[15..].chunks_exact_mut(2).zip(&p.queue) {
-        entry.copy_from_slice(&[packet.epoch as u64, packet.length]);
+    for (entry, packet) in words[PRIMARY_FIRST_WORDS..].chunks_exact_mut(PACKET_WORDS).zip(&p.queue) {
+        entry.copy_from_slice(&[packet.epoch as u64, packet.length, packet.port as u64]);
     }
     words
 }

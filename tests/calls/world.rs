@@ -33,6 +33,7 @@ pub struct Args {
     pub place: u64,
     pub offset: u64,
     pub n: u64,
+    pub port: u64,
     pub data: Vec<u8>,
     pub out: Vec<u8>,
 }
@@ -40,7 +41,7 @@ pub struct Args {
 impl Args {
     pub fn none() -> Args {
         let settings = Settings::default();
-        Args { settings, cpu: [0; 64], place: 0, offset: 0, n: 0, data: Vec::new(), out: Vec::new() }
+        Args { settings, cpu: [0; 64], place: 0, offset: 0, n: 0, port: 0, data: Vec::new(), out: Vec::new() }
     }
 }
 
@@ -51,11 +52,11 @@ pub fn run(which: usize, w: &mut World, a: &mut Args) -> Reply {
         code::START => run_start(w, a),
         code::MEMORY_WRITE => memory_write(p, &mut w.memory, &mut w.marks, a.place, a.offset, &a.data),
         code::DISK_WRITE => disk_write(p, &mut w.disk, &mut w.stream, a.place, &a.data),
-        code::PACKET => packet(p, &mut w.held, &a.data),
+        code::PACKET => packet(p, &mut w.held, a.port, &a.data),
         code::CHECKPOINT => checkpoint(p, &w.memory, &mut w.marks, &mut w.stream, &a.cpu),
         code::DRAIN => drain(p, &mut w.stream, a.n, &mut a.out),
         code::ACK => ack(p, &a.data),
-        code::TAKE => take(p, &mut w.held, &mut a.out),
+        code::TAKE => take(p, &mut w.held, a.port, &mut a.out),
         code::PRIMARY_TICK => primary_tick(p),
         code::READ => {
             let mut lent = Staging {

@@ -17,14 +17,14 @@
 #define NAMED(line) JOINED(check_, line)
 #define STATIC_CHECK(condition) typedef char NAMED(__LINE__)[(condition) ? 1 : -1]
 
-/* FORM.md: "A primary is 143 numbers". */
+/* FORM.md: "A primary is 207 numbers". */
 STATIC_CHECK(PRIMARY_U == 0 && PRIMARY_M == 1 && PRIMARY_D == 2 && PRIMARY_B == 3);
 STATIC_CHECK(PRIMARY_Q == 4 && PRIMARY_L == 5 && PRIMARY_T == 6 && PRIMARY_TICKS == 7);
 STATIC_CHECK(PRIMARY_EPOCH == 8 && PRIMARY_ACKNOWLEDGED == 9 && PRIMARY_ALONE == 10);
 STATIC_CHECK(PRIMARY_BLOCKS == 11 && PRIMARY_WAITING == 12);
 STATIC_CHECK(PRIMARY_HELD_PACKETS == 13 && PRIMARY_HELD_BYTES == 14 && PRIMARY_PACKETS == 15);
-STATIC_CHECK(PACKET_EPOCH == 0 && PACKET_LENGTH == 1 && PACKET_WORDS == 2);
-STATIC_CHECK(PRIMARY_WORDS == 143 && PRIMARY_WORDS == 15 + 64 * 2);
+STATIC_CHECK(PACKET_EPOCH == 0 && PACKET_LENGTH == 1 && PACKET_PORT == 2 && PACKET_WORDS == 3);
+STATIC_CHECK(PRIMARY_WORDS == 207 && PRIMARY_WORDS == 15 + 64 * 3);
 
 /* FORM.md: "A standby is 79 numbers and two processor states". */
 STATIC_CHECK(STANDBY_U == 0 && STANDBY_M == 1 && STANDBY_D == 2 && STANDBY_B == 3);
@@ -63,6 +63,9 @@ STATIC_CHECK(LEAST_STREAM(64, 4096, 2) == 4096 * 74 + 2 * 74 + 84);
 STATIC_CHECK(LEAST_STREAM(64, 4097, 2) == 4097 * 76 + 2 * 74 + 88);
 STATIC_CHECK(LEAST_STREAM(64, 4097, 0) == 4097 * 76 + 88);
 STATIC_CHECK(LEAST_STREAM(4096, 65536, 64) == 269484760);
+
+/* Document 02's Job 6: ports 0 to 3, and 23 above. */
+STATIC_CHECK(MOST_PORT == 3 && NUMBER_NO_SUCH_PORT == 23);
 
 /* The macros take expressions, and are parts of expressions. */
 STATIC_CHECK(2 * PAGE_BYTES(32 + 32, 4096 + 1) == 152 && 2 * COMMIT_BYTES(4096 + 1) == 32);
@@ -249,7 +252,48 @@ static void accepted_start(void)
     CHECK(s.state[STANDBY_RECEIVED], 0);
 }
 
-/* Page 65, block 4, a packet of 11 bytes, and checkpoint 1. */
+static uint64_t send_packet(size_t port, const uint8_t *packet, size_t length)
+{
+    return primary_packet(LENT(p.state), LENT(p.held), port, packet, length);
+}
+
+static uint64_t take_packet(size_t port)
+{
+    return primary_take(LENT(p.state), LENT(p.held), port, LENT(bytes));
+}
+
+/* A port is compared whole: 4, and numbers that a narrower type would cut to 0 or 1. */
+static void no_such_port(void)
+{
+    static const size_t ports[] = {4, 255, 256, 65536, 65537, (size_t)1 << 32, SIZE_MAX};
+
+    for (size_t i = 0; i < sizeof ports / sizeof ports[0]; i++) {
+        check_answer("a packet", send_packet(ports[i], bytes, 1), NUMBER_NO_SUCH_PORT, 0);
+        check_answer("a take", take_packet(ports[i]), NUMBER_NO_SUCH_PORT, 0);
+    }
+    check_answer("no packet", send_packet(4, bytes, 0), NUMBER_BAD_PACKET, 0);
+}
+
+/* A packet of 9 bytes by port 3 and one of 11 by port 1. All ports share the Q bytes. */
+static void packets(void)
+{
+    const uint64_t *second = p.state + PRIMARY_PACKETS + PACKET_WORDS;
+
+    check_answer("packet", send_packet(3, state_bytes, 9), 0, 1);
+    check_answer("packet", send_packet(1, bytes, 11), 0, 2);
+    check_answer("packet", send_packet(0, bytes, Q - 20 + 1), NUMBER_QUEUE_FULL, 0);
+    no_such_port();
+    CHECK(p.state[PRIMARY_HELD_PACKETS], 2);
+    CHECK(p.state[PRIMARY_HELD_BYTES], 20);
+    CHECK(p.state[PRIMARY_PACKETS + PACKET_EPOCH], 1);
+    CHECK(p.state[PRIMARY_PACKETS + PACKET_LENGTH], 9);
+    CHECK(p.state[PRIMARY_PACKETS + PACKET_PORT], 3);
+    CHECK(second[PACKET_EPOCH], 1);
+    CHECK(second[PACKET_LENGTH], 11);
+    CHECK(second[PACKET_PORT], 1);
+}
+
+/* Page 65, block 4, the two packets, and checkpoint 1. */
 static void first_epoch(void)
 {
     memset(bytes, 7, sizeof bytes);
@@ -262,18 +306,13 @@ static void first_epoch(void)
                  bytes, U), 0, 1);
     CHECK(p.state[PRIMARY_BLOCKS], 1);
     CHECK(p.state[PRIMARY_WAITING], U + 10);
-    check_answer("packet", primary_packet(LENT(p.state), LENT(p.held), bytes, 11), 0, 1);
-    CHECK(p.state[PRIMARY_HELD_PACKETS], 1);
-    CHECK(p.state[PRIMARY_HELD_BYTES], 11);
-    CHECK(p.state[PRIMARY_PACKETS + PACKET_EPOCH], 1);
-    CHECK(p.state[PRIMARY_PACKETS + PACKET_LENGTH], 11);
+    packets();
     check_answer("checkpoint", primary_checkpoint(LENT(p.state), LENT(p.memory), LENT(p.dirty),
                  LENT(p.stream), state_bytes), 0, 1);
     CHECK(p.state[PRIMARY_EPOCH], 2);
     check_answer("tick", primary_tick(LENT(p.state)), 0, 0);
     CHECK(p.state[PRIMARY_TICKS], 1);
-    check_answer("take", primary_take(LENT(p.state), LENT(p.held), LENT(bytes)),
-                 NUMBER_NOTHING_FREE, 0);
+    check_answer("take", take_packet(3), NUMBER_NOTHING_FREE, 0);
     check_answer("drain", primary_drain(LENT(p.state), LENT(p.stream), L, LENT(link_bytes)), 0,
                  2 * (U + 10) + 84);
     CHECK(p.state[PRIMARY_WAITING], 0);
@@ -473,7 +512,25 @@ static void acknowledged(void)
     CHECK(p.state[PRIMARY_ACKNOWLEDGED], 1);
     CHECK(p.state[PRIMARY_TICKS], 0);
     check_answer("ACK again", primary_acknowledge(LENT(p.state), LENT(reply)), NUMBER_BAD_ACK, 0);
-    check_answer("take", primary_take(LENT(p.state), LENT(p.held), LENT(bytes)), 0, 11);
+}
+
+/* Port 1's packet leaves from behind port 3's, for which a destination of 10 would be enough. */
+static void taken_by_port(void)
+{
+    check_answer("take", take_packet(0), NUMBER_NOTHING_FREE, 0);
+    check_answer("take", primary_take(LENT(p.state), LENT(p.held), 1, bytes, 10), NUMBER_NO_ROOM,
+                 0);
+    memset(bytes, 0xee, sizeof bytes);
+    check_answer("take", take_packet(1), 0, 11);
+    CHECK(all_are(bytes, 11, 7) && all_are(bytes + 11, sizeof bytes - 11, 0xee), 1);
+    CHECK(all_are(p.held, 9, 8), 1);
+    CHECK(p.state[PRIMARY_HELD_PACKETS], 1);
+    CHECK(p.state[PRIMARY_HELD_BYTES], 9);
+    CHECK(p.state[PRIMARY_PACKETS + PACKET_PORT], 3);
+    CHECK(all_are(p.state + PRIMARY_PACKETS + PACKET_WORDS, PACKET_WORDS * 8, 0), 1);
+    check_answer("take", take_packet(1), NUMBER_NOTHING_FREE, 0);
+    check_answer("take", take_packet(3), 0, 9);
+    CHECK(all_are(bytes, 9, 8), 1);
 }
 
 static uint64_t activate(void)
@@ -534,11 +591,33 @@ static void no_state(uint64_t *words, size_t count, size_t at, uint64_t word)
     words[at] = before;
 }
 
+/* A packet's epoch is a field of 32 bits, its length and its port are fields of 16. */
+static void no_packet(size_t at)
+{
+    const uint64_t *packet = p.state + at;
+
+    no_state(p.state, PRIMARY_WORDS, at + PACKET_EPOCH,
+             (UINT64_C(1) << 32) + packet[PACKET_EPOCH]);
+    no_state(p.state, PRIMARY_WORDS, at + PACKET_LENGTH, 65536 + packet[PACKET_LENGTH]);
+    no_state(p.state, PRIMARY_WORDS, at + PACKET_PORT, 65536 + packet[PACKET_PORT]);
+}
+
+/* A held packet of port 4, and one of port 3. */
+static void port_out_of_range(void)
+{
+    uint64_t *packet = p.state + PRIMARY_PACKETS;
+
+    check_answer("packet", send_packet(3, bytes, 1), 0, 1);
+    packet[PACKET_PORT] = 4;
+    check_answer("a tick with port 4 held", primary_tick(LENT(p.state)), NUMBER_OUT_OF_RANGE, 0);
+    packet[PACKET_PORT] = 3;
+    check_answer("a tick with port 3 held", primary_tick(LENT(p.state)), 0, 0);
+}
+
 static void words_that_are_no_state(void)
 {
     static const size_t primary_fields[] = {PRIMARY_T, PRIMARY_TICKS, PRIMARY_EPOCH,
-                                            PRIMARY_ACKNOWLEDGED, PRIMARY_PACKETS,
-                                            PRIMARY_PACKETS + 1, PRIMARY_WORDS - 1};
+                                            PRIMARY_ACKNOWLEDGED};
     static const size_t standby_fields[] = {STANDBY_T, STANDBY_TICKS, STANDBY_RECEIVED};
     const uint64_t large = UINT64_C(1) << 32;
 
@@ -546,11 +625,13 @@ static void words_that_are_no_state(void)
         no_state(p.state, PRIMARY_WORDS, primary_fields[i], large + p.state[primary_fields[i]]);
     for (size_t i = 0; i < sizeof standby_fields / sizeof standby_fields[0]; i++)
         no_state(s.state, STANDBY_WORDS, standby_fields[i], large + s.state[standby_fields[i]]);
+    for (size_t i = 0; i < MOST_PACKETS; i++)
+        no_packet(PRIMARY_PACKETS + i * PACKET_WORDS);
     no_state(p.state, PRIMARY_WORDS, PRIMARY_ALONE, 2);
     no_state(s.state, STANDBY_WORDS, STANDBY_MODE, 3);
     no_state(s.state, STANDBY_WORDS, STANDBY_STATE_SEEN, 2);
-    check_answer("142 words", primary_tick(p.state, 142), NUMBER_OUT_OF_RANGE, 0);
-    check_answer("143 words", primary_tick(p.state, 143), 0, 0);
+    check_answer("206 words", primary_tick(p.state, 206), NUMBER_OUT_OF_RANGE, 0);
+    check_answer("207 words", primary_tick(p.state, 207), 0, 0);
     check_answer("78 words", standby_tick(s.state, 78, s.pending, s.processor,
                  LENT(s.staged_marks)), NUMBER_OUT_OF_RANGE, 0);
     check_answer("79 words", standby_tick(s.state, 79, s.pending, s.processor,
@@ -570,8 +651,10 @@ int main(void)
     headers_of_the_other_end();
     wide_records();
     acknowledged();
+    taken_by_port();
     takeover();
     active();
+    port_out_of_range();
     words_that_are_no_state();
     printf("%u passed, %u failed\n", passed, failed);
     return failed != 0;

@@ -3,9 +3,10 @@
 //! commands. It is made for reading, not for speed, and shares nothing with the program that it is
 //! compared with.
 //!
-//! What 01 has and `pair` has no command for is left out: the primary's tick (so the primary is
-//! never alone), guest writes at an active standby, the disk choice. Lent lengths are always
-//! right here, so number 1 is printed for a malformed line only.
+//! What the documents have and `pair` has no command for is left out: the primary's tick (so the
+//! primary is never alone), guest writes at an active standby, the disk choice, and ports: "`pair`
+//! uses port 0", so its packets are one queue. Lent lengths are always right here, so number 1 is
+//! printed for a malformed line only.
 
 use std::collections::VecDeque;
 
