@@ -47,13 +47,16 @@ int has_record(const struct connection *c)
     return c->in_length > 0 && c->missing == 0;
 }
 
-void wait_until(int64_t due, struct connection *c, int other)
+void wait_until(int64_t due, struct connection *c, const int *others, size_t count)
 {
     int events = (has_record(c) ? 0 : POLLIN) | (c->out_length > 0 ? POLLOUT : 0);
-    struct pollfd fds[] = {{c->fd, (short)events, 0}, {other, POLLOUT, 0}};
+    struct pollfd fds[1 + count];
     int64_t now = milliseconds();
 
-    if (poll(fds, 2, due > now ? (int)(due - now) : 0) < 0 && errno != EINTR)
+    fds[0] = (struct pollfd){c->fd, (short)events, 0};
+    for (size_t i = 0; i < count; i++)
+        fds[1 + i] = (struct pollfd){others[i], POLLOUT, 0};
+    if (poll(fds, 1 + count, due > now ? (int)(due - now) : 0) < 0 && errno != EINTR)
         die("poll");
     c->has_bytes = (fds[0].revents & ~POLLOUT) != 0; /* or their end, or an error */
 }

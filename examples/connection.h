@@ -33,12 +33,13 @@ int has_record(const struct connection *c);
 
 /*
  * Sleeps until the time has come, or the connection has bytes (not while a whole record is there),
- * or it can send (only where some are left), or the other socket can send (one below 0 never can).
+ * or it can send (only where some are left), or one of the other sockets can send (one below 0
+ * never can).
  *
  * poll(2) ends this sleep and says whether there is something to receive. A record is tested again
  * only when all the bytes have come that were missing.
  */
-void wait_until(int64_t due, struct connection *c, int other);
+void wait_until(int64_t due, struct connection *c, const int *others, size_t count);
 
 /*
  * Takes in what has come of the missing bytes, and no byte behind them. Returns whether none is

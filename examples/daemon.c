@@ -60,7 +60,7 @@ static uint64_t step_at_primary(struct primary *p, const struct step *s)
         return primary_disk_write(LENT(p->state), LENT(p->disk), LENT(p->stream), s->unit,
                                   s->bytes, s->length);
     default:
-        return primary_packet(LENT(p->state), LENT(p->held), s->bytes, s->length);
+        return primary_packet(LENT(p->state), LENT(p->held), s->unit, s->bytes, s->length);
     }
 }
 
@@ -125,19 +125,24 @@ static void read_acks(struct primary *p)
     }
 }
 
-/* Hands every packet that may leave to the network. One that it does not take now is kept. */
-static void release_packets(struct primary *p)
+/*
+ * Hands every packet of the port that may leave to its cable. One that the cable does not take now
+ * is kept: returns the cable then, else -1.
+ */
+static int release_packets(struct primary *p, size_t port)
 {
+    struct card *c = &p->cards[port];
+
     for (;;) {
-        if (p->packet_length == 0) {
-            uint64_t answer = primary_take(LENT(p->state), LENT(p->held), LENT(p->packet));
+        if (c->packet_length == 0) {
+            uint64_t answer = primary_take(LENT(p->state), LENT(p->held), port, LENT(c->packet));
             if (answer_number(answer) == NUMBER_NOTHING_FREE)
-                return;
-            p->packet_length = accepted(answer, "take");
+                return -1;
+            c->packet_length = accepted(answer, "take");
         }
-        if (!send_packet(p->network, p->packet, p->packet_length))
-            return;
-        p->packet_length = 0;
+        if (!send_packet(c->cable, c->packet, c->packet_length))
+            return c->cable;
+        c->packet_length = 0;
     }
 }
 
@@ -148,12 +153,13 @@ static void release_packets(struct primary *p)
 void run_primary(struct primary *p)
 {
     int64_t guest = milliseconds(), checkpoint = guest, tick = guest; /* when each was last */
+    int full[PORTS]; /* the cables for which a packet is kept, or -1 */
 
     while (!p->state[PRIMARY_ALONE]) {
-        wait_until(guest + GUEST_MS, /* the guest's time comes first */
-                   &p->link, p->packet_length > 0 ? p->network : -1);
+        for (size_t port = 0; port < PORTS; port++) /* a full cable holds back no other port's */
+            full[port] = release_packets(p, port);
+        wait_until(guest + GUEST_MS, &p->link, LENT(full)); /* the guest's time comes first */
         read_acks(p);
-        release_packets(p);
         if (is_due(&guest, GUEST_MS))
             run_guest(p);
         if (is_due(&checkpoint, CHECKPOINT_MS))
@@ -250,7 +256,7 @@ uint32_t run_standby(struct standby *s)
 
     while (s->state[STANDBY_MODE] == MODE_RECEIVING) {
         int64_t tick_ms = s->link.fd >= 0 ? STANDBY_TICK_MS : LINK_DOWN_TICK_MS;
-        wait_until(tick + tick_ms, &s->link, -1);
+        wait_until(tick + tick_ms, &s->link, NULL, 0);
         transmit(&s->link); /* first: a record is left unread until there is space for its ACK */
         read_records(s);
         if (is_due(&disk, FLUSH_MS))

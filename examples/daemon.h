@@ -22,13 +22,20 @@ enum { U = 256, M = GUEST_PAGES, D = 16, B = 4, S = 8, Q = 4096, T = 5 };
 #define LEAST_L LEAST_STREAM(U, GUEST_PAGES, B)
 enum { L = LEAST_L > 65536 ? LEAST_L : 65536 };
 
+enum { PORTS = MOST_PORT + 1 };
+
+/* A network card, by which the packets of one port leave. Each has a cable of its own. */
+struct card {
+    int cable;                         /* a socket of packets */
+    uint8_t packet[MOST_PACKET_BYTES]; /* one that was taken and that the cable has not yet */
+    size_t packet_length;
+};
+
 struct primary {
     uint64_t state[PRIMARY_WORDS], dirty[MARK_WORDS(M)];
     uint8_t memory[M * U], disk[D * U], held[Q], stream[L];
     struct connection link;
-    int network;                       /* a socket of packets */
-    uint8_t packet[MOST_PACKET_BYTES]; /* one that was taken and that the network has not yet */
-    size_t packet_length;
+    struct card cards[PORTS]; /* by port */
     uint64_t steps; /* that the guest has made */
 };
 

@@ -21,11 +21,12 @@ static void random_bytes(uint64_t *state, uint8_t *bytes, size_t length)
 
 void make_step(uint64_t n, struct step *s)
 {
+    static const size_t units[] = {[MEMORY_WRITE] = M, [DISK_WRITE] = D, [PACKET] = PORTS};
     uint64_t random = (n + 40) << 32; /* 40: so that a block is among the first steps */
     unsigned choice = next_random(&random) % 16;
 
     s->action = choice == 0 ? DISK_WRITE : choice <= 3 ? PACKET : MEMORY_WRITE;
-    s->unit = next_random(&random) % (s->action == DISK_WRITE ? D : M);
+    s->unit = next_random(&random) % units[s->action];
     s->offset = s->action == MEMORY_WRITE ? next_random(&random) % U : 0;
     s->length = s->action == DISK_WRITE ? U : 1 + next_random(&random) % (U - s->offset);
     random_bytes(&random, s->bytes, s->length);
@@ -91,12 +92,12 @@ int processor_equal(uint64_t n, const uint8_t processor[PROCESSOR_BYTES])
     return equal("processor state", processor, wanted, PROCESSOR_BYTES);
 }
 
-int is_next_packet(uint64_t *steps, const uint8_t *packet, size_t length)
+int is_next_packet(uint64_t *steps, size_t port, const uint8_t *packet, size_t length)
 {
     struct step s;
 
     do
         make_step((*steps)++, &s);
-    while (s.action != PACKET);
+    while (s.action != PACKET || s.unit != port);
     return s.length == length && memcmp(s.bytes, packet, length) == 0;
 }

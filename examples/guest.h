@@ -17,7 +17,7 @@ enum action { MEMORY_WRITE, DISK_WRITE, PACKET };
 
 struct step {
     enum action action;
-    size_t unit, offset, length; /* page or block, where in it, how many bytes */
+    size_t unit, offset, length; /* page, block or port; where in it; how many bytes */
     uint8_t bytes[U];
 };
 
@@ -35,7 +35,7 @@ void images_after(uint64_t n, uint8_t memory[M * U], uint8_t disk[D * U]);
 int images_equal(uint64_t n, const uint8_t memory[M * U], const uint8_t disk[D * U]);
 int processor_equal(uint64_t n, const uint8_t processor[PROCESSOR_BYTES]);
 
-/* Whether this is the first packet that the guest sends after these steps. Counts up to that. */
-int is_next_packet(uint64_t *steps, const uint8_t *packet, size_t length);
+/* Whether this is the guest's first packet of the port after these steps. Counts up to that. */
+int is_next_packet(uint64_t *steps, size_t port, const uint8_t *packet, size_t length);
 
 #endif

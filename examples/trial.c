@@ -4,9 +4,9 @@
  * The parent process is the standby's box; the primary's box and the far side of the network are
  * its children. At the place that the command line says the primary is killed; the standby takes
  * over, and its memory, disk and processor state are compared with what the guest had at that
- * checkpoint. Every packet that had left must have been sent before that checkpoint. No record may
- * have been tested before the bytes had come that were missing at its last test, and every PAGE and
- * COMMIT must have been of the width that the guest's pages call for.
+ * checkpoint. Every packet that had left, by the cable of its port, must have been sent before that
+ * checkpoint. No record may have been tested before the bytes had come that were missing at its
+ * last test, and every PAGE and COMMIT must have been of the width that the guest's pages call for.
  *
  *     daemon N           kills the primary after the standby has read N records
  *     daemon N KIND      the same after N records of a KIND: page, block, state or commit
@@ -22,6 +22,7 @@
 
 #include "trial.h"
 
+#include <poll.h>
 #include <signal.h>
 #include <stdio.h>
 #include <stdlib.h>
@@ -64,8 +65,8 @@ static pid_t primary_process, network_process;
 /* What the children tell the parent. */
 static struct {
     uint64_t steps_at[EPOCHS_KEPT]; /* the guest's at each checkpoint */
-    uint64_t packet_steps;          /* its steps up to the last packet that left */
-    unsigned packets;
+    uint64_t packet_steps[PORTS];   /* its steps up to the last packet that left by each port */
+    unsigned packets[PORTS];
     struct tests ack_tests;         /* at the primary, where each is a call of an end */
 } *shared;
 
@@ -101,13 +102,20 @@ static int read_place(int argc, char **argv)
 
 /* ---- The processes. ---- */
 
-static pid_t start_process(int type, int ends[2])
+static void make_sockets(int type, int *one, int *other)
 {
-    pid_t process;
+    int ends[2];
 
     if (socketpair(AF_UNIX, type, 0, ends) != 0)
         die("socketpair");
-    process = fork();
+    *one = ends[0];
+    *other = ends[1];
+}
+
+static pid_t start_process(void)
+{
+    pid_t process = fork();
+
     if (process < 0)
         die("fork");
     return process;
@@ -122,52 +130,77 @@ static int end_of(pid_t process)
     return status;
 }
 
-/* The far side: every packet must be the guest's, in its order. Ends when the primary is gone. */
-static void run_network(int fd)
+/* The next packet of a port must be the guest's. Returns 0 when there is none any more. */
+static int receive_packet(int cable, unsigned port)
 {
     uint8_t packet[MOST_PACKET_BYTES];
-    ssize_t length;
+    ssize_t length = recv(cable, packet, sizeof packet, 0);
 
-    while ((length = recv(fd, packet, sizeof packet, 0)) > 0) {
-        shared->packets++;
-        if (!is_next_packet(&shared->packet_steps, packet, (size_t)length)) {
-            printf("packet %u that left is not the guest's\n", shared->packets);
-            exit(1);
-        }
-    }
     if (length < 0)
         die("recv");
+    if (length == 0)
+        return 0;
+    shared->packets[port]++;
+    if (is_next_packet(&shared->packet_steps[port], port, packet, (size_t)length))
+        return 1;
+    printf("packet %u that left by port %u is not the guest's\n", shared->packets[port], port);
+    exit(1);
+}
+
+/* The far side of the cables. Ends when the primary is gone. */
+static void run_network(const int cables[PORTS])
+{
+    struct pollfd fds[PORTS];
+    unsigned left = PORTS;
+
+    for (unsigned port = 0; port < PORTS; port++)
+        fds[port] = (struct pollfd){cables[port], POLLIN, 0};
+    while (left > 0) {
+        if (poll(fds, PORTS, -1) < 0)
+            die("poll");
+        for (unsigned port = 0; port < PORTS; port++)
+            if (fds[port].revents != 0 && !receive_packet(fds[port].fd, port)) {
+                fds[port].fd = -1; /* poll(2) does not look at it any more */
+                left--;
+            }
+    }
     exit(0);
+}
+
+static void close_cables(const struct primary *p)
+{
+    for (unsigned port = 0; port < PORTS; port++)
+        close(p->cards[port].cable);
 }
 
 /* Each process closes the ends that it does not use: else none would see that another is gone. */
 static void start_processes(struct primary *p, struct standby *s)
 {
-    int network[2], link[2];
+    int far[PORTS];
 
     shared = mmap(NULL, sizeof *shared, PROT_READ | PROT_WRITE, MAP_SHARED | MAP_ANONYMOUS, -1, 0);
     if (shared == MAP_FAILED)
         die("mmap");
-    network_process = start_process(SOCK_SEQPACKET, network);
+    for (unsigned port = 0; port < PORTS; port++)
+        make_sockets(SOCK_SEQPACKET, &p->cards[port].cable, &far[port]);
+    network_process = start_process();
     if (network_process == 0) {
-        close(network[0]);
-        run_network(network[1]);
+        close_cables(p);
+        run_network(far);
     }
-    close(network[1]);
-    primary_process = start_process(SOCK_STREAM, link);
+    for (unsigned port = 0; port < PORTS; port++)
+        close(far[port]);
+    make_sockets(SOCK_STREAM, &p->link.fd, &s->link.fd);
+    p->link.most_moved = s->link.most_moved = most_moved;
+    primary_process = start_process();
     if (primary_process == 0) {
         prctl(PR_SET_PDEATHSIG, SIGKILL); /* a stopped primary does not outlive the program */
-        close(link[1]);
-        p->network = network[0];
-        p->link.fd = link[0];
-        p->link.most_moved = most_moved;
+        close(s->link.fd);
         run_primary(p);
         exit(0);
     }
-    close(network[0]);
-    close(link[0]);
-    s->link.fd = link[1];
-    s->link.most_moved = most_moved;
+    close_cables(p);
+    close(p->link.fd);
 }
 
 /* ---- The loss of the primary. ---- */
@@ -255,10 +288,11 @@ static int has_checkpoint(const struct primary *p, const struct standby *s, uint
         printf("checkpoint %u is not the last received, or its disk not the valid one\n", epoch);
         good = 0;
     }
-    if (shared->packet_steps > steps) {
-        printf("a packet left that was sent after checkpoint %u\n", epoch);
-        good = 0;
-    }
+    for (unsigned port = 0; port < PORTS; port++)
+        if (shared->packet_steps[port] > steps) {
+            printf("a packet left by port %u that was sent after checkpoint %u\n", port, epoch);
+            good = 0;
+        }
     return good;
 }
 
@@ -323,6 +357,9 @@ int main(int argc, char **argv)
         !images_equal(run_guest_at_standby(&standby), standby.memory, standby.disk))
         return 1;
     printf("took over checkpoint %u: memory, disk and processor state equal; "
-           "%u packets left before it\n", epoch, shared->packets);
+           "packets that left before it, by port:", epoch);
+    for (unsigned port = 0; port < PORTS; port++)
+        printf(" %u", shared->packets[port]);
+    printf("\n");
     return 0;
 }

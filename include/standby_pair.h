@@ -44,7 +44,7 @@
  *   disk (of each end)        uint8_t   D * U              block b from byte b * U on
  *   dirty                     uint64_t  MARK_WORDS(M)      page p: bit p mod 64 of word p div 64;
  *                                                          bits past M are ignored and kept
- *   held                      uint8_t   Q                  the held packets, oldest first
+ *   held                      uint8_t   Q                  packets of all ports, oldest first
  *   stream                    uint8_t   L                  the records that wait for drain
  *   staged_pages              uint8_t   M * U              pages of the checkpoint under way
  *   staged_marks              uint64_t  MARK_WORDS(M)      which pages these are
@@ -53,10 +53,11 @@
  *   bytes, destination, reply uint8_t   any
  *
  * A state is words (and, for the standby, pending and processor). Words that are no state are
- * refused with 1, and nothing is changed: their count is not exact; T, the count of ticks, an epoch
- * (open, acknowledged, received, of any of the 64 packets) or the length of any of the 64 packets
- * is not below 2^32; alone or STATE seen is above 1; the mode is above 2. All other words are taken
- * as they are, and document 01's ranges of a state are then judged, with 1 too.
+ * refused with 1, and nothing is changed: their count is not exact; T, the count of ticks or an
+ * epoch (open, acknowledged, received, of any of the 64 packets) is not below 2^32; the length or
+ * the port of any of the 64 packets is not below 2^16; alone or STATE seen is above 1; the mode is
+ * above 2. All other words are taken as they are, and the ranges of a state in documents 01 and 02
+ * are then judged, with 1 too.
  */
 
 #ifndef STANDBY_PAIR_H
@@ -77,7 +78,7 @@ extern "C" {
 
 /* ---- The answer of a call: one word. ---- */
 
-/* Document 01's numbers. Every call says below which it gives, in the order of its tests. */
+/* The documents' numbers. Every call says below which it gives, in the order of its tests. */
 enum {
     NUMBER_ACCEPTED = 0,
     NUMBER_OUT_OF_RANGE = 1,    /* a setting, a lent length or a state is out of its range */
@@ -97,9 +98,10 @@ enum {
     NUMBER_STREAM_FULL = 15,    /* the stream lacks the bytes needed */
     NUMBER_QUEUE_FULL = 16,     /* 64 packets are held, or Q would be passed */
     NUMBER_SLOTS_FULL = 17,     /* S blocks are staged */
-    NUMBER_NOTHING_FREE = 18,   /* no packet may be handed out */
+    NUMBER_NOTHING_FREE = 18,   /* no packet of the port may be handed out */
     NUMBER_LAST_EPOCH = 19,     /* the open epoch is 4294967295 */
     NUMBER_BLOCKS_DUE = 20,     /* blocks are still due at activation */
+    NUMBER_NO_SUCH_PORT = 23,   /* the port is above MOST_PORT */
     NUMBER_CUT_SHORT = 256      /* ours: some of the record is missing, see answer_missing */
 };
 
@@ -153,6 +155,7 @@ enum {
     AREA_BYTES = 8,
     MOST_PACKETS = 64,
     MOST_PACKET_BYTES = 1514,
+    MOST_PORT = 3, /* ports are 0 to 3: four network cards */
     MOST_SLOTS = 64,
 
     /*
@@ -203,11 +206,12 @@ enum {
     PRIMARY_HELD_PACKETS = 13,
     PRIMARY_HELD_BYTES = 14,
     PRIMARY_PACKETS = 15,     /* MOST_PACKETS packets of PACKET_WORDS words, oldest first */
-    PRIMARY_WORDS = 143,
+    PRIMARY_WORDS = 207,
 
     PACKET_EPOCH = 0,         /* the words of a packet */
     PACKET_LENGTH = 1,
-    PACKET_WORDS = 2
+    PACKET_PORT = 2,
+    PACKET_WORDS = 3
 };
 
 /* A standby, besides its two processor states. */
@@ -289,12 +293,13 @@ uint64_t primary_disk_write(uint64_t *state, size_t state_len, uint8_t *disk, si
                             const uint8_t *bytes, size_t bytes_len);
 
 /*
- * Packet: copied, and held with the open epoch.
- * Gives 1 4 16. After 16 the guest waits until packets have been taken. Value: packets held.
+ * Packet: copied, and held with the open epoch and the port, 0 to MOST_PORT, by which it leaves.
+ * Gives 1 4 23 16. After 16 the guest waits until packets have been taken, of whichever port: all
+ * ports share the 64 packets and the Q bytes. Value: packets held, of all ports.
  * Changes: state, held.
  */
 uint64_t primary_packet(uint64_t *state, size_t state_len, uint8_t *held, size_t held_len,
-                        const uint8_t *bytes, size_t bytes_len);
+                        size_t port, const uint8_t *bytes, size_t bytes_len);
 
 /*
  * Checkpoint: appends every dirty page, STATE with this processor state, and COMMIT to the stream;
@@ -326,12 +331,13 @@ uint64_t primary_acknowledge(uint64_t *state, size_t state_len, const uint8_t *b
                              size_t bytes_len);
 
 /*
- * Take: hands out the oldest packet, at the head of destination, if its epoch is acknowledged or
- * the primary is alone; the destination's later bytes stay. MOST_PACKET_BYTES hold any packet.
- * Gives 1 18 5. Value: its length. Changes: state, held, destination.
+ * Take: hands out the port's oldest packet, at the head of destination, if its epoch is
+ * acknowledged or the primary is alone; the destination's later bytes stay. MOST_PACKET_BYTES hold
+ * any packet. Packets of other ports, older ones too, neither hold it back nor let it go.
+ * Gives 1 23 18 5. Value: its length. Changes: state, held, destination.
  */
 uint64_t primary_take(uint64_t *state, size_t state_len, uint8_t *held, size_t held_len,
-                      uint8_t *destination, size_t destination_len);
+                      size_t port, uint8_t *destination, size_t destination_len);
 
 /*
  * Tick: counts while a closed epoch is unacknowledged; at T the primary is alone (PRIMARY_ALONE),
