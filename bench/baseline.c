@@ -41,10 +41,10 @@ void base_move_out(uint8_t *dst, uint8_t *src, size_t n, size_t total)
     memmove(src, src + n, total - n);
 }
 
-/* size bytes behind the others, then the first `first` bytes out. */
-void base_in_and_out(uint8_t *dst, uint8_t *held, const uint8_t *one, size_t size, size_t others, size_t first)
+/* size bytes behind the others, then the out bytes at a place out, and what is behind them closes up. */
+void base_in_and_out(uint8_t *dst, uint8_t *held, const uint8_t *one, size_t size, size_t others, size_t at, size_t out)
 {
     memcpy(held + others, one, size);
-    memcpy(dst, held, first);
-    memmove(held, held + first, others + size - first);
+    memcpy(dst, held + at, out);
+    memmove(held + at, held + at + out, others + size - at - out);
 }

@@ -54,6 +54,10 @@ const MOST_PAGES: usize = 65536;
 /// The sizes of a read of PAGE: U, and M of either width.
 const PAGE_READS: [(usize, usize); 5] = [(64, 64), (512, 64), (4096, 64), (64, MOST_PAGES), (1024, MOST_PAGES)];
 
+/// The packets in and out: their bytes, how many others are held, and the port.
+const PACKETS: [(usize, usize, usize); 7] =
+    [(64, 0, 0), (64, 32, 0), (64, 63, 0), (1514, 0, 0), (1514, 32, 0), (1514, 63, 0), (64, 63, 3)];
+
 /// The cases of a checkpoint's pages, at each end.
 fn checkpoints(sizes: &[(usize, usize, usize)], each: &mut impl FnMut(&mut (dyn Case + 'static))) {
     for &(u, m, step) in sizes {
@@ -86,10 +90,8 @@ pub fn all(mut each: impl FnMut(&mut (dyn Case + 'static))) {
     for (n, waiting) in [(64, 4096), (64, 1 << 16), (64, 1 << 20), (4096, 1 << 20)] {
         each(&mut Drain::new(n, waiting, ROUNDS));
     }
-    for n in [64, 1514] {
-        for kept in [0, 32, 63] {
-            each(&mut Packets::new(n, kept));
-        }
+    for (n, kept, port) in PACKETS {
+        each(&mut Packets::new(n, kept, port));
     }
     for u in [64, 512, 4096] {
         for (staged, n) in [(0, 0), (1, 1), (64, 1), (64, 64)] {
@@ -100,10 +102,8 @@ pub fn all(mut each: impl FnMut(&mut (dyn Case + 'static))) {
 
 /// Every case of the C interface in turn.
 pub fn interface(mut each: impl FnMut(&mut (dyn Interface + 'static))) {
-    for n in [64, 1514] {
-        for kept in [0, 32, 63] {
-            each(&mut Packets::new(n, kept));
-        }
+    for (n, kept, port) in PACKETS {
+        each(&mut Packets::new(n, kept, port));
     }
     each(&mut PrimaryTicks::new());
     for (u, m) in PAGE_READS {

@@ -7,7 +7,7 @@ mod capi;
 use crate::library::Lent;
 use crate::model;
 
-pub const PRIMARY_WORDS: usize = 143;
+pub const PRIMARY_WORDS: usize = 207;
 pub const STANDBY_WORDS: usize = 79;
 
 /// Where the count of ticks stands.
@@ -21,8 +21,8 @@ pub fn primary_words(p: &model::Primary) -> PrimaryWords {
     words[..6].copy_from_slice(&[p.u, p.m, p.d, p.b, p.q, p.l]);
     words[6..11].copy_from_slice(&[p.t, p.count, p.open.into(), p.acknowledged.into(), p.alone.into()]);
     words[11..15].copy_from_slice(&[p.blocks, p.waiting, p.packets, p.held]);
-    for (pair, packet) in words[15..].chunks_exact_mut(2).zip(&p.queue) {
-        pair.copy_from_slice(&[packet.epoch.into(), packet.length]);
+    for (entry, packet) in words[15..].chunks_exact_mut(3).zip(&p.queue) {
+        entry.copy_from_slice(&[packet.epoch.into(), packet.length, packet.port.into()]);
     }
     words
 }
@@ -53,17 +53,17 @@ pub fn answered(word: u64) -> model::Reply {
     model::Reply { number, value: word >> 32, used, missing }
 }
 
-pub fn packet(state: &mut PrimaryWords, held: &mut [u8], bytes: &[u8]) -> model::Reply {
+pub fn packet(state: &mut PrimaryWords, held: &mut [u8], port: usize, bytes: &[u8]) -> model::Reply {
     let h = held.len();
     answered(unsafe {
-        capi::primary_packet(state.as_mut_ptr(), state.len(), held.as_mut_ptr(), h, bytes.as_ptr(), bytes.len())
+        capi::primary_packet(state.as_mut_ptr(), state.len(), held.as_mut_ptr(), h, port, bytes.as_ptr(), bytes.len())
     })
 }
 
-pub fn take(state: &mut PrimaryWords, held: &mut [u8], destination: &mut [u8]) -> model::Reply {
+pub fn take(state: &mut PrimaryWords, held: &mut [u8], port: usize, destination: &mut [u8]) -> model::Reply {
     let (h, d) = (held.len(), destination.len());
     answered(unsafe {
-        capi::primary_take(state.as_mut_ptr(), state.len(), held.as_mut_ptr(), h, destination.as_mut_ptr(), d)
+        capi::primary_take(state.as_mut_ptr(), state.len(), held.as_mut_ptr(), h, port, destination.as_mut_ptr(), d)
     })
 }
 

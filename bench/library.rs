@@ -33,6 +33,7 @@ mod foreign {
             rounds: usize,
             held: *mut u8,
             held_len: usize,
+            port: usize,
             one: *const u8,
             one_len: usize,
             destination: *mut u8,
@@ -84,7 +85,15 @@ mod foreign {
         pub fn base_place(dst: *mut u8, src: *const u8, u: usize, m: usize, step: usize);
         pub fn base_scatter(dst: *mut u8, src: *const u8, u: usize, count: usize, gap: usize);
         pub fn base_move_out(dst: *mut u8, src: *mut u8, n: usize, total: usize);
-        pub fn base_in_and_out(dst: *mut u8, held: *mut u8, one: *const u8, size: usize, others: usize, first: usize);
+        pub fn base_in_and_out(
+            dst: *mut u8,
+            held: *mut u8,
+            one: *const u8,
+            size: usize,
+            others: usize,
+            at: usize,
+            out: usize,
+        );
     }
 }
 
@@ -112,7 +121,16 @@ pub fn drain(waiting: usize, n: usize, rounds: usize, stream: &mut [u8], destina
     unsafe { foreign::bench_drain(64, 1, waiting, 0, n, rounds, stream.as_mut_ptr(), s, destination.as_mut_ptr(), d) }
 }
 
-pub fn packets(kept: usize, size: usize, rounds: usize, held: &mut [u8], one: &[u8], destination: &mut [u8]) -> u64 {
+/// On a primary that holds kept packets of port 0.
+pub fn packets(
+    kept: usize,
+    size: usize,
+    rounds: usize,
+    held: &mut [u8],
+    port: usize,
+    one: &[u8],
+    destination: &mut [u8],
+) -> u64 {
     let (h, d) = (held.len(), destination.len());
     unsafe {
         foreign::bench_packets(
@@ -122,6 +140,7 @@ pub fn packets(kept: usize, size: usize, rounds: usize, held: &mut [u8], one: &[
             rounds,
             held.as_mut_ptr(),
             h,
+            port,
             one.as_ptr(),
             one.len(),
             destination.as_mut_ptr(),
@@ -215,8 +234,8 @@ pub fn base_move_out(dst: &mut [u8], src: &mut [u8], n: usize, total: usize) {
     unsafe { foreign::base_move_out(dst.as_mut_ptr(), src.as_mut_ptr(), n, total) }
 }
 
-/// One packet behind the others, then the first out.
-pub fn base_in_and_out(dst: &mut [u8], held: &mut [u8], one: &[u8], others: usize, first: usize) {
-    assert!(others + one.len() <= held.len() && first <= dst.len() && first <= others + one.len());
-    unsafe { foreign::base_in_and_out(dst.as_mut_ptr(), held.as_mut_ptr(), one.as_ptr(), one.len(), others, first) }
+/// One packet behind the others, then the one of these many bytes at a place out.
+pub fn base_in_and_out(dst: &mut [u8], held: &mut [u8], one: &[u8], others: usize, at: usize, out: usize) {
+    assert!(others + one.len() <= held.len() && out <= dst.len() && at + out <= others + one.len());
+    unsafe { foreign::base_in_and_out(dst.as_mut_ptr(), held.as_mut_ptr(), one.as_ptr(), one.len(), others, at, out) }
 }

@@ -9,7 +9,7 @@ use std::hint::black_box;
 
 /// The state that libbench.a makes of the same numbers.
 pub fn primary(u: usize, m: usize, q: usize, l: usize, waiting: usize) -> model::Primary {
-    let none = model::Packet { epoch: 0, length: 0 };
+    let none = model::Packet { epoch: 0, port: 0, length: 0 };
     model::Primary {
         u: u as u64,
         m: m as u64,
@@ -149,9 +149,11 @@ const OTHER: usize = 64;
 /// How often a call that is made in turns is made.
 pub const ROUNDS: usize = 16;
 
-/// A packet in and a packet out, on a primary that is alone and holds others.
+/// A packet in and a packet out, on a primary that is alone and holds others of port 0. Of port 0 the oldest of these
+/// goes out; of another port the one that came in, from behind them.
 pub struct Packets {
     kept: usize,
+    port: usize,
     words: PrimaryWords,
     one: Vec<u8>,
     held: Vec<u8>,
@@ -164,51 +166,70 @@ fn holding(kept: usize, q: usize) -> model::Primary {
     p.alone = true;
     p.packets = kept as u64;
     p.held = (kept * OTHER) as u64;
-    p.queue[..kept].fill(model::Packet { epoch: 1, length: OTHER as u64 });
+    p.queue[..kept].fill(model::Packet { epoch: 1, port: 0, length: OTHER as u64 });
     p
 }
 
 impl Packets {
-    pub fn new(n: usize, kept: usize) -> Packets {
+    pub fn new(n: usize, kept: usize, port: usize) -> Packets {
         let (one, held, destination) = (filled(n, 11), filled(32_768, 10), filled(1514, 12));
         let words = interface::primary_words(&holding(kept, held.len()));
-        Packets { kept, words, one, held, destination }
+        Packets { kept, port, words, one, held, destination }
+    }
+    /// Whether the oldest of all goes out, and not the packet that came in.
+    fn oldest_goes(&self) -> bool {
+        self.kept > 0 && self.port == 0
     }
     /// The length of each packet handed out.
-    fn first(&self) -> usize {
-        if self.kept == 0 {
-            self.one.len()
-        } else {
+    fn out(&self) -> usize {
+        if self.oldest_goes() {
             OTHER
+        } else {
+            self.one.len()
         }
     }
     /// The bytes held before a round.
     fn others(&self, round: usize) -> usize {
-        self.kept * OTHER + round * (self.one.len() - self.first())
+        self.kept * OTHER + round * (self.one.len() - self.out())
+    }
+    /// The bytes in front of the packet handed out in a round.
+    fn before(&self, round: usize) -> usize {
+        if self.oldest_goes() {
+            0
+        } else {
+            self.others(round)
+        }
     }
 }
 
 impl Call for Packets {
     fn name(&self) -> String {
-        format!("packet of {} and take, {} others held", self.one.len(), self.kept)
+        let (n, kept) = (self.one.len(), self.kept);
+        match self.port {
+            0 => format!("packet of {n} and take, {kept} others held"),
+            port => format!("packet of {n} and take by port {port}, {kept} of port 0 held"),
+        }
     }
     fn operations(&self) -> usize {
         ROUNDS
     }
     fn wanted(&self) -> u64 {
-        self.first() as u64
+        self.out() as u64
     }
     fn ours(&mut self) -> u64 {
-        library::packets(self.kept, OTHER, ROUNDS, &mut self.held, &self.one, &mut self.destination)
+        library::packets(self.kept, OTHER, ROUNDS, &mut self.held, self.port, &self.one, &mut self.destination)
     }
     #[inline(never)]
     fn model(&mut self) -> u64 {
         let mut p = holding(self.kept, self.held.len());
-        let mut last = 0;
+        let (port, mut last) = (self.port as u64, 0);
         for _ in 0..ROUNDS {
-            let r = model::packet(&mut p, &mut self.held, &self.one);
-            last =
-                if r.number == 0 { told(model::take(&mut p, &mut self.held, &mut self.destination)) } else { u64::MAX };
+            let r = model::packet(&mut p, &mut self.held, port, &self.one);
+            last = if r.number == 0 {
+                told(model::take(&mut p, &mut self.held, port, &mut self.destination))
+            } else {
+                u64::MAX
+            };
         }
         black_box(&p);
         last
@@ -217,14 +238,14 @@ impl Call for Packets {
 
 impl Case for Packets {
     fn bytes(&self) -> usize {
-        let moved: usize = (0..ROUNDS).map(|i| self.others(i)).sum();
+        let moved: usize = (0..ROUNDS).map(|i| self.others(i) - self.before(i)).sum();
         2 * self.one.len() + moved / ROUNDS
     }
     fn copy(&mut self) {
-        let first = self.first();
+        let out = self.out();
         for i in 0..ROUNDS {
-            let others = self.others(i);
-            library::base_in_and_out(&mut self.destination, &mut self.held, &self.one, others, first);
+            let (others, before) = (self.others(i), self.before(i));
+            library::base_in_and_out(&mut self.destination, &mut self.held, &self.one, others, before, out);
         }
     }
 }
@@ -237,9 +258,9 @@ impl Interface for Packets {
         let mut state = self.words;
         let mut last = 0;
         for _ in 0..ROUNDS {
-            let r = interface::packet(&mut state, &mut self.held, &self.one);
+            let r = interface::packet(&mut state, &mut self.held, self.port, &self.one);
             last = if r.number == 0 {
-                told(interface::take(&mut state, &mut self.held, &mut self.destination))
+                told(interface::take(&mut state, &mut self.held, self.port, &mut self.destination))
             } else {
                 u64::MAX
             };
