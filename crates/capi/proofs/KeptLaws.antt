@@ -1,5 +1,5 @@
--- The calls that leave the packets as they are, and the one that stores a packet: what differs from the state lent is one
--- packet at most. Assumes nothing.
+-- The calls that leave the packets as they are, and the one that stores a packet: what differs from the state lent is
+-- one packet at most. Assumes nothing.
 use mathlib.Core.Path.{_≡_, refl, sym, ap, ap₂, _∙_}
 use mathlib.Core.List.{List}
 use mathlib.Core.Logic.{⊎-elim}

@@ -55,8 +55,6 @@ pub(crate) fn words_ok(w: &[u64]) -> bool
     numbers & (w[10] <= 1) & packets
 }
 
-// Each packet is made in the loop: where a function of its own made it, the compiler did not read several at once any
-// more, and every call took about a tenth longer.
 fn packets_of(w: &[u64]) -> [Packet; 64]
     requires { ⌜ primaryWordsOk (now w) ≡ true ⌝ }
     ensures { λ r. ⌜ r ≡ packetsOf (drop packetsAt (now (w .entry))) ⌝ }

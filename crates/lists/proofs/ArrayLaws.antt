@@ -1,4 +1,5 @@
--- Laws of arrays: the first n elements one by one, an entry stored, and the array without some entries. Assumes nothing.
+-- Laws of arrays: the first n elements one by one, an entry stored, and the array without some entries. Assumes
+-- nothing.
 use mathlib.Core.Path.{_≡_, sym, ap, _∙_}
 use mathlib.Core.List.{List, [], _∷_, _++_}
 use Prim.Native.Nat.{ℕ, _+_, _-_, _≤_, _<_}

@@ -1,4 +1,5 @@
--- Laws of the elements that pass a test: one list behind another, the first that passes, and the list without one of its elements. Assumes nothing.
+-- Laws of the elements that pass a test: one list behind another, the first that passes, and the list without one of
+-- its elements. Assumes nothing.
 use mathlib.Core.Path.{_≡_, refl, sym, ap, _∙_}
 use mathlib.Core.Bool.{Bool, true, false}
 use mathlib.Core.Logic.{⊎-elim}

@@ -1,4 +1,5 @@
--- The array of packets without one of them: a turn of the loop that moves those behind it one place to the front, and what the loop leaves.
+-- The array of packets without one of them: a turn of the loop that moves those behind it one place to the front, and
+-- what the loop leaves.
 -- Assumes nothing.
 use mathlib.Core.Path.{_≡_, ap, sym, _∙_}
 use mathlib.Core.List.{List}

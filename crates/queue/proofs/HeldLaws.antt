@@ -1,5 +1,5 @@
--- Laws of the queue as a list of what it holds: one packet more is appended, one that is taken leaves, a port's oldest is the first of its packets, and the
--- packets of other ports stay. Assumes nothing.
+-- Laws of the queue as a list of what it holds: one packet more is appended, one that is taken leaves, a port's oldest
+-- is the first of its packets, and the packets of other ports stay. Assumes nothing.
 use mathlib.Core.Path.{_≡_, refl, sym, ap, ap₂, _∙_}
 use mathlib.Core.Bool.{true, false}
 use mathlib.Core.List.{List, [], _∷_, _++_}

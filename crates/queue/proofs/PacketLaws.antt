@@ -1,4 +1,5 @@
--- Laws of lists of packets: what the range tests say of the first packet and the rest, of one packet more and of one fewer, and of the epochs in wider bounds. Assumes nothing.
+-- Laws of lists of packets: what the range tests say of the first packet and the rest, of one packet more and of one
+-- fewer, and of the epochs in wider bounds. Assumes nothing.
 use mathlib.Core.Path.{_≡_}
 use mathlib.Core.Bool.{true}
 use mathlib.Core.List.{List, [], _∷_, _++_}

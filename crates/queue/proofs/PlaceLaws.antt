@@ -1,4 +1,5 @@
--- The search for a port's oldest packet, one packet after the other: what was found among those passed, and what among all. Assumes nothing.
+-- The search for a port's oldest packet, one packet after the other: what was found among those passed, and what among
+-- all. Assumes nothing.
 use mathlib.Core.Path.{_≡_, refl, sym, ap, ap₂, _∙_}
 use mathlib.Core.Bool.{Bool, true, false, true≢false, cond, _||_, not}
 use mathlib.Core.Logic.{⊎-elim}

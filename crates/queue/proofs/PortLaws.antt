@@ -1,4 +1,5 @@
--- Two queues in range that hold the same packets of a port: both have its oldest or neither, the same one with the same bytes. Assumes nothing.
+-- Two queues in range that hold the same packets of a port: both have its oldest or neither, the same one with the same
+-- bytes. Assumes nothing.
 use mathlib.Core.Path.{_≡_, sym, ap, _∙_}
 use mathlib.Core.Bool.{true}
 use mathlib.Core.List.{List}

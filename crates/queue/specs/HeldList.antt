@@ -1,4 +1,5 @@
--- The queue as the list of what it holds: each packet with its epoch, port and bytes, the oldest first. Assumes nothing.
+-- The queue as the list of what it holds: each packet with its epoch, port and bytes, the oldest first. Assumes
+-- nothing.
 use Prim.Native.Nat.{ℕ}
 use mathlib.Core.Bool.{Bool}
 use mathlib.Core.List.{List, [], _∷_}

@@ -38,8 +38,8 @@ pub fn size(n: u16) -> usize
     n as usize
 }
 
-// What was seen of the first packets: the epoch of the last of them, their bytes together, and whether their lengths and
-// ports were in range and no epoch fell.
+// What was seen of the first packets: the epoch of the last of them, their bytes together, and whether their lengths
+// and ports were in range and no epoch fell.
 pub struct Seen {
     pub epoch: u32,
     pub bytes: usize,

@@ -1,5 +1,5 @@
--- Ports are apart: what a packet or a take of one port leaves of another (document 02, Job 6: "That port's oldest packet
--- goes out, .. and 18 is judged for it"). Assumes nothing.
+-- Ports are apart: what a packet or a take of one port leaves of another (document 02, Job 6: "That port's oldest
+-- packet goes out, .. and 18 is judged for it"). Assumes nothing.
 use Prim.Native.Nat.{ℕ}
 use mathlib.Core.Path.{_≡_}
 use mathlib.Core.Bool.{true}

@@ -43,7 +43,8 @@ pub record Processor : Type 0 where
   pub size : length bytes ≡ processorBytes
 
 -- the fourteen calls with their arguments. A slice that is filled comes with what it holds before;
--- read and ACK are given the first n bytes of what is on their side of the link. The first argument of packet and take is the port
+-- read and ACK are given the first n bytes of what is on their side of the link. The first argument of packet and take
+-- is the port
 pub data Call : Type 0 where
   memoryWrite : ℕ → ℕ → List ℕ → Call
   diskWrite : ℕ → List ℕ → Call

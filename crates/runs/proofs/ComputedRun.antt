@@ -1,6 +1,7 @@
 -- One list of calls from an accepted start, computed: every outcome, the standby at the end, and three cuts of it. Assumes nothing.
 -- Numbers that occur in it, which are all that a list of this length can give after an accepted start:
---   2 3 4, 5 (reply, destination), 13 (checkpoint, ACK, record, activation, guest write), 14, 15, 16, 17, 18, 20, 23 (packet, take), and cut short (256).
+--   2 3 4, 5 (reply, destination), 13 (checkpoint, ACK, record, activation, guest write), 14, 15, 16, 17, 18, 20, 23
+--   (packet, take), and cut short (256).
 -- The others: 1, every state stays in range and `step` lends what start was lent; 6 to 11, the link and the ACKs bring what the other end wrote,
 -- in order and once; 12 is the disk choice's; 19 comes after 4,294,967,294 checkpoints.
 use Prim.Native.Nat.{ℕ}

@@ -1,4 +1,5 @@
--- Where the last checkpoint is acknowledged, its packets that have not left can be taken, in any order of the ports. Assumes nothing.
+-- Where the last checkpoint is acknowledged, its packets that have not left can be taken, in any order of the ports.
+-- Assumes nothing.
 use Prim.Native.Nat.{ℕ, zero, suc, _+_, _-_, _≤_, _<_}
 use mathlib.Core.Path.{_≡_, refl, sym, _∙_, subst}
 use mathlib.Core.Bool.{true}

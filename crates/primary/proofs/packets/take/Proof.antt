@@ -1,5 +1,6 @@
--- `primary::packets::take` meets its contract. The first loop's invariant is of both things it keeps: what was seen of the packets passed, and what was found
--- among them. The second loop's invariant: of the packets behind the one that leaves, those up to j stand at their new places. Assumes nothing.
+-- `primary::packets::take` meets its contract. The first loop's invariant is of both things it keeps: what was seen of
+-- the packets passed, and what was found among them. The second loop's invariant: of the packets behind the one that
+-- leaves, those up to j stand at their new places. Assumes nothing.
 use borrow.Author.Needs.{needs}
 use mathlib.Core.Path.{_≡_, refl, sym, ap, _∙_}
 use mathlib.Core.Bool.{true}
