@@ -99,8 +99,10 @@ fn primary_of(
         acknowledged: 0,
         alone: alone,
         blocks: 0,
+        records: 0,
         waiting: waiting,
         queue: queue,
+        numbers: [0; 64],
     }
 }
 
@@ -138,6 +140,7 @@ fn standby_of(
         received: 1,
         slots: slots,
         blocks: 0,
+        records: 0,
         pages: pages,
         next: pages,
         seen: seen,

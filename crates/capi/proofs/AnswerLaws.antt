@@ -7,7 +7,7 @@ use Prim.Native.Nat.{ℕ, _+_, _≤_, _<_}
 use native.Mathlib.Omega.{arith}
 use borrow.Author.Tests.{ltb-true, eq-eqb, ne-eqb}
 use lib.Dec.{eqb, ltb}
-use lib.ListN.{length, drop}
+use lib.ListN.{length}
 use Rattle.lists.specs.Refusal.{Test, refusal, pick}
 use Rattle.lists.proofs.TestLaws.{both}
 use Rattle.records.specs.Number.{outOfRange, badLength, wrongMode}
@@ -43,7 +43,7 @@ use Rattle.rules.specs.Packets.{packetTests, packetRefusal, packetReply, takeTe
 use Rattle.rules.specs.Checkpoint.{checkpointTests, checkpointRefusal, checkpointReply}
 use Rattle.rules.specs.Stream.{drainTests, drainCount, drainRefusal, drainReply, ackTests, ackRefusal, ackJudged, ackReply}
 use Rattle.rules.specs.PrimaryTick.{primaryTickTests, primaryTickRefusal, primaryTickReply}
-use Rattle.rules.specs.Judge.{readerOf, readLentOk, pageTests, pageRefusal, blockTests, blockRefusal, stateTests, stateRefusal, commitTests, commitRefusal, recordRefusal, judged}
+use Rattle.rules.specs.Judge.{readerOf, readLentOk, freeFor, pageTests, pageRefusal, blockTests, blockRefusal, stateTests, stateRefusal, commitTests, commitRefusal, recordRefusal, judged}
 use Rattle.rules.specs.Read.{readReply}
 use Rattle.rules.specs.Flush.{flushTests, flushRefusal, flushReply}
 use Rattle.rules.specs.Takeover.{standbyTickTests, standbyTickRefusal, standbyTickReply, activationTests, activationRefusal, activationReply, activeWriteTests, activeMemoryWriteRefusal, activeMemoryWriteReply, activeDiskWriteRefusal, activeDiskWriteReply}
@@ -57,7 +57,7 @@ use Rattle.rules.proofs.StreamLaws.{drain-accepted, ack-epochs}
 use Rattle.rules.proofs.FlushLaws.{flush-accepted}
 use Rattle.pages.specs.Write.{insidePage}
 use Rattle.capi.specs.Word.{answerWord, answerNumber, answerCutShort, answerUsed, answerMissing, answerValue, replyWord, recordWord}
-use Rattle.capi.specs.PrimaryWords.{packetsAt, primaryWordsOk, primaryOf}
+use Rattle.capi.specs.PrimaryWords.{packetsIn, primaryWordsOk, primaryOf}
 use Rattle.capi.specs.StandbyWords.{standbyWordsOk, standbyOf}
 use Rattle.capi.proofs.PrimaryWordLaws.{primary-word-facts, primary-field, packet-length-low}
 use Rattle.capi.proofs.StandbyWordLaws.{standby-word-facts}
@@ -144,7 +144,7 @@ module _ (w : List ℕ) (e : primaryWordsOk w ≡ true) where
   unfolding primaryOf
   oldest-low port =
       let k = primaryOf w .queue in
-      let n : oldest k port .length < 65536 = packet-length-low (drop packetsAt w) (oldestAt k port) (primary-word-facts w e .packets) in
+      let n : oldest k port .length < 65536 = packet-length-low (packetsIn w) (oldestAt k port) (primary-word-facts w e .packets) in
       omega arith
 
   pub memory-write-fits : (memory dirty page offset n : ℕ) → PrimaryFits (memoryWriteReply (primaryOf w) memory dirty page offset n)
@@ -250,7 +250,7 @@ module _ (s : Standby) (reply : ℕ) where
   record-below : (r : Record) → otherRefusal r ≤ badLength → recordRefusal s reply r < cutShort
   unfolding pageRefusal blockRefusal stateRefusal commitRefusal
   record-below (Page w e p c) h = refusal-below (pageTests s e p) refl
-  record-below (Block e n c) h = refusal-below (blockTests s e n) refl
+  record-below (Block e n c) h = refusal-below (blockTests s (freeFor s) e n) refl
   record-below (State e c) h = refusal-below (stateTests s e) refl
   record-below (Commit w e p b c) h = refusal-below (commitTests s reply e p b) refl
   record-below (Ack e c) h = omega arith

@@ -10,7 +10,7 @@ use Rattle.records.specs.Number.{outOfRange}
 use Rattle.rules.specs.declared.Primary.{Primary}
 use Rattle.rules.specs.declared.Standby.{Standby}
 use Rattle.capi.specs.Word.{Leaves}
-use Rattle.capi.specs.PrimaryWords.{primaryWords, primaryWordsOk, primaryLength}
+use Rattle.capi.specs.PrimaryWords.{primaryWords, primaryWordsOk, primaryOf, primaryLength}
 use Rattle.capi.specs.StandbyWords.{standbyWords, standbyLength}
 use Rattle.capi.specs.PrimaryCalls.{PrimaryDone}
 use Rattle.capi.specs.StandbyCalls.{LentStandby, isStandby, standbyIn, StandbyDone}
@@ -21,7 +21,7 @@ module _ {ok : Bool} (none : ok ≡ false) where
   leaves-old new old = sym (cond-false _ _ _ none)
 
   pub primary-old : {w : List ℕ} {next : Primary} {word : ℕ} → PrimaryDone ok w next word outOfRange w
-  primary-old = record { told = sym (cond-false _ _ _ none); words = leaves-old _ _; again = λ e. absurd (not-both ok e none) }
+  primary-old = record { told = sym (cond-false _ _ _ none); words = leaves-old _ _; again = λ e. absurd (not-both ok e none); same = λ e. absurd (not-both ok e none) }
 
   pub standby-old : {w : LentStandby} {next : Standby} {word : ℕ} → StandbyDone ok w next word outOfRange w
   standby-old =
@@ -38,9 +38,9 @@ module _ {ok : Bool} (some : ok ≡ true) where
   pub leaves-new : {new after : List ℕ} (old : List ℕ) → after ≡ new → Leaves ok new old after
   leaves-new old e = e ∙ sym (cond-true _ _ _ some)
 
-  pub primary-new : {w w′ : List ℕ} {next : Primary} {word answer : ℕ} → answer ≡ word → (w′ ≡ primaryWords next) × (primaryWordsOk w′ ≡ true)
+  pub primary-new : {w w′ : List ℕ} {next : Primary} {word answer : ℕ} → answer ≡ word → (w′ ≡ primaryWords next) × ((primaryWordsOk w′ ≡ true) × (primaryOf w′ ≡ next))
       → PrimaryDone ok w next word answer w′
-  primary-new e stored = record { told = e ∙ sym (cond-true _ _ _ some); words = leaves-new _ (stored .0); again = λ t. stored .1 }
+  primary-new e stored = record { told = e ∙ sym (cond-true _ _ _ some); words = leaves-new _ (stored .0); again = λ t. stored .1 .0; same = λ t. stored .1 .1 }
 
   pub standby-new : {w w′ : LentStandby} {next : Standby} {word answer : ℕ} → answer ≡ word
       → (w′ .words ≡ standbyWords next) × ((w′ .pending ≡ next .pending) × ((w′ .processor ≡ next .processor) × ((isStandby w′ ≡ true) × (standbyIn w′ ≡ next))))

@@ -6,7 +6,6 @@ use mathlib.Core.Bool.{true, _&&_}
 use Prim.Native.Nat.{ℕ, suc, zero, _+_, _≤_, _<_}
 use native.Mathlib.Omega.{arith}
 use borrow.Author.Tests.{leb-true, eqb-true, eq-eqb}
-use lib.Dec.{leb}
 use lib.ListN.{length, take, drop, getD, length-append, drop-of-length-le, take-append-drop}
 use lib.Seq.{take-at, drop-at, drop-drop, getD-append-add}
 use Rattle.lists.specs.Part.{part, put}
@@ -15,7 +14,7 @@ use Rattle.lists.proofs.TestLaws.{both, join}
 use Rattle.rules.specs.declared.Mode.{Mode}
 use Rattle.rules.specs.declared.Mode.the-variants.{Receiving, TakingOver, Active}
 use Rattle.rules.specs.declared.Standby.{Standby}
-use Rattle.capi.specs.Word.{fits32, allFit32, between, isFlag}
+use Rattle.capi.specs.Word.{most32, fits32, allFit32, between, isFlag}
 use Rattle.capi.specs.StandbyWords.{modeOf, modeWord, isMode, firstWords, lastWords, standbyWords, standbyWordsOk, standbyOf, standbyLength, numbersAt, numbersMany}
 use Rattle.capi.proofs.WordLaws.{fits-at, wordsFrom, words-from}
 use Rattle.capi.proofs.PrimaryWordLaws.{flag-again, flag-words, flag-fits}
@@ -26,7 +25,7 @@ pub record StandbyWordFacts (w : List ℕ) : Type 0 where
   pub ticks : allFit32 (between 5 7 w) ≡ true
   pub mode : getD w 7 0 ≤ 2
   pub received : getD w 8 0 < 4294967296
-  pub flag : getD w 78 0 ≤ 1
+  pub flag : getD w 79 0 ≤ 1
 
 pub standby-word-facts : (w : List ℕ) → standbyWordsOk w ≡ true → StandbyWordFacts w
 unfolding standbyWordsOk
@@ -43,7 +42,7 @@ standby-many w e = standby-word-facts w e .many
 
 -- T and the count of ticks
 pub ticks-field : (w : List ℕ) (i : ℕ) → standbyWordsOk w ≡ true → 5 ≤ i → i < 7 → getD w i 0 < 4294967296
-ticks-field w i e h k = let f = standby-word-facts w e in fits-at w 5 7 i (f .ticks) h k (omega (arith, f .many))
+ticks-field w i e h k = let f = standby-word-facts w e in fits-at most32 w 5 7 i (f .ticks) h k (omega (arith, f .many))
 
 -- ---- the three parts of the words, stored one after the other
 pub store-three : (w : List ℕ) (s : Standby) → length w ≡ standbyLength → length (s .slots .numbers) ≡ numbersMany
@@ -88,7 +87,7 @@ standby-words-ok s h low =
     let b = lastWords s in
     let l = both _ _ low in
     let m : length (a ++ n ++ b) ≡ standbyLength = rw (length-append (a ++ n) b, length-append a n) (omega arith) in
-    let seen : isFlag (getD (a ++ n ++ b) 78 0) ≡ true = rw (behind a n b refl h 3) (flag-fits (s .seen)) in
+    let seen : isFlag (getD (a ++ n ++ b) 79 0) ≡ true = rw (behind a n b refl h 4) (flag-fits (s .seen)) in
     join _ _ (join _ _ (join _ _ (join _ _ (eq-eqb _ _ m) (l .0)) (mode-fits (s .mode))) (l .1)) seen
 
 -- ---- a state is the state of its words
@@ -100,7 +99,7 @@ standby-again s h =
     let b = lastWords s in
     let at : (i : ℕ) → getD (a ++ n ++ b) (75 + i) 0 ≡ getD b i 0 = behind a n b refl h in
     let k : part 11 64 (a ++ n ++ b) ≡ n = middle a n b refl h in
-    rw (k, at 0, at 1, at 2, at 3, mode-again (s .mode), flag-again (s .seen))
+    rw (k, at 0, at 1, at 2, at 3, at 4, mode-again (s .mode), flag-again (s .seen))
 
 -- ---- and words that are a state are the words of it
 mode-words : (n : ℕ) → n ≤ 2 → modeWord (modeOf n) ≡ n
@@ -114,7 +113,7 @@ unfolding standbyOf standbyWords firstWords lastWords part
 standby-words-again w pending processor e =
     let f = standby-word-facts w e in
     let le : length w ≤ standbyLength = omega (arith, f .many) in
-    let last : wordsFrom 4 75 w [] ≡ drop 75 w = ap (wordsFrom 4 75 w) (sym (drop-of-length-le w le)) ∙ words-from 4 75 w (omega (arith, f .many)) in
+    let last : wordsFrom 5 75 w [] ≡ drop 75 w = ap (wordsFrom 5 75 w) (sym (drop-of-length-le w le)) ∙ words-from 5 75 w (omega (arith, f .many)) in
     let rest : take 64 (drop 11 w) ++ drop 75 w ≡ drop 11 w = ap (λ (l : List ℕ). take 64 (drop 11 w) ++ l) (sym (drop-drop 64 11 w)) ∙ take-append-drop 64 (drop 11 w) in
-    rw (flag-words (getD w 78 0) (f .flag), mode-words (getD w 7 0) (f .mode))
+    rw (flag-words (getD w 79 0) (f .flag), mode-words (getD w 7 0) (f .mode))
     (ap (λ (l : List ℕ). wordsFrom 11 0 w (take 64 (drop 11 w) ++ l)) last ∙ ap (wordsFrom 11 0 w) rest ∙ words-from 11 0 w (omega (arith, f .many)))

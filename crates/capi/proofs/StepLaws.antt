@@ -31,7 +31,7 @@ use Rattle.capi.specs.PrimaryCalls.{PrimaryDone, MemoryWriteDone, DiskWr
 use Rattle.capi.specs.StandbyCalls.{LentStandby, asLent, isStandby, standbyIn, StandbyDone, ReadDone, FlushDone, StandbyTickDone, ActivationDone, ActiveMemoryWriteDone, ActiveDiskWriteDone}
 use Rattle.capi.specs.PairCalls.{settingsOf, startWordsOk, StartDone, choiceWord}
 use Rattle.capi.specs.Joined.{primaryEnd, standbyEnd, withLink, withAcks, toldStep, ackSent}
-use Rattle.capi.proofs.PrimaryWordLaws.{primary-again, primary-words-again}
+use Rattle.capi.proofs.PrimaryWordLaws.{primary-words-again}
 use Rattle.capi.proofs.StandbyWordLaws.{standby-words-again}
 use Rattle.capi.proofs.AnswerLaws.{ReplyFits, Parts, reply-parts, record-parts, memory-write-fits, disk-write-fits, packet-fits, checkpoint-fits, drain-fits, ack-fits, take-fits, primary-tick-fits, read-fits, flush-fits, standby-tick-fits, activation-fits, active-memory-write-fits, active-disk-write-fits, start-fits, choice-fits}
 
@@ -47,8 +47,7 @@ module _ {word n u m v answer : ℕ} (parts : Parts word n u m v) where
   parts-told ok told = subst (λ (x : ℕ). Parts x n u m v) (sym (told ∙ cond-true _ _ _ ok)) parts
 
   primary-answered : {ok : Bool} {w w′ : List ℕ} {next : Primary} → ok ≡ true → PrimaryDone ok w next word answer w′ → Told (primaryOf w′) next answer n u m v
-  primary-answered {next = next} ok done =
-      record { state = ap primaryOf (done .words ∙ cond-true _ _ _ ok) ∙ primary-again next; parts = parts-told ok (done .told) }
+  primary-answered ok done = record { state = done .same ok; parts = parts-told ok (done .told) }
 
   standby-answered : {ok : Bool} {w w′ : LentStandby} {next : Standby} → ok ≡ true → StandbyDone ok w next word answer w′ → Told (standbyIn w′) next answer n u m v
   standby-answered ok done = record { state = done .same ok; parts = parts-told ok (done .told) }

@@ -1,6 +1,6 @@
--- Laws of words: their fields of 32 bits, the answer's parts, and the loops that read and store them. Assumes nothing.
+-- Laws of words: their fields of 32 and of 16 bits, and the loops that read and store them. Assumes nothing.
 use mathlib.Core.Path.{_≡_, refl, sym, ap, _∙_}
-use mathlib.Core.List.{List, [], _∷_, _++_}
+use mathlib.Core.List.{List, [], _∷_, _++_, append-assoc}
 use mathlib.Core.Bool.{Bool, true, false, _&&_}
 use Prim.Native.Nat.{ℕ, suc, zero, _+_, _-_, _^_, _≤_, _<_}
 use native.Mathlib.Numerals.{add-one}
@@ -9,48 +9,62 @@ use native.Mathlib.Omega.{arith}
 use borrow.Author.Tests.{leb-true, le-leb}
 use lib.Bits.{bitOr, or-lt, or-add-and, and-le-l, and-le-r}
 use lib.Dec.{leb}
-use lib.ListN.{length, take, drop, getD, set}
-use lib.Seq.{drop-cons, take-suc-set, take-suc, take-all, length-take-le, getD-take, getD-drop}
+use lib.ListN.{length, take, drop, getD, set, take-append-drop}
+use lib.Seq.{drop-cons, take-suc-set, take-suc, take-all, take-append-le, drop-append-le, length-take-le, getD-take, getD-drop}
 use Rattle.lists.specs.Part.{part, put}
 use Rattle.lists.proofs.PartLaws.{put-put, length-put, put-none, length-part}
 use Rattle.lists.proofs.ArrayLaws.{set-put, rest-cons, rest-none}
 use Rattle.lists.proofs.ChunkLaws.{part-most}
 use Rattle.lists.proofs.TestLaws.{agree, both, join}
-use Rattle.capi.specs.Word.{fits32, allFit32, between, most32}
+use Rattle.capi.specs.Word.{allFit, between}
 
--- ---- fields of 32 bits
+-- ---- fields whose largest number is most
+module _ (most : ℕ) where
+  -- the test of the words from i on, one word more; and no word
+  pub fits-more : (w : List ℕ) (i n : ℕ) → i < n → n ≤ length w → allFit most (between i n w) ≡ (leb (getD w i 0) most && allFit most (between (i + 1) n w))
+  unfolding allFit
+  fits-more w i n h k = rw (rest-cons w 0 i n h k)
 
--- the test of the words from i on, one word more; and no word
-pub fits-more : (w : List ℕ) (i n : ℕ) → i < n → n ≤ length w → allFit32 (between i n w) ≡ (fits32 (getD w i 0) && allFit32 (between (i + 1) n w))
-unfolding allFit32
-fits-more w i n h k = rw (rest-cons w 0 i n h k)
+  pub fits-end : (w : List ℕ) (i n : ℕ) → n ≤ i → n ≤ length w → allFit most (between i n w) ≡ true
+  unfolding allFit
+  fits-end w i n h k = rw (rest-none w i n h k)
 
-pub fits-end : (w : List ℕ) (i n : ℕ) → n ≤ i → n ≤ length w → allFit32 (between i n w) ≡ true
-unfolding allFit32
-fits-end w i n h k = rw (rest-none w i n h k)
+  -- a word among those that all fit
+  fits-first : (w : List ℕ) (at to : ℕ) → allFit most (between at to w) ≡ true → at < to → to ≤ length w → (getD w at 0 < most + 1) × (allFit most (between (at + 1) to w) ≡ true)
+  fits-first w at to e h l =
+      let b = both (leb (getD w at 0) most) (allFit most (between (at + 1) to w)) (sym (fits-more w at to h l) ∙ e) in
+      let n : getD w at 0 ≤ most = leb-true (getD w at 0) most (b .0) in
+      (omega arith, b .1)
 
--- a word among those that all fit
-fits-first : (w : List ℕ) (at to : ℕ) → allFit32 (between at to w) ≡ true → at < to → to ≤ length w → (getD w at 0 < 4294967296) × (allFit32 (between (at + 1) to w) ≡ true)
-fits-first w at to e h l =
-    let b = both (fits32 (getD w at 0)) (allFit32 (between (at + 1) to w)) (sym (fits-more w at to h l) ∙ e) in
-    let n : getD w at 0 ≤ most32 = leb-true (getD w at 0) most32 (b .0) in
-    (omega arith, b .1)
+  fits-from : (w : List ℕ) (d at to i : ℕ) → allFit most (between at to w) ≡ true → i ≡ at + d → i < to → to ≤ length w → getD w i 0 < most + 1
+  fits-from w zero at to i e p q l = let m : i ≡ at = omega arith in rw m (fits-first w at to e (omega arith) l .0)
+  fits-from w (suc d) at to i e p q l = fits-from w d (at + 1) to i (fits-first w at to e (omega arith) l .1) (omega arith) q l
 
-fits-from : (w : List ℕ) (d at to i : ℕ) → allFit32 (between at to w) ≡ true → i ≡ at + d → i < to → to ≤ length w → getD w i 0 < 4294967296
-fits-from w zero at to i e p q l = let m : i ≡ at = omega arith in rw m (fits-first w at to e (omega arith) l .0)
-fits-from w (suc d) at to i e p q l = fits-from w d (at + 1) to i (fits-first w at to e (omega arith) l .1) (omega arith) q l
+  pub fits-at : (w : List ℕ) (from to i : ℕ) → allFit most (between from to w) ≡ true → from ≤ i → i < to → to ≤ length w → getD w i 0 < most + 1
+  fits-at w from to i e h k l = fits-from w (i - from) from to i e (omega arith) k l
 
-pub fits-at : (w : List ℕ) (from to i : ℕ) → allFit32 (between from to w) ≡ true → from ≤ i → i < to → to ≤ length w → getD w i 0 < 4294967296
-fits-at w from to i e h k l = fits-from w (i - from) from to i e (omega arith) k l
+  -- words that all fit: none, one and the rest, one behind others, one replaced
+  pub fits-none : allFit most [] ≡ true
+  unfolding allFit
+  fits-none = refl
 
--- words that all fit: none, one and the rest
-pub fits-none : allFit32 [] ≡ true
-unfolding allFit32
-fits-none = refl
+  pub fits-cons : (n : ℕ) (w : List ℕ) → n < most + 1 → allFit most w ≡ true → allFit most (n ∷ w) ≡ true
+  unfolding allFit
+  fits-cons n w h e = join (leb n most) (allFit most w) (le-leb n most (omega arith)) e
 
-pub fits-cons : (n : ℕ) (w : List ℕ) → n < 4294967296 → allFit32 w ≡ true → allFit32 (n ∷ w) ≡ true
-unfolding allFit32
-fits-cons n w h e = join (fits32 n) (allFit32 w) (le-leb n most32 (omega arith)) e
+  fits-behind : (w : List ℕ) (n : ℕ) → allFit most w ≡ true → n < most + 1 → allFit most (w ++ (n ∷ [])) ≡ true
+  unfolding allFit
+  fits-behind [] n e h = fits-cons n [] h e
+  fits-behind (a ∷ w) n e h = let b = both (leb a most) (allFit most w) e in join (leb a most) (allFit most (w ++ (n ∷ []))) (b .0) (fits-behind w n (b .1) h)
+
+  pub fits-take-more : (w : List ℕ) (i : ℕ) → i < length w → allFit most (take i w) ≡ true → getD w i 0 < most + 1 → allFit most (take (i + 1) w) ≡ true
+  fits-take-more w i h e k = rw (add-one i, take-suc w i 0 h) (fits-behind (take i w) (getD w i 0) e k)
+
+  pub fits-set : (w : List ℕ) (i n : ℕ) → allFit most w ≡ true → n < most + 1 → allFit most (set w i n) ≡ true
+  unfolding allFit
+  fits-set [] i n e h = e
+  fits-set (a ∷ w) zero n e h = fits-cons n w h (both (leb a most) (allFit most w) e .1)
+  fits-set (a ∷ w) (suc i) n e h = let b = both (leb a most) (allFit most w) e in join (leb a most) (allFit most (set w i n)) (b .0) (fits-set w i n (b .1) h)
 
 -- the bits of two words together fit exactly where both words do
 pub fits-or : (k most a b : ℕ) → most + 1 ≡ 2 ^ k → leb (bitOr a b) most ≡ leb a most && leb b most
@@ -83,6 +97,15 @@ words-from (suc n) i w h =
 
 -- ---- reading and storing
 module _ {A : Type 0} where
+  -- the words up to the last are all from a place on; those up to another are before the others
+  pub between-all : (s : List A) (from to : ℕ) → length s ≤ to → drop from (take to s) ≡ drop from s
+  between-all s from to h = ap (drop from) (take-all to s h)
+
+  pub between-rest : (s : List A) (from to : ℕ) → from ≤ to → to ≤ length s → drop from (take to s) ++ drop to s ≡ drop from s
+  between-rest s from to h k =
+      let n : length (take to s) ≡ to = length-take-le to s k in
+      sym (drop-append-le from (take to s) (drop to s) (omega arith)) ∙ ap (drop from) (take-append-drop to s)
+
   pub part-get : (s : List A) (at n i : ℕ) (z : A) → i < n → getD (part at n s) i z ≡ getD s (at + i) z
   unfolding part
   part-get s at n i z h = rw (getD-take n (drop at s) i z h, getD-drop at s i z)
@@ -125,6 +148,19 @@ module _ {A : Type 0} where
       let e : length (x ∷ a) + k ≡ suc (length a + k) = omega arith in
       let d : suc (length a + k) + length bs ≡ suc (length a + k + length bs) = omega arith in
       rw (e, d) (ap (λ (l : List A). x ∷ l) (put-behind a b bs k))
+
+  -- and what is put into that part leaves the rest; the same of one element
+  pub put-inside : (a b bs : List A) (k : ℕ) → k + length bs ≤ length a → put (a ++ b) k bs ≡ put a k bs ++ b
+  unfolding put
+  put-inside a b bs k h =
+      rw (take-append-le k a b (omega arith), drop-append-le (k + length bs) a b h)
+      (sym (append-assoc (take k a ++ bs) (drop (k + length bs) a) b))
+
+  pub set-behind : (a b : List A) (i : ℕ) (x : A) → set (a ++ b) (length a + i) x ≡ a ++ set b i x
+  set-behind [] b i x = rw (zero-add i)
+  set-behind (y ∷ a) b i x =
+      let e : length (y ∷ a) + i ≡ suc (length a + i) = omega arith in
+      rw e (ap (λ (l : List A). y ∷ l) (set-behind a b i x))
 
   -- three stores
   pub three-put : (l : List A) (at : ℕ) (a b c : A) → at + 3 ≤ length l → set (set (set l at a) (at + 1) b) (at + 2) c ≡ put l at (a ∷ b ∷ c ∷ [])

@@ -18,11 +18,13 @@ use Rattle.capi.specs.Word.{replyWord, recordWord, Leaves}
 use Rattle.capi.specs.PrimaryWords.{primaryWords, primaryWordsOk, primaryOf}
 
 -- ok is whether a state is lent. Then the answer is this word, and the words are those of the next state; they are a
--- state again
+-- state again. That they are read as the next state (`same`) is said too: a list's type does not say that the packets,
+-- or the block numbers of either end, are 64, so that no law could give it
 pub record PrimaryDone (ok : Bool) (w : List ℕ) (next : Primary) (word answer : ℕ) (w′ : List ℕ) : Type 0 where
   pub told : answer ≡ cond ok word outOfRange
   pub words : Leaves ok (primaryWords next) w w′
   pub again : ok ≡ true → primaryWordsOk w′ ≡ true
+  pub same : ok ≡ true → primaryOf w′ ≡ next
 
 abbrev pub PrimaryReplied : List ℕ → PrimaryReply → ℕ → List ℕ → Type 0
 PrimaryReplied w r = PrimaryDone (primaryWordsOk w) w (r .state) (replyWord (r .number) (r .value))

@@ -1,6 +1,6 @@
--- The primary's state as 207 words: U M D B Q L, T, the count of ticks, the open epoch, the acknowledged one, alone,
--- the blocks of the open epoch, the waiting bytes, the packets held, the bytes held, then 64 times a packet's epoch,
--- length and port. Assumes nothing.
+-- The primary's state as 272 words: U M D B Q L, T, the count of ticks, the open epoch, the acknowledged one, alone,
+-- the blocks of the open epoch, its BLOCK records, the waiting bytes, the packets held, the bytes held, then 64 times a
+-- packet's epoch, length and port, then the 64 numbers of the open epoch's blocks. Assumes nothing.
 use Prim.Native.Nat.{ℕ}
 use mathlib.Core.Bool.{Bool, true, _&&_}
 use mathlib.Core.List.{List, [], _∷_, _++_}
@@ -8,31 +8,40 @@ use lib.Dec.{eqb}
 use lib.ListN.{length, getD, drop}
 use Rattle.queue.specs.declared.Packet.{Packet}
 use Rattle.rules.specs.declared.Primary.{Primary}
-use Rattle.capi.specs.Word.{fits32, fits16, allFit32, between, isFlag, flagOf, flagWord}
+use Rattle.capi.specs.Word.{fits32, fits16, allFit32, allFit16, between, isFlag, flagOf, flagWord}
 
 abbrev pub primaryLength : ℕ
-primaryLength = 207
+primaryLength = 272
 
--- where the packets begin
+-- where the packets begin, and where the block numbers do
 abbrev pub packetsAt : ℕ
-packetsAt = 15
+packetsAt = 16
+
+abbrev pub writtenAt : ℕ
+writtenAt = 208
+
+abbrev pub packetsIn : List ℕ → List ℕ
+packetsIn w = between packetsAt writtenAt w
+
+abbrev pub writtenIn : List ℕ → List ℕ
+writtenIn w = drop writtenAt w
 
 -- ---- the words of a state
 unfoldable pub headWords : Primary → List ℕ
 headWords p =
     p .settings .u ∷ p .settings .m ∷ p .settings .d ∷ p .settings .b ∷ p .settings .q ∷ p .settings .l
     ∷ p .detector .patience ∷ p .detector .count ∷ p .epoch ∷ p .acknowledged ∷ flagWord (p .alone)
-    ∷ p .blocks ∷ p .waiting ∷ p .queue .count ∷ p .queue .bytes ∷ []
+    ∷ p .blocks ∷ p .records ∷ p .waiting ∷ p .queue .count ∷ p .queue .bytes ∷ []
 
 unfoldable pub packetWords : List Packet → List ℕ
 packetWords [] = []
 packetWords (k ∷ ks) = k .epoch ∷ k .length ∷ k .port ∷ packetWords ks
 
 unfoldable pub primaryWords : Primary → List ℕ
-primaryWords p = headWords p ++ packetWords (p .queue .packets)
+primaryWords p = headWords p ++ (packetWords (p .queue .packets) ++ p .numbers)
 
 -- ---- words that are a state: as many as there are, each number fits its field of 32 bits, a packet's length and port
--- theirs of 16 bits, and alone is a flag
+-- and each block number theirs of 16 bits, and alone is a flag
 unfoldable pub packetsFit : List ℕ → Bool
 packetsFit [] = true
 packetsFit (epoch ∷ []) = true
@@ -44,7 +53,8 @@ primaryWordsOk w =
     eqb (length w) primaryLength
     && allFit32 (between 6 10 w)
     && isFlag (getD w 10 0)
-    && packetsFit (drop packetsAt w)
+    && packetsFit (packetsIn w)
+    && allFit16 (writtenIn w)
 
 -- ---- and the state of such words
 unfoldable pub packetsOf : List ℕ → List Packet
@@ -62,6 +72,8 @@ primaryOf w =
       acknowledged = getD w 9 0;
       alone = flagOf (getD w 10 0);
       blocks = getD w 11 0;
-      waiting = getD w 12 0;
-      queue = record { count = getD w 13 0; bytes = getD w 14 0; packets = packetsOf (drop packetsAt w) };
+      records = getD w 12 0;
+      waiting = getD w 13 0;
+      queue = record { count = getD w 14 0; bytes = getD w 15 0; packets = packetsOf (packetsIn w) };
+      numbers = writtenIn w;
     }

@@ -30,8 +30,7 @@ isStandby w = standbyWordsOk (w .words)
 abbrev pub standbyIn : LentStandby → Standby
 standbyIn w = standbyOf (w .words) (w .pending) (w .processor)
 
--- the same of the standby, with its two processor states. That the words are read as the next state (`same`) is said
--- too: a list's type does not say that the block numbers are 64, so that no law could give it
+-- the same of the standby, with its two processor states
 pub record StandbyDone (ok : Bool) (w : LentStandby) (next : Standby) (word answer : ℕ) (w′ : LentStandby) : Type 0 where
   pub told : answer ≡ cond ok word outOfRange
   pub words : Leaves ok (standbyWords next) (w .words) (w′ .words)

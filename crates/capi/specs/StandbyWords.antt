@@ -1,6 +1,6 @@
--- The standby's state as 79 words and two processor states: U M D B S, T, the count of ticks, the mode, the last
--- received epoch, staged, due, then 64 block numbers, then the blocks of this epoch, its pages, the next page, STATE
--- seen; the staged and the kept processor state are lent as bytes. Assumes nothing.
+-- The standby's state as 80 words and two processor states: U M D B S, T, the count of ticks, the mode, the last
+-- received epoch, staged, due, then 64 block numbers, then the blocks of this epoch, its BLOCK records, its pages, the
+-- next page, STATE seen; the staged and the kept processor state are lent as bytes. Assumes nothing.
 use Prim.Native.Nat.{ℕ}
 use mathlib.Core.Bool.{Bool, _&&_, cond}
 use mathlib.Core.List.{List, [], _∷_, _++_}
@@ -13,7 +13,7 @@ use Rattle.rules.specs.declared.Standby.{Standby}
 use Rattle.capi.specs.Word.{fits32, allFit32, between, isFlag, flagOf, flagWord}
 
 abbrev pub standbyLength : ℕ
-standbyLength = 79
+standbyLength = 80
 
 -- where the block numbers begin, and how many they are
 abbrev pub numbersAt : ℕ
@@ -41,7 +41,7 @@ firstWords s =
     ∷ s .detector .patience ∷ s .detector .count ∷ modeWord (s .mode) ∷ s .received ∷ s .slots .staged ∷ s .slots .due ∷ []
 
 unfoldable pub lastWords : Standby → List ℕ
-lastWords s = s .blocks ∷ s .pages ∷ s .next ∷ flagWord (s .seen) ∷ []
+lastWords s = s .blocks ∷ s .records ∷ s .pages ∷ s .next ∷ flagWord (s .seen) ∷ []
 
 unfoldable pub standbyWords : Standby → List ℕ
 standbyWords s = firstWords s ++ s .slots .numbers ++ lastWords s
@@ -53,7 +53,7 @@ standbyWordsOk w =
     && allFit32 (between 5 7 w)
     && isMode (getD w 7 0)
     && fits32 (getD w 8 0)
-    && isFlag (getD w 78 0)
+    && isFlag (getD w 79 0)
 
 -- ---- and the state of such words and of the two processor states
 unfoldable pub standbyOf : List ℕ → List ℕ → List ℕ → Standby
@@ -65,9 +65,10 @@ standbyOf w pending processor =
       received = getD w 8 0;
       slots = record { staged = getD w 9 0; due = getD w 10 0; numbers = part numbersAt numbersMany w };
       blocks = getD w 75 0;
-      pages = getD w 76 0;
-      next = getD w 77 0;
-      seen = flagOf (getD w 78 0);
+      records = getD w 76 0;
+      pages = getD w 77 0;
+      next = getD w 78 0;
+      seen = flagOf (getD w 79 0);
       pending = pending;
       processor = processor;
     }

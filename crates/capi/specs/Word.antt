@@ -65,9 +65,16 @@ most16 = 65535
 abbrev pub fits16 : ℕ → Bool
 fits16 n = leb n most16
 
-unfoldable pub allFit32 : List ℕ → Bool
-allFit32 [] = true
-allFit32 (n ∷ ns) = fits32 n && allFit32 ns
+-- words that all fit a field with this largest number
+unfoldable pub allFit : (most : ℕ) → List ℕ → Bool
+allFit most [] = true
+allFit most (n ∷ ns) = leb n most && allFit most ns
+
+abbrev pub allFit32 : List ℕ → Bool
+allFit32 = allFit most32
+
+abbrev pub allFit16 : List ℕ → Bool
+allFit16 = allFit most16
 
 -- the words from one place on, up to another
 abbrev pub between : ℕ → ℕ → List ℕ → List ℕ

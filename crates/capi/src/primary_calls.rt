@@ -1,9 +1,10 @@
 // The primary's calls: the words are tested and read, the call is made, the words of its state are stored: those of all
-// packets after a take, which moves them, else those of one at most.
+// packets after a take, which moves them, else those of one packet and of one block number at most.
 ghost use Rattle.capi.specs.PrimaryCalls.{MemoryWriteDone, DiskWriteDone, PacketDone, CheckpointDone, DrainDone, AckDone, TakeDone, PrimaryTickDone};
 use crate::primary_words;
 use crate::word;
 use records::number;
+use settings::MOST_ALLOWANCE;
 
 // Memory write: bytes inside one page, which becomes dirty.
 #[no_mangle]
@@ -23,7 +24,7 @@ pub extern "C" fn primary_memory_write(
     let p = primary_words::primary_of(state);
     let r = primary::writes::memory_write(p, memory, dirty, page, offset, bytes);
     let next = r.state;
-    primary_words::store_one(state, next, 0);
+    primary_words::store_one(state, next, 0, 0);
     word::reply_word(r.number, r.value)
 }
 
@@ -42,9 +43,11 @@ pub extern "C" fn primary_disk_write(
         return number::OUT_OF_RANGE;
     }
     let p = primary_words::primary_of(state);
+    let blocks = p.blocks;
     let r = primary::writes::disk_write(p, disk, stream, block, bytes);
     let next = r.state;
-    primary_words::store_one(state, next, 0);
+    let at = word::if_below(blocks, MOST_ALLOWANCE);
+    primary_words::store_one(state, next, 0, at);
     word::reply_word(r.number, r.value)
 }
 
@@ -66,7 +69,7 @@ pub extern "C" fn primary_packet(
     let r = primary::packets::packet(p, held, port, bytes);
     let next = r.state;
     let at = word::if_accepted(r.number, k.count);
-    primary_words::store_one(state, next, at);
+    primary_words::store_one(state, next, at, 0);
     word::reply_word(r.number, r.value)
 }
 
@@ -88,7 +91,7 @@ pub extern "C" fn primary_checkpoint(
     let p = primary_words::primary_of(state);
     let r = primary::checkpoint::checkpoint(p, memory, dirty, stream, at_checkpoint);
     let next = r.state;
-    primary_words::store_one(state, next, 0);
+    primary_words::store_one(state, next, 0, 0);
     word::reply_word(r.number, r.value)
 }
 
@@ -108,7 +111,7 @@ pub extern "C" fn primary_drain(
     let p = primary_words::primary_of(state);
     let r = primary::stream::drain(p, stream, n, destination);
     let next = r.state;
-    primary_words::store_one(state, next, 0);
+    primary_words::store_one(state, next, 0, 0);
     word::reply_word(r.number, r.value)
 }
 
@@ -124,7 +127,7 @@ pub extern "C" fn primary_acknowledge(state: &mut [u64], bytes: &[u8]) -> u64
     let r = primary::stream::acknowledge(p, bytes);
     let next = r.state;
     let answer = r.answer;
-    primary_words::store_one(state, next, 0);
+    primary_words::store_one(state, next, 0, 0);
     word::record_word(answer)
 }
 
@@ -159,6 +162,6 @@ pub extern "C" fn primary_tick(state: &mut [u64]) -> u64
     let p = primary_words::primary_of(state);
     let r = primary::tick::tick(p);
     let next = r.state;
-    primary_words::store_one(state, next, 0);
+    primary_words::store_one(state, next, 0, 0);
     word::reply_word(r.number, r.value)
 }

@@ -15,7 +15,7 @@ use settings::StandbySettings;
 use staging::Slots;
 
 // How many words a state has, and where its block numbers begin and end.
-pub(crate) const LENGTH: usize = 79;
+pub(crate) const LENGTH: usize = 80;
 
 const NUMBERS: usize = 11;
 
@@ -29,7 +29,7 @@ pub(crate) fn words_ok(w: &[u64]) -> bool
         return false;
     }
     let ticks = word::all_fit32(w, 5, 7);
-    ticks & (w[7] <= 2) & (w[8] <= word::MOST_32) & (w[78] <= 1)
+    ticks & (w[7] <= 2) & (w[8] <= word::MOST_32) & (w[79] <= 1)
 }
 
 fn mode_of(n: u64) -> Mode
@@ -99,9 +99,10 @@ pub(crate) fn standby_of(w: &[u64], pending: &[u8; 64], processor: &[u8; 64]) ->
         received: word::field(w[8]),
         slots: slots,
         blocks: w[75] as usize,
-        pages: w[76] as usize,
-        next: w[77] as usize,
-        seen: word::flag_of(w[78]),
+        records: w[76] as usize,
+        pages: w[77] as usize,
+        next: w[78] as usize,
+        seen: word::flag_of(w[79]),
         pending: staged,
         processor: kept,
     }
@@ -131,11 +132,17 @@ fn first_words(s: Standby) -> [u64; 11]
     ]
 }
 
-fn last_words(s: Standby) -> [u64; 4]
+fn last_words(s: Standby) -> [u64; 5]
     ensures { λ r. ⌜ r ≡ lastWords s ⌝ }
 {
     let seen = word::flag_word(s.seen);
-    [s.blocks as u64, s.pages as u64, s.next as u64, seen]
+    [
+        s.blocks as u64,
+        s.records as u64,
+        s.pages as u64,
+        s.next as u64,
+        seen,
+    ]
 }
 
 fn store_numbers(w: &mut [u64], numbers: [usize; 64])

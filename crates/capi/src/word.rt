@@ -1,6 +1,8 @@
 // Numbers, flags and answers as 64-bit words.
 ghost use mathlib.Core.Path.{_≡_};
+ghost use mathlib.Core.Bool.{cond};
 ghost use Prim.Native.Nat.{_<_, _≤_, _+_};
+ghost use lib.Dec.{ltb};
 ghost use lib.ListN.{length};
 ghost use Rattle.lists.specs.Part.{put};
 ghost use Rattle.lists.specs.Refusal.{pick};
@@ -71,6 +73,16 @@ pub(crate) fn if_accepted(number: u64, at: usize) -> usize
     ensures { λ r. ⌜ r ≡ pick number at 0 ⌝ }
 {
     if number == 0 {
+        return at;
+    }
+    0
+}
+
+// A place among so many, else the first.
+pub(crate) fn if_below(at: usize, many: usize) -> usize
+    ensures { λ r. ⌜ r ≡ cond (ltb at many) at 0 ⌝ }
+{
+    if at < many {
         return at;
     }
     0

@@ -116,8 +116,10 @@ fn opened_primary(g: Settings) -> Primary
         acknowledged: 0,
         alone: false,
         blocks: 0,
+        records: 0,
         waiting: 0,
         queue: queue,
+        numbers: [0; 64],
     }
 }
 
@@ -145,6 +147,7 @@ fn opened_standby(g: Settings, processor: [u8; 64]) -> Standby
         received: 0,
         slots: slots,
         blocks: 0,
+        records: 0,
         pages: 0,
         next: 0,
         seen: false,

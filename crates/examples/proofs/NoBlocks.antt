@@ -45,9 +45,9 @@ read-block wide u epoch block content rest ok size =
     frame-read (reader.Standby wide) u BLOCK body (record { unit = ok; for-reader = for-block wide; size = n }) rest
 
 -- and refused, whatever it holds
-refused : (s : Standby) (epoch block : ℕ) → s .settings .d ≡ 0 → blockRefusal s epoch block ≡ 2
+refused : (s : Standby) (free epoch block : ℕ) → s .settings .d ≡ 0 → blockRefusal s free epoch block ≡ 2
 unfolding blockRefusal
-refused s epoch block e = rw (below-zero block (s .settings .d) e)
+refused s free epoch block e = rw (below-zero block (s .settings .d) e)
 
 pub no-blocks : NoBlocks
 unfolding diskWriteRefusal diskWriteReply activeDiskWriteRefusal
@@ -60,5 +60,5 @@ no-blocks =
       received = λ s l epoch block content rest e ok exact mode size.
           let m : isReceiving (s .mode) ≡ true = rw mode in
           let r = read-block (isWide (s .settings .m)) (s .settings .u) epoch block content rest (shared-unit (standby-facts s ok .settings .shared)) size in
-          judged-number s l (whole epoch block content rest) ok exact m _ (sym r) 2 (sym (refused s _ _ e));
+          judged-number s l (whole epoch block content rest) ok exact m _ (sym r) 2 (sym (refused s _ _ _ e));
     }

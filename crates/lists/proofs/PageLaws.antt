@@ -11,7 +11,7 @@ use lib.ListN.{length, getD, take, drop, length-append, length-take, length-drop
 use lib.Seq.{take-all, length-take-le, drop-at, take-append-le, drop-append-le, take-add, getD-take, getD-drop, getD-append-add, ext-getD}
 use Rattle.lists.specs.Part.{part, put}
 use Rattle.lists.specs.Page.{page, withPage, gather}
-use Rattle.lists.proofs.TestLaws.{lt-or-ge}
+use Rattle.lists.proofs.TestLaws.{lt-or-ge, eq-or-ne}
 use Rattle.lists.proofs.PartLaws.{length-part, length-put, part-put}
 
 -- ---- sizes: p * u, where u is a variable. This is the only fact about the product that the rest uses
@@ -141,3 +141,53 @@ module _ (u p : ℕ) (l bs : List ℕ) (size : length bs ≡ u) (fits : p * u + 
   unfolding withPage
   page-with-other q ne =
       ap (λ (n : ℕ). page u (put l n bs) q) (sym (add-zero (p * u))) ∙ page-put-other l u p q 0 bs ne (omega (arith, zero-add (length bs))) fits
+
+-- ---- two pages stored one after the other, in an image of m pages
+module _ (u m : ℕ) (l : List ℕ) (whole : length l ≡ m * u) (p : ℕ) (a : List ℕ) (below : p < m) (size : length a ≡ u) where
+  inside : p * u + u ≤ length l
+  inside = omega (arith, page-end p m u below)
+
+  -- it stays one of m pages
+  pub whole-with-page : length (withPage u l p a) ≡ m * u
+  whole-with-page = length-with-page u p l a size inside ∙ whole
+
+  -- the same page: the later bytes stay
+  pub with-page-twice : (b : List ℕ) → length b ≡ u → withPage u (withPage u l p a) p b ≡ withPage u l p b
+  with-page-twice b size′ =
+      let fits : p * u + u ≤ length (withPage u l p a) = omega (arith, whole-with-page, page-end p m u below) in
+      pages-ext u m _ _ (length-with-page u p (withPage u l p a) b size′ fits ∙ whole-with-page) (length-with-page u p l b size′ inside ∙ whole)
+      (λ r h.
+      ⊎-elim
+      (λ (e : r ≡ p). rw e (page-with-same u p (withPage u l p a) b size′ fits ∙ sym (page-with-same u p l b size′ inside)))
+      (λ (ne : r ≢ p).
+      page-with-other u p (withPage u l p a) b size′ fits r ne
+      ∙ page-with-other u p l a size inside r ne
+      ∙ sym (page-with-other u p l b size′ inside r ne))
+      (eq-or-ne r p))
+
+-- two pages: their order does not matter
+pub with-page-swap : (u m : ℕ) (l : List ℕ) → length l ≡ m * u → (p q : ℕ) (a b : List ℕ) → p < m → q < m → length a ≡ u → length b ≡ u → q ≢ p
+    → withPage u (withPage u l p a) q b ≡ withPage u (withPage u l q b) p a
+with-page-swap u m l whole p q a b lp lq sa sb ne =
+    let ip = inside u m l whole p a lp sa in
+    let iq = inside u m l whole q b lq sb in
+    let wp = whole-with-page u m l whole p a lp sa in
+    let wq = whole-with-page u m l whole q b lq sb in
+    let ip′ = inside u m (withPage u l q b) wq p a lp sa in
+    let iq′ = inside u m (withPage u l p a) wp q b lq sb in
+    pages-ext u m _ _ (whole-with-page u m (withPage u l p a) wp q b lq sb) (whole-with-page u m (withPage u l q b) wq p a lp sa)
+    (λ r h.
+    ⊎-elim
+    (λ (e : r ≡ q).
+    rw e
+    (page-with-same u q (withPage u l p a) b sb iq′
+    ∙ sym (page-with-other u p (withPage u l q b) a sa ip′ q ne ∙ page-with-same u q l b sb iq)))
+    (λ (nq : r ≢ q).
+    page-with-other u q (withPage u l p a) b sb iq′ r nq
+    ∙ ⊎-elim
+    (λ (e : r ≡ p). rw e (page-with-same u p l a sa ip ∙ sym (page-with-same u p (withPage u l q b) a sa ip′)))
+    (λ (np : r ≢ p).
+    page-with-other u p l a sa ip r np
+    ∙ sym (page-with-other u p (withPage u l q b) a sa ip′ r np ∙ page-with-other u q l b sb iq r nq))
+    (eq-or-ne r p))
+    (eq-or-ne r q))

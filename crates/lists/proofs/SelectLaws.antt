@@ -1,14 +1,18 @@
--- Laws of the elements that pass a test: one list behind another, the first that passes, and the list without one of
--- its elements. Assumes nothing.
-use mathlib.Core.Path.{_≡_, refl, sym, ap, _∙_}
-use mathlib.Core.Bool.{Bool, true, false}
+-- Laws of the elements that pass a test: one list behind another, the first that passes and the search for it, the list
+-- without one of its elements, and numbers in a list. Assumes nothing.
+use mathlib.Core.Path.{_≡_, refl, sym, ap, _∙_, subst}
+use mathlib.Core.Bool.{Bool, true, false, cond, true≢false}
 use mathlib.Core.Logic.{⊎-elim}
 use mathlib.Core.List.{List, [], _∷_, _++_, append-nil}
 use Prim.Native.Nat.{ℕ, zero, suc, _+_, _≤_, _<_}
 use native.Mathlib.Omega.{arith}
+use lib.Dec.{eqb}
 use lib.ListN.{length, take, drop, getD}
-use Rattle.lists.proofs.TestLaws.{by-test}
-use Rattle.lists.specs.Select.{selected, placeOf, without}
+use lib.Seq.{drop-nil}
+use borrow.Author.Tests.{ltb-true, ltb-false, lt-ltb, le-ltb, eqb-true, eqb-false, ne-eqb}
+use Rattle.lists.proofs.TestLaws.{by-test, agree, cond-true, cond-false}
+use Rattle.lists.proofs.ArrayLaws.{rest-cons, rest-none}
+use Rattle.lists.specs.Select.{selected, placeOf, without, placeIn, isIn, NoRepeats}
 
 module _ {A : Type 0} where
   -- ---- the list without its i-th element
@@ -44,6 +48,10 @@ module _ {A : Type 0} (f : A → Bool) where
   pub place-no : (x : A) (xs : List A) → f x ≡ false → placeOf f (x ∷ xs) ≡ suc (placeOf f xs)
   unfolding placeOf
   place-no x xs e = rw e
+
+  pub place-none : placeOf f [] ≡ 0
+  unfolding placeOf
+  place-none = refl
 
   pub selected-none : selected f [] ≡ []
   unfolding selected
@@ -119,3 +127,81 @@ module _ {A : Type 0} (f : A → Bool) where
       (λ y. selected-yes x (without i xs) y ∙ ap (λ (l : List A). x ∷ l) s ∙ sym (selected-yes x xs y))
       (λ y. selected-no x (without i xs) y ∙ s ∙ sym (selected-no x xs y))
       (by-test (f x))
+
+  -- ---- the search among the first n elements, at the i-th: its place, counted from the head of the list
+  module _ (l : List A) (z : A) (i n : ℕ) (fits : n ≤ length l) where
+    pub search-passed : i < n → f (getD l i z) ≡ false → i + placeOf f (drop i (take n l)) ≡ i + 1 + placeOf f (drop (i + 1) (take n l))
+    search-passed h e = ap (λ (r : List A). i + placeOf f r) (rest-cons l z i n h fits) ∙ omega (arith, place-no (getD l i z) (drop (i + 1) (take n l)) e)
+
+    pub search-found : i < n → f (getD l i z) ≡ true → i + placeOf f (drop i (take n l)) ≡ i
+    search-found h e = ap (λ (r : List A). i + placeOf f r) (rest-cons l z i n h fits) ∙ omega (arith, place-yes (getD l i z) (drop (i + 1) (take n l)) e)
+
+    pub search-end : n ≤ i → i + placeOf f (drop i (take n l)) ≡ i
+    search-end h = ap (λ (r : List A). i + placeOf f r) (rest-none l i n h fits) ∙ omega (arith, place-none)
+
+-- ---- numbers in a list
+module _ (n : ℕ) where
+  abbrev is : ℕ → Bool
+  is m = eqb m n
+
+  -- it is the first, or among the others
+  pub in-first : (m : ℕ) (ns : List ℕ) → eqb m n ≡ true → isIn n (m ∷ ns) ≡ true
+  in-first m ns e = lt-ltb (placeIn n (m ∷ ns)) (length (m ∷ ns)) (omega (arith, place-yes is m ns e))
+
+  pub in-others : (m : ℕ) (ns : List ℕ) → eqb m n ≡ false → isIn n (m ∷ ns) ≡ isIn n ns
+  in-others m ns e =
+      let p = place-no is m ns e in
+      agree (isIn n (m ∷ ns)) (isIn n ns)
+      (λ z. lt-ltb (placeIn n ns) (length ns) (omega (arith, ltb-true (placeIn n (m ∷ ns)) (length (m ∷ ns)) z)))
+      (λ z. lt-ltb (placeIn n (m ∷ ns)) (length (m ∷ ns)) (omega (arith, ltb-true (placeIn n ns) (length ns) z)))
+
+  pub in-none : isIn n [] ≡ false
+  in-none = le-ltb (placeIn n []) 0 (omega arith)
+
+  -- where it is not, its place is behind all of them
+  pub place-not-in : (ns : List ℕ) → isIn n ns ≡ false → placeIn n ns ≡ length ns
+  place-not-in ns e = omega (arith, place-low is ns, ltb-false (placeIn n ns) (length ns) e)
+
+  -- one number more, which is another one
+  pub in-more : (ns : List ℕ) (m : ℕ) → isIn n ns ≡ false → eqb m n ≡ false → isIn n (ns ++ (m ∷ [])) ≡ false
+  in-more [] m h e = in-others m [] e ∙ in-none
+  in-more (x ∷ ns) m h e =
+      ⊎-elim
+      (λ y. absurd (true≢false (sym (in-first x ns y) ∙ h)))
+      (λ y. in-others x (ns ++ (m ∷ [])) y ∙ in-more ns m (sym (in-others x ns y) ∙ h) e)
+      (by-test (eqb x n))
+
+-- a number that was not in the list
+pub no-repeats-more : (ns : List ℕ) (n : ℕ) → NoRepeats ns → isIn n ns ≡ false → NoRepeats (ns ++ (n ∷ []))
+no-repeats-more [] n h e = (in-none n, tt)
+no-repeats-more (m ∷ ns) n h e =
+    ⊎-elim
+    (λ y. absurd (true≢false (sym (in-first n m ns y) ∙ e)))
+    (λ y. (in-more m ns n (h .0) (ne-eqb n m (λ z. eqb-false m n y (sym z))), no-repeats-more ns n (h .1) (sym (in-others n m ns y) ∙ e)))
+    (by-test (eqb m n))
+
+-- ---- the numbers with n, once
+abbrev pub withNumber : ℕ → List ℕ → List ℕ
+withNumber n ns = cond (isIn n ns) ns (ns ++ (n ∷ []))
+
+pub with-number-again : (n : ℕ) (ns : List ℕ) → isIn n ns ≡ true → withNumber n ns ≡ ns
+with-number-again n ns e = cond-true (isIn n ns) ns (ns ++ (n ∷ [])) e
+
+pub with-number-new : (n : ℕ) (ns : List ℕ) → isIn n ns ≡ false → withNumber n ns ≡ ns ++ (n ∷ [])
+with-number-new n ns e = cond-false (isIn n ns) ns (ns ++ (n ∷ [])) e
+
+pub no-repeats-with : (n : ℕ) (ns : List ℕ) → NoRepeats ns → NoRepeats (withNumber n ns)
+no-repeats-with n ns h =
+    ⊎-elim
+    (λ e. subst NoRepeats (sym (with-number-again n ns e)) h)
+    (λ e. subst NoRepeats (sym (with-number-new n ns e)) (no-repeats-more ns n h e))
+    (by-test (isIn n ns))
+
+-- a number is not behind its first place
+pub not-behind : (n : ℕ) (ns : List ℕ) → NoRepeats ns → isIn n (drop (placeIn n ns + 1) ns) ≡ false
+not-behind n [] h = rw drop-nil (in-none n)
+not-behind n (m ∷ ns) h =
+    ⊎-elim
+    (λ y. rw (place-yes (is n) m ns y) (rw (eqb-true m n y) at (h .0)))
+    (λ y. let e : suc (placeIn n ns) + 1 ≡ suc (placeIn n ns + 1) = omega arith in rw (place-no (is n) m ns y, e) (not-behind n ns (h .1)))
+    (by-test (eqb m n))

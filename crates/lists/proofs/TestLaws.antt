@@ -1,6 +1,6 @@
 -- Laws of tests: what a test says as a fact, conjunctions taken apart, and lists of tests with their numbers. Assumes nothing.
 use mathlib.Core.Path.{_≡_, refl, sym, _∙_}
-use mathlib.Core.Bool.{Bool, true, false, cond, _&&_, false≢true, true≢false}
+use mathlib.Core.Bool.{Bool, true, false, cond, _&&_, _||_, false≢true, true≢false}
 pub use mathlib.Core.Bool.{and-false}
 use mathlib.Core.Logic.{_⊎_, inl, inr}
 use mathlib.Core.List.{List, [], _∷_}
@@ -35,6 +35,15 @@ both false b e = absurd (false≢true e)
 
 pub join : (a b : Bool) → a ≡ true → b ≡ true → a && b ≡ true
 join a b p q = simp (p, q)
+
+-- a test that is made only where another does not hold
+pub unless : (a b : Bool) → (a || b) ≡ true → a ≡ false → b ≡ true
+unless true b e h = absurd (true≢false h)
+unless false b e h = e
+
+pub or-unless : (a b : Bool) → (a ≡ false → b ≡ true) → (a || b) ≡ true
+or-unless true b f = refl
+or-unless false b f = f refl
 
 -- an order, and an equality, is decided
 pub lt-or-ge : (m n : ℕ) → (m < n) ⊎ (n ≤ m)

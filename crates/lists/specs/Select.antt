@@ -1,7 +1,10 @@
--- The elements of a list that pass a test, and the first of them. Assumes nothing.
+-- The elements of a list that pass a test, and the first of them; whether a number is in a list. Assumes nothing.
 use Prim.Native.Nat.{ℕ, zero, suc}
-use mathlib.Core.Bool.{Bool, cond}
+use mathlib.Core.Path.{_≡_}
+use mathlib.Core.Bool.{Bool, false, cond}
 use mathlib.Core.List.{List, [], _∷_}
+use lib.Dec.{ltb, eqb}
+use lib.ListN.{length}
 
 module _ {A : Type 0} where
   -- those that pass, in order
@@ -19,3 +22,16 @@ module _ {A : Type 0} where
   without i [] = []
   without zero (x ∷ xs) = xs
   without (suc i) (x ∷ xs) = x ∷ without i xs
+
+-- the place of the first of these numbers that is n; where none is, their count
+abbrev pub placeIn : ℕ → List ℕ → ℕ
+placeIn n ns = placeOf (λ (m : ℕ). eqb m n) ns
+
+-- n is one of these numbers
+abbrev pub isIn : ℕ → List ℕ → Bool
+isIn n ns = ltb (placeIn n ns) (length ns)
+
+-- no number is in the list twice
+abbrev pub NoRepeats : List ℕ → Type 0
+NoRepeats [] = Unit {0}
+NoRepeats (n ∷ ns) = (isIn n ns ≡ false) × NoRepeats ns

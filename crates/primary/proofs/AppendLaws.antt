@@ -62,10 +62,10 @@ module _ {p : Primary} {memory dirty stream processor : List ℕ} (fits : Checkp
   pages-room = let g = facts .settings .shared in (f .memory-is, omega (arith, number-fits (p .settings .m) (p .settings .m) (g .m-high) (omega arith)), omega (arith, width-range wide, g .u-high), omega (arith, room))
 
   -- the counts fit their fields
-  pub counts-fit : (dirtyCount p dirty < 256 ^ numberWidth (isWide (p .settings .m))) × (p .blocks < 256 ^ numberWidth (isWide (p .settings .m)))
+  pub counts-fit : (dirtyCount p dirty < 256 ^ numberWidth (isWide (p .settings .m))) × (p .records < 256 ^ numberWidth (isWide (p .settings .m)))
   counts-fit =
       let g = facts in
-      (number-fits (p .settings .m) (dirtyCount p dirty) (g .settings .shared .m-high) (count-le dirty (p .settings .m)), two-fits wide (p .blocks) (omega arith))
+      (number-fits (p .settings .m) (dirtyCount p dirty) (g .settings .shared .m-high) (count-le dirty (p .settings .m)), two-fits wide (p .records) (omega arith))
 
   abbrev pageRecords : List ℕ
   pageRecords = dirtyRecords memory dirty wide (p .settings .u) (p .epoch) (p .settings .m)
@@ -74,7 +74,7 @@ module _ {p : Primary} {memory dirty stream processor : List ℕ} (fits : Checkp
   state = stateRecord (p .epoch) processor
 
   abbrev commit : List ℕ
-  commit = commitRecord wide (p .epoch) (dirtyCount p dirty) (p .blocks)
+  commit = commitRecord wide (p .epoch) (dirtyCount p dirty) (p .records)
 
   pages-length : length pageRecords ≡ dirtyCount p dirty * recordLength (p .settings .u) (pageKind wide)
   pages-length = length-dirty memory dirty wide (p .settings .u) (p .epoch) (p .settings .m) (f .memory-is)

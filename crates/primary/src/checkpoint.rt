@@ -7,7 +7,7 @@ ghost use Rattle.records.specs.Kind.{pageKind, numberWidth, recordLength, count
 ghost use Rattle.records.specs.Write.{stateRecord, commitRecord};
 ghost use Rattle.marks.specs.Mark.{countMarks};
 ghost use Rattle.pages.specs.Dirty.{dirtyRecords};
-ghost use Rattle.rules.specs.PrimaryState.{withEpochBlocksWaiting};
+ghost use Rattle.rules.specs.PrimaryState.{withEpochWaiting};
 ghost use Rattle.rules.specs.Checkpoint.{dirtyCount, checkpointLength, checkpointBytes, checkpointRefusal, checkpointNumber, checkpointReply, checkpointDirty, checkpointStream};
 use crate::ranges::memory_ok;
 use records::kinds::is_wide;
@@ -113,22 +113,24 @@ fn append_checkpoint(
 {
     let g = p.settings;
     let epoch = p.epoch;
-    let blocks = p.blocks;
+    let records = p.records;
     let waiting = p.waiting;
     let u = g.u;
     let m = g.m;
     let wide = is_wide(m);
     let state = append_pages(stream, waiting, memory, dirty, wide, u, epoch, m);
     let commit = append_state(stream, state, epoch, processor);
-    append_commit(stream, commit, wide, epoch, pages, blocks)
+    append_commit(stream, commit, wide, epoch, pages, records)
 }
 
-fn with_epoch_blocks_waiting(p: Primary, epoch: u32, blocks: usize, waiting: usize) -> Primary
-    ensures { λ r. ⌜ r ≡ withEpochBlocksWaiting p epoch blocks waiting ⌝ }
+// Another open epoch, of which no block is written yet: of the numbers, which stay, none counts.
+fn with_epoch_waiting(p: Primary, epoch: u32, waiting: usize) -> Primary
+    ensures { λ r. ⌜ r ≡ withEpochWaiting p epoch waiting ⌝ }
 {
     let mut next = p;
     next.epoch = epoch;
-    next.blocks = blocks;
+    next.blocks = 0;
+    next.records = 0;
     next.waiting = waiting;
     next
 }
@@ -160,7 +162,7 @@ pub fn checkpoint(
     }
     let waiting = append_checkpoint(p, memory, dirty, stream, pages, processor);
     marks::clear(dirty, m);
-    let state = with_epoch_blocks_waiting(p, epoch + 1, 0, waiting);
+    let state = with_epoch_waiting(p, epoch + 1, waiting);
     PrimaryReply {
         state: state,
         number: 0,

@@ -36,7 +36,16 @@ fn packet_refusal(p: Primary, seen: Seen, held: usize, port: usize, n: usize) ->
     let epoch = p.epoch;
     let k = p.queue;
     let q = g.q;
-    if !numbers_ok(g, d, epoch, p.acknowledged, p.alone, p.blocks, p.waiting) {
+    if !numbers_ok(
+        g,
+        d,
+        epoch,
+        p.acknowledged,
+        p.alone,
+        p.blocks,
+        p.records,
+        p.waiting,
+    ) {
         return number::OUT_OF_RANGE;
     }
     if !queue::seen_ok(seen, k.count, k.bytes, epoch, q) {
@@ -126,7 +135,16 @@ fn take_refusal(
     let alone = p.alone;
     let k = p.queue;
     let q = g.q;
-    if !numbers_ok(g, d, epoch, p.acknowledged, p.alone, p.blocks, p.waiting) {
+    if !numbers_ok(
+        g,
+        d,
+        epoch,
+        p.acknowledged,
+        p.alone,
+        p.blocks,
+        p.records,
+        p.waiting,
+    ) {
         return number::OUT_OF_RANGE;
     }
     if !queue::seen_ok(seen, k.count, k.bytes, epoch, q) {

@@ -2,11 +2,12 @@
 ghost use mathlib.Core.Path.{_≡_};
 ghost use mathlib.Core.Bool.{_&&_, not};
 ghost use lib.Dec.{leb, ltb, eqb};
-ghost use Rattle.settings.specs.Range.{primarySettingsOk};
+ghost use Rattle.settings.specs.Range.{primarySettingsOk, mostRecords};
 ghost use Rattle.detector.specs.Range.{detectorOk};
 ghost use Rattle.rules.specs.PrimaryState.{primaryOk, memoryLength, marksLength};
 use detector::Detector;
 use rules::Primary;
+use settings::MOST_RECORDS;
 use settings::PrimarySettings;
 
 // Whether all of a state but its queue is in its ranges. Packet, take and drain ask this, and test the queue, apart: this takes numbers alone, where the whole state with its
@@ -18,9 +19,10 @@ pub(crate) fn numbers_ok(
     acknowledged: u32,
     alone: bool,
     blocks: usize,
+    records: usize,
     waiting: usize,
 ) -> bool
-    ensures { λ r. ⌜ r ≡ (primarySettingsOk g && ltb acknowledged epoch && leb waiting (g .l) && leb blocks (g .b) && detectorOk d (not alone)) ⌝ }
+    ensures { λ r. ⌜ r ≡ (primarySettingsOk g && ltb acknowledged epoch && leb waiting (g .l) && leb blocks (g .b) && leb records mostRecords && detectorOk d (not alone)) ⌝ }
 {
     let b = g.b;
     let l = g.l;
@@ -34,6 +36,9 @@ pub(crate) fn numbers_ok(
         return false;
     }
     if b < blocks {
+        return false;
+    }
+    if MOST_RECORDS < records {
         return false;
     }
     if !detector::detector_ok(d, !alone) {
@@ -52,10 +57,11 @@ pub fn primary_ok(p: Primary) -> bool
     let acknowledged = p.acknowledged;
     let alone = p.alone;
     let blocks = p.blocks;
+    let records = p.records;
     let waiting = p.waiting;
     let k = p.queue;
     let q = g.q;
-    if !numbers_ok(g, d, epoch, acknowledged, alone, blocks, waiting) {
+    if !numbers_ok(g, d, epoch, acknowledged, alone, blocks, records, waiting) {
         return false;
     }
     if !queue::queue_ok(k, epoch, q) {

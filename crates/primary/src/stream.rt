@@ -39,7 +39,16 @@ fn drain_refusal(p: Primary, stream: usize) -> u64
     let k = p.queue;
     let q = g.q;
     let l = g.l;
-    if !numbers_ok(g, d, epoch, p.acknowledged, p.alone, p.blocks, p.waiting) {
+    if !numbers_ok(
+        g,
+        d,
+        epoch,
+        p.acknowledged,
+        p.alone,
+        p.blocks,
+        p.records,
+        p.waiting,
+    ) {
         return number::OUT_OF_RANGE;
     }
     if !queue::queue_ok(k, epoch, q) {

@@ -2,18 +2,23 @@
 ghost use mathlib.Core.Path.{_≡_};
 ghost use mathlib.Core.Bool.{true, false, cond};
 ghost use Prim.Native.Nat.{_+_, _*_, _^_, _≤_, _<_};
-ghost use lib.ListN.{length};
+ghost use lib.ListN.{length, take};
 ghost use Rattle.lists.specs.Part.{put};
+ghost use Rattle.lists.specs.Select.{isIn};
 ghost use Rattle.lists.specs.Page.{withPage};
 ghost use Rattle.records.specs.Write.{blockRecord};
-ghost use Rattle.rules.specs.PrimaryState.{primaryOk, withBlocksWaiting};
-ghost use Rattle.rules.specs.PrimaryWrites.{memoryWriteRefusal, memoryWriteReply, memoryWriteMemory, memoryWriteDirty, diskWriteRefusal, diskWriteState, diskWriteReply, diskWriteDisk, diskWriteStream};
+ghost use Rattle.settings.specs.Range.{mostAllowance};
+ghost use Rattle.rules.specs.Blocks.{blockAllowed};
+ghost use Rattle.rules.specs.PrimaryState.{primaryOk, isWritten};
+ghost use Rattle.rules.specs.PrimaryWrites.{memoryWriteRefusal, memoryWriteReply, memoryWriteMemory, memoryWriteDirty, diskWriteRefusal, withBlockAppended, diskWriteState, diskWriteReply, diskWriteDisk, diskWriteStream};
 use crate::ranges::memory_ok;
 use crate::ranges::primary_ok;
 use records::UNIT_RECORD;
 use records::number;
 use rules::Primary;
 use rules::PrimaryReply;
+use settings::MOST_ALLOWANCE;
+use settings::MOST_RECORDS;
 
 // What a memory write is refused with: 1 2 3.
 fn memory_write_refusal(
@@ -74,17 +79,50 @@ pub fn memory_write(
     }
 }
 
+// Whether a block is among the first n of these numbers.
+fn is_in(numbers: [u16; MOST_ALLOWANCE], n: usize, block: usize) -> bool
+    requires { ⌜ n ≤ mostAllowance ⌝ }
+    ensures { λ r. ⌜ r ≡ isIn block (take n numbers) ⌝ }
+{
+    let mut i = 0;
+    while i < n {
+        if numbers[i] as usize == block {
+            return true;
+        }
+        i += 1;
+    }
+    false
+}
+
+// Whether the open epoch may have this block: not where it has 65,535 BLOCK records, nor where it has B different
+// blocks and this is another one.
+fn block_allowed(p: Primary, block: usize) -> bool
+    requires { ⌜ primaryOk p ≡ true ⌝ }
+    ensures { λ r. ⌜ r ≡ blockAllowed (isWritten p block) (p .settings .b) (p .blocks) (p .records) ⌝ }
+{
+    let g = p.settings;
+    let b = g.b;
+    let blocks = p.blocks;
+    let records = p.records;
+    let numbers = p.numbers;
+    if MOST_RECORDS <= records {
+        return false;
+    }
+    if blocks < b {
+        return true;
+    }
+    is_in(numbers, blocks, block)
+}
+
 // What a disk write is refused with: 1 2 3 14 15; alone neither 14 nor 15.
 fn disk_write_refusal(p: Primary, disk: usize, stream: usize, block: usize, n: usize) -> u64
     ensures { λ r. ⌜ r ≡ diskWriteRefusal p disk stream block n ⌝ }
 {
     let g = p.settings;
     let alone = p.alone;
-    let blocks = p.blocks;
     let waiting = p.waiting;
     let u = g.u;
     let d = g.d;
-    let b = g.b;
     let l = g.l;
     if !primary_ok(p) {
         return number::OUT_OF_RANGE;
@@ -104,7 +142,7 @@ fn disk_write_refusal(p: Primary, disk: usize, stream: usize, block: usize, n: u
     if alone {
         return 0;
     }
-    if b <= blocks {
+    if !block_allowed(p, block) {
         return number::ALLOWANCE_USED;
     }
     if l < waiting + (u + UNIT_RECORD) {
@@ -140,29 +178,40 @@ fn append_block(
     records::writing::write_block(&mut stream[waiting..], epoch, block, bytes);
 }
 
-fn with_blocks_waiting(p: Primary, blocks: usize, waiting: usize) -> Primary
-    ensures { λ r. ⌜ r ≡ withBlocksWaiting p blocks waiting ⌝ }
+// One BLOCK more of the open epoch, and its bytes waiting; the number of a block that the epoch did not have is
+// remembered.
+fn with_block_appended(p: Primary, block: usize) -> Primary
+    requires { ⌜ (primaryOk p ≡ true) × (block < 2 ^ 16) × (blockAllowed (isWritten p block) (p .settings .b) (p .blocks) (p .records) ≡ true) ⌝ }
+    ensures { λ r. ⌜ r ≡ withBlockAppended p block ⌝ }
 {
+    let g = p.settings;
+    let u = g.u;
+    let blocks = p.blocks;
+    let records = p.records;
+    let waiting = p.waiting;
+    let numbers = p.numbers;
+    let again = is_in(numbers, blocks, block);
     let mut next = p;
-    next.blocks = blocks;
-    next.waiting = waiting;
+    next.records = records + 1;
+    next.waiting = waiting + (u + UNIT_RECORD);
+    if again {
+        return next;
+    }
+    next.numbers[blocks] = block as u16;
+    next.blocks = blocks + 1;
     next
 }
 
-// One block more of the open epoch, and its bytes waiting; alone nothing.
-fn disk_write_state(p: Primary) -> Primary
-    requires { ⌜ primaryOk p ≡ true ⌝ }
-    ensures { λ r. ⌜ r ≡ diskWriteState p ⌝ }
+// The state after a disk write; alone it stays.
+fn disk_write_state(p: Primary, block: usize) -> Primary
+    requires { ⌜ (primaryOk p ≡ true) × (block < 2 ^ 16) × (p .alone ≡ false → blockAllowed (isWritten p block) (p .settings .b) (p .blocks) (p .records) ≡ true) ⌝ }
+    ensures { λ r. ⌜ r ≡ diskWriteState p block ⌝ }
 {
-    let g = p.settings;
     let alone = p.alone;
-    let blocks = p.blocks;
-    let waiting = p.waiting;
-    let u = g.u;
     if alone {
         return p;
     }
-    with_blocks_waiting(p, blocks + 1, waiting + (u + UNIT_RECORD))
+    with_block_appended(p, block)
 }
 
 // Stores U bytes as a block of the disk and appends a BLOCK to the stream.
@@ -192,7 +241,7 @@ pub fn disk_write(
     }
     write_disk(disk, u, block, bytes);
     append_block(stream, alone, waiting, epoch, block, bytes);
-    let state = disk_write_state(p);
+    let state = disk_write_state(p, block);
     PrimaryReply {
         state: state,
         number: 0,

@@ -13,7 +13,7 @@ use lib.Seq.{take-suc, length-take-le}
 use borrow.Author.Tests.{lt-ltb, le-ltb}
 use Rattle.lists.specs.Select.{placeOf}
 use Rattle.lists.proofs.TestLaws.{by-test}
-use Rattle.lists.proofs.SelectLaws.{place-yes, place-no, place-kept, place-behind}
+use Rattle.lists.proofs.SelectLaws.{place-yes, place-no, place-none, place-kept, place-behind}
 use Rattle.settings.specs.Range.{mostPackets}
 use Rattle.queue.specs.declared.Packet.{Packet}
 use Rattle.queue.specs.declared.Queue.{Queue}
@@ -69,10 +69,6 @@ module _ (port : ℕ) (ps : List Packet) (s : Place) (i : ℕ) (w : Placed port 
   behind : s .found ≡ false → placeOf (isOfPort port) (take (i + 1) ps) ≡ i + placeOf (isOfPort port) (next ∷ [])
   behind f = ap (placeOf (isOfPort port)) more ∙ place-behind (isOfPort port) (take i ps) (next ∷ []) (w .none f .1 ∙ sym many) ∙ ap (λ (n : ℕ). n + placeOf (isOfPort port) (next ∷ [])) many
 
-  none-there : placeOf (isOfPort port) [] ≡ 0
-  unfolding placeOf
-  none-there = refl
-
   pub placed-next : (bytes : ℕ) → bytes ≡ sumLengths (take i ps) → (r : Place) → r ≡ placeWith s port (next .port) i bytes → Placed port ps r (i + 1)
   placed-next bytes sum r e =
       ⊎-elim
@@ -84,7 +80,7 @@ module _ (port : ℕ) (ps : List Packet) (s : Place) (i : ℕ) (w : Placed port 
       (record { none = λ x. absurd (true≢false x); some = λ x. (omega arith, sym (behind f ∙ omega (arith, place-yes (isOfPort port) next [] y)), sum) }))
       (λ (y : isOfPort port next ≡ false).
       rw (e ∙ place-passed s port (next .port) i bytes f y)
-      (record { none = λ x. (w .none f .0, behind f ∙ omega (arith, place-no (isOfPort port) next [] y, none-there)); some = λ x. absurd (true≢false (sym x ∙ f)) }))
+      (record { none = λ x. (w .none f .0, behind f ∙ omega (arith, place-no (isOfPort port) next [] y, place-none (isOfPort port))); some = λ x. absurd (true≢false (sym x ∙ f)) }))
       (by-test (isOfPort port next)))
       (by-test (s .found))
 

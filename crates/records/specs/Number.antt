@@ -55,7 +55,7 @@ badArea = 12
 abbrev pub wrongMode : ℕ
 wrongMode = 13
 
--- the epoch already has B blocks
+-- the epoch already has B different blocks and this is another, or it has 65,535 BLOCK records (document 02, Job 9)
 abbrev pub allowanceUsed : ℕ
 allowanceUsed = 14
 
@@ -67,7 +67,7 @@ streamFull = 15
 abbrev pub queueFull : ℕ
 queueFull = 16
 
--- S blocks staged
+-- S blocks staged, none of them this block in this epoch
 abbrev pub slotsFull : ℕ
 slotsFull = 17
 

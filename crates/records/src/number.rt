@@ -41,7 +41,7 @@ pub const BAD_AREA: u64 = 12;
 // standby not active
 pub const WRONG_MODE: u64 = 13;
 
-// the epoch already has B blocks
+// the epoch already has B different blocks and this is another, or it has 65,535 BLOCK records (document 02, Job 9)
 pub const ALLOWANCE_USED: u64 = 14;
 
 // the stream lacks the bytes needed
@@ -50,7 +50,7 @@ pub const STREAM_FULL: u64 = 15;
 // 64 packets held, or Q would be passed
 pub const QUEUE_FULL: u64 = 16;
 
-// S blocks staged
+// S blocks staged, none of them this block in this epoch
 pub const SLOTS_FULL: u64 = 17;
 
 // nothing may be handed out

@@ -123,7 +123,7 @@ pub fn write_state(out: &mut [u8], epoch: u32, processor: &[u8; 64]) -> usize
     STATE_RECORD
 }
 
-// COMMIT, kind 4, or 9 where it is wide, with the counts of the checkpoint's pages and blocks.
+// COMMIT, kind 4, or 9 where it is wide, with the counts of the checkpoint's PAGE and BLOCK records.
 pub fn write_commit(out: &mut [u8], wide: bool, epoch: u32, pages: usize, blocks: usize) -> usize
     ensures { λ r. ⌜ Written (countsFit wide pages blocks) (commitRecord wide epoch pages blocks) (now (out .entry)) (now (out .exit)) r ⌝ }
 {

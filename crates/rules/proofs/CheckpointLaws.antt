@@ -19,10 +19,9 @@ use Rattle.pages.proofs.DirtyLaws.{length-dirty}
 use Rattle.queue.proofs.QueueLaws.{queue-later}
 use Rattle.rules.specs.declared.Primary.{Primary}
 use Rattle.rules.specs.PrimaryState.{primaryOk, protected, memoryLength, marksLength}
-use Rattle.rules.specs.Checkpoint.{checkpointTests, dirtyCount, checkpointLength, checkpointBytes, checkpointRefusal, checkpointState, checkpointReply}
-use Rattle.rules.specs.Reached.{PrimaryReached}
+use Rattle.rules.specs.Checkpoint.{checkpointTests, dirtyCount, checkpointLength, checkpointBytes, checkpointRefusal, checkpointState}
+use Rattle.rules.specs.Reached.{PrimaryInRange, PrimaryReached}
 use Rattle.rules.proofs.PrimaryFacts.{primary-facts, primary-of}
-use Rattle.rules.proofs.ReplyLaws.{pick-cases}
 
 pub record CheckpointRoom (p : Primary) (memory dirty stream pages : ℕ) : Type 0 where
   pub ok : primaryOk p ≡ true
@@ -65,9 +64,9 @@ module _ (p : Primary) (memory dirty stream pages : ℕ) where
           ),
         )
 
-    pub checkpoint-state-reached : PrimaryReached p → PrimaryReached (checkpointState p pages)
+    pub checkpoint-in-range : PrimaryInRange p → PrimaryInRange (checkpointState p pages)
     unfolding checkpointState
-    checkpoint-state-reached r =
+    checkpoint-in-range r =
         let g = primary-facts p (f .ok) in
         record {
           inRange = primary-of _ (record {
@@ -76,15 +75,17 @@ module _ (p : Primary) (memory dirty stream pages : ℕ) where
             acknowledged = omega arith;
             waiting = f .room;
             blocks = omega arith;
+            records = omega arith;
             detector = g .detector;
           });
           packets = r .packets;
+          numbers = r .numbers;
         }
 
-  pub checkpoint-reached : PrimaryReached p → PrimaryReached (checkpointReply p memory dirty stream pages .state)
-  unfolding checkpointReply
-  checkpoint-reached r =
-      pick-cases PrimaryReached (checkpointRefusal p memory dirty stream pages) (checkpointState p pages) p (λ e. checkpoint-state-reached (checkpoint-accepted e) r) (λ e. r)
+    -- the next epoch has no block yet
+    pub checkpoint-reached : PrimaryReached p → PrimaryReached (checkpointState p pages)
+    unfolding checkpointState
+    checkpoint-reached r = record { range = checkpoint-in-range (r .range); different = tt; recordsHigh = omega arith }
 
 -- the bytes in numbers, of either width
 pub checkpoint-length : (u : ℕ) (wide : Bool) (pages : ℕ) → checkpointLength u wide pages ≡ pages * (u + numberEnd wide) + (72 + countsEnd wide)
@@ -106,7 +107,7 @@ length-checkpoint p memory dirty processor m s =
     let wide = isWide (p .settings .m) in
     let records = dirtyRecords memory dirty wide u (p .epoch) (p .settings .m) in
     let state = stateRecord (p .epoch) processor in
-    let commit = commitRecord wide (p .epoch) (dirtyCount p dirty) (p .blocks) in
+    let commit = commitRecord wide (p .epoch) (dirtyCount p dirty) (p .records) in
     length-append records (state ++ commit)
     ∙ omega (
       arith,
@@ -114,6 +115,6 @@ length-checkpoint p memory dirty processor m s =
       length-dirty memory dirty wide u (p .epoch) (p .settings .m) m,
       length-state (p .epoch) processor,
       s,
-      length-commit wide (p .epoch) (dirtyCount p dirty) (p .blocks),
+      length-commit wide (p .epoch) (dirtyCount p dirty) (p .records),
       state-commit-records u wide,
     )

@@ -12,7 +12,7 @@ use Rattle.settings.specs.Range.{leastStream, settingsOk, primarySettingsOk, st
 use Rattle.marks.specs.Mark.{bit, withBit, markBit, marked, withMark, cleared, countMarks}
 use Rattle.pages.specs.Dirty.{dirtyRecord, dirtyRecords, installedPage, installed}
 use Rattle.queue.specs.Held.{packetsOk, sumLengths, epochsOk, queueOk, added, addedBytes, packetBytes, withoutPacket, withoutPacketBytes}
-use Rattle.staging.specs.Slot.{numbersOk, slotsOk, withBlock, withBlockBytes, allDue, onlyDue, stored, flushed, flushedBytes}
+use Rattle.staging.specs.Slot.{numbersOk, slotsOk, slotFor, withBlock, withBlockBytes, allDue, onlyDue, stored, flushed, flushedBytes}
 use Rattle.detector.specs.Tick.{ticked}
 use Rattle.detector.specs.Range.{detectorOk}
 use Rattle.pages.specs.Write.{written}
@@ -41,7 +41,7 @@ unfolding unitOk bodyLength recordLength fieldsOf readRecord frame unitRecord st
 recordRules = tt
 
 unfoldable partRules : Unit {0}
-unfolding leastStream settingsOk primarySettingsOk standbySettingsOk bit withBit markBit marked withMark cleared countMarks dirtyRecord dirtyRecords installedPage installed packetsOk sumLengths epochsOk queueOk added addedBytes packetBytes withoutPacket withoutPacketBytes numbersOk slotsOk withBlock withBlockBytes allDue onlyDue stored flushed flushedBytes ticked
+unfolding leastStream settingsOk primarySettingsOk standbySettingsOk bit withBit markBit marked withMark cleared countMarks dirtyRecord dirtyRecords installedPage installed packetsOk sumLengths epochsOk queueOk added addedBytes packetBytes withoutPacket withoutPacketBytes numbersOk slotsOk slotFor withBlock withBlockBytes allDue onlyDue stored flushed flushedBytes ticked
 partRules = tt
 
 unfoldable primaryRules : Unit {0}

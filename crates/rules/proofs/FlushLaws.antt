@@ -1,16 +1,18 @@
 -- Laws of flush: what its acceptance says, and that a state stays in range, and reached. Assumes nothing.
-use mathlib.Core.Path.{_≡_, refl}
+use mathlib.Core.Path.{_≡_, refl, sym, subst}
 use mathlib.Core.Bool.{true, _&&_}
 use Prim.Native.Nat.{ℕ, _-_, _≤_}
 use native.Mathlib.Omega.{arith}
 use lib.Dec.{eqb}
 use lib.ListN.{length}
 use borrow.Author.Tests.{eqb-true, eq-eqb}
+use Rattle.lists.specs.Select.{NoRepeats}
 use Rattle.lists.proofs.TestLaws.{both, join, accepted, accepts}
 use Rattle.settings.specs.Range.{mostSlots}
 use Rattle.staging.specs.Slot.{flushed}
 use Rattle.staging.specs.Fits.{FlushFits}
 use Rattle.staging.proofs.SlotLaws.{array-flushed, slots-flushed}
+use Rattle.staging.proofs.BlockLaws.{fresh-flushed}
 use Rattle.staging.proofs.StoreLaws.{flush-fits}
 use Rattle.rules.specs.declared.Standby.{Standby}
 use Rattle.rules.specs.StandbyState.{standbyOk, diskLength, slotsLength, withSlotsBlocks}
@@ -51,15 +53,17 @@ module _ (s : Standby) (count : ℕ) where
   flushed-counts = (refl, refl)
 
   module _ (low : count ≤ s .slots .due) where
-    pub flushed-in-range : StandbyInRange s → StandbyInRange (withSlotsBlocks s (flushed (s .slots) count) (s .blocks))
+    pub flushed-in-range : StandbyInRange s → StandbyInRange (withSlotsBlocks s (flushed (s .slots) count) (s .blocks) (s .records))
     flushed-in-range r =
         let t = standby-tests s (r .inRange) in
         let f = standby-facts s (r .inRange) in
-        in-range-slots s (flushed (s .slots) count) (s .blocks) r
+        in-range-slots s (flushed (s .slots) count) (s .blocks) (s .records) r
         (slots-flushed (s .slots) (s .settings .s) (s .settings .d) (r .numbers) (f .settings .slots .s-high) count (t .slots-ok) low)
-        (array-flushed (s .slots) (r .numbers) count (omega arith) (omega arith)) (t .blocks-high)
+        (array-flushed (s .slots) (r .numbers) count (omega arith) (omega arith)) (t .blocks-high) (t .records-high)
 
-    pub flushed-reached : StandbyReached s → StandbyReached (withSlotsBlocks s (flushed (s .slots) count) (s .blocks))
+    pub flushed-reached : StandbyReached s → StandbyReached (withSlotsBlocks s (flushed (s .slots) count) (s .blocks) (s .records))
     flushed-reached r =
         let k = flushed-counts in
-        reached-slots s (flushed (s .slots) count) (s .blocks) r (flushed-in-range (r .range)) (omega (arith, r .notDue, k .0, k .1))
+        let f = standby-facts s (r .range .inRange) in
+        reached-slots s (flushed (s .slots) count) (s .blocks) (s .records) r (flushed-in-range (r .range)) (omega (arith, r .notDue, k .0, k .1))
+        (subst NoRepeats (sym (fresh-flushed (s .slots) count (r .range .numbers) (f .slots .due-high) (omega (arith, f .slots .staged-high, f .settings .slots .s-high)) low)) (r .different)) (r .recordsHigh)

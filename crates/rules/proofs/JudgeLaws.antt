@@ -1,13 +1,13 @@
 -- What the record that a read judged has, by its kind: everything that its effects ask. Assumes nothing.
 use mathlib.Core.Path.{_≡_, refl, ap}
-use mathlib.Core.Bool.{Bool, true, false, cond, _&&_, not}
+use mathlib.Core.Bool.{Bool, true, false, cond, _&&_, _||_, not}
 use mathlib.Core.List.{List, [], _∷_}
 use Prim.Native.Nat.{ℕ, _+_, _≤_, _<_}
 use native.Mathlib.Omega.{arith}
 use lib.Dec.{leb, ltb, eqb}
 use borrow.Author.Tests.{not-true, leb-true, le-leb, ltb-true, ltb-false, lt-ltb, eqb-true, eq-eqb}
 use Rattle.lists.specs.Refusal.{test, refusal}
-use Rattle.lists.proofs.TestLaws.{both, join, and-false, accepted, accepts}
+use Rattle.lists.proofs.TestLaws.{both, join, unless, or-unless, and-false, accepted, accepts}
 use Rattle.records.specs.Kind.{BLOCK, STATE, bodyLength, recordLength, processorBytes}
 use Rattle.records.specs.Number.{outOfRange, noSuchUnit, badEpoch, outOfOrder, wrongMode, allowanceUsed, slotsFull}
 use Rattle.records.specs.Cases.{byKind, onFound}
@@ -16,12 +16,14 @@ use Rattle.records.specs.declared.Cursor.{Cursor}
 use Rattle.records.specs.declared.Record.{Record}
 use Rattle.records.specs.declared.Record.the-variants.{Page, Block, State, Commit, Ack, Short, Refused}
 use Rattle.records.proofs.ReadLaws.{RecordFacts, ReadFacts, refused-number, read-facts}
-use Rattle.staging.specs.Slot.{freeSlots}
+use Rattle.staging.specs.Slot.{isStaged}
 use Rattle.rules.specs.declared.Standby.{Standby}
 use Rattle.rules.specs.declared.ReadLent.{ReadLent}
+use Rattle.rules.specs.Blocks.{blockAllowed}
 use Rattle.rules.specs.StandbyState.{isReceiving, standbyOk, memoryLength, marksLength, slotsLength}
 use Rattle.rules.specs.Reply.{unlessRefused}
-use Rattle.rules.specs.Judge.{isNext, pageTests, blockTests, stateTests, commitTests, readLentOk, pageRefusal, blockRefusal, stateRefusal, commitRefusal, recordRefusal, readerOf, judged}
+use Rattle.rules.specs.Judge.{isNext, pageTests, blockTests, stateTests, commitTests, readLentOk, freeFor, pageRefusal, blockRefusal, stateRefusal, commitRefusal, recordRefusal, readerOf, judged}
+use Rattle.rules.proofs.BlocksLaws.{BlockRoom, block-room, block-allowed}
 use Rattle.rules.proofs.ReplyLaws.{unless-cases}
 
 -- ---- "Lent lengths are exact"
@@ -61,8 +63,8 @@ pub record BlockTests (s : Standby) (e n : ℕ) : Type 0 where
   pub before-pages : s .next ≡ 0
   pub no-pages : s .pages ≡ 0
   pub before-state : s .seen ≡ false
-  pub allowed : s .blocks < s .settings .b
-  pub slot-free : 0 < freeSlots (s .slots) (s .settings .s)
+  pub allowed : BlockRoom (isStaged (s .slots) n) (s .settings .b) (s .blocks) (s .records)
+  pub slot-free : isStaged (s .slots) n ≡ false → 0 < freeFor s
 
 pub record StateTests (s : Standby) (e : ℕ) : Type 0 where
   pub epoch-next : e ≡ s .received + 1
@@ -73,7 +75,7 @@ pub record CommitTests (s : Standby) (reply e p b : ℕ) : Type 0 where
   pub epoch-next : e ≡ s .received + 1
   pub after-state : s .seen ≡ true
   pub pages-same : p ≡ s .pages
-  pub blocks-same : b ≡ s .blocks
+  pub records-same : b ≡ s .records
 
 module _ (s : Standby) where
   pub page-accepted : (e p : ℕ) → pageRefusal s e p ≡ 0 → PageTests s e p
@@ -84,10 +86,10 @@ module _ (s : Standby) where
       let r = both (leb (s .next) p) (leb (s .pages) p) (o .0) in
       record { page-low = ltb-true _ _ (a .0); epoch-next = eqb-true _ _ (a .1 .0); rising = leb-true _ _ (r .0); not-below = leb-true _ _ (r .1); before-state = not-true (s .seen) (o .1) }
 
-  pub block-accepted : (e n : ℕ) → blockRefusal s e n ≡ 0 → BlockTests s e n
+  pub block-accepted : (e n : ℕ) → blockRefusal s (freeFor s) e n ≡ 0 → BlockTests s e n
   unfolding blockRefusal
   block-accepted e n z =
-      let a = accepted (blockTests s e n) refl z in
+      let a = accepted (blockTests s (freeFor s) e n) refl z in
       let o = both (eqb (s .next) 0 && eqb (s .pages) 0) (not (s .seen)) (a .1 .1 .0) in
       let r = both (eqb (s .next) 0) (eqb (s .pages) 0) (o .0) in
       record {
@@ -96,8 +98,8 @@ module _ (s : Standby) where
         before-pages = eqb-true _ _ (r .0);
         no-pages = eqb-true _ _ (r .1);
         before-state = not-true (s .seen) (o .1);
-        allowed = ltb-true _ _ (a .1 .1 .1 .0);
-        slot-free = ltb-true _ _ (a .1 .1 .1 .1 .0);
+        allowed = block-room (isStaged (s .slots) n) (s .settings .b) (s .blocks) (s .records) (a .1 .1 .1 .0);
+        slot-free = λ e. ltb-true _ _ (unless (isStaged (s .slots) n) _ (a .1 .1 .1 .1 .0) e);
       }
 
   pub state-accepted : (e : ℕ) → stateRefusal s e ≡ 0 → StateTests s e
@@ -110,13 +112,13 @@ module _ (s : Standby) where
   unfolding commitRefusal recordLength bodyLength
   commit-accepted reply e p b z =
       let a = accepted (commitTests s reply e p b) refl z in
-      let n = both (eqb p (s .pages)) (eqb b (s .blocks)) (a .1 .1 .1 .0) in
+      let n = both (eqb p (s .pages)) (eqb b (s .records)) (a .1 .1 .1 .0) in
       record {
         room = leb-true _ _ (a .0);
         epoch-next = eqb-true _ _ (a .1 .0);
         after-state = a .1 .1 .0;
         pages-same = eqb-true _ _ (n .0);
-        blocks-same = eqb-true _ _ (n .1);
+        records-same = eqb-true _ _ (n .1);
       }
 
   -- and back: what has its kind's tests is accepted
@@ -128,16 +130,19 @@ module _ (s : Standby) where
         (eq-eqb _ _ (f .epoch-next), (join _ _ (join _ _ (le-leb _ _ (f .rising)) (le-leb _ _ (f .not-below))) (ap not (f .before-state)), tt)),
       )
 
-  pub block-accepts : (e n : ℕ) → BlockTests s e n → blockRefusal s e n ≡ 0
+  pub block-accepts : (e n : ℕ) → BlockTests s e n → blockRefusal s (freeFor s) e n ≡ 0
   unfolding blockRefusal
   block-accepts e n f =
-      accepts (blockTests s e n) (
+      accepts (blockTests s (freeFor s) e n) (
         lt-ltb _ _ (f .block-low),
         (
           eq-eqb _ _ (f .epoch-next),
           (
             join _ _ (join _ _ (eq-eqb _ _ (f .before-pages)) (eq-eqb _ _ (f .no-pages))) (ap not (f .before-state)),
-            (lt-ltb _ _ (f .allowed), (lt-ltb _ _ (f .slot-free), tt)),
+            (
+              block-allowed (isStaged (s .slots) n) (s .settings .b) (s .blocks) (s .records) (f .allowed),
+              (or-unless (isStaged (s .slots) n) _ (λ e. lt-ltb _ _ (f .slot-free e)), tt),
+            ),
           ),
         ),
       )
@@ -151,24 +156,24 @@ module _ (s : Standby) where
   commit-accepts reply e p b f =
       accepts (commitTests s reply e p b) (
         le-leb _ _ (f .room),
-        (eq-eqb _ _ (f .epoch-next), (f .after-state, (join _ _ (eq-eqb _ _ (f .pages-same)) (eq-eqb _ _ (f .blocks-same)), tt))),
+        (eq-eqb _ _ (f .epoch-next), (f .after-state, (join _ _ (eq-eqb _ _ (f .pages-same)) (eq-eqb _ _ (f .records-same)), tt))),
       )
 
-  -- 17 is given only where "S blocks staged": never with a slot free
-  pub block-full : (e n : ℕ) → blockRefusal s e n ≡ slotsFull → freeSlots (s .slots) (s .settings .s) ≡ 0
+  -- 17 is given only where "S blocks staged": never with a slot free, nor "where a slot is reused"
+  pub block-full : (e n : ℕ) → blockRefusal s (freeFor s) e n ≡ slotsFull → (isStaged (s .slots) n ≡ false) × (freeFor s ≡ 0)
   unfolding blockRefusal
   block-full e n z =
-      let free = freeSlots (s .slots) (s .settings .s) in
-      let h : free ≤ 0 = ltb-false 0 free (go (ltb n (s .settings .d)) (isNext s e) (eqb (s .next) 0 && eqb (s .pages) 0 && not (s .seen)) (ltb (s .blocks) (s .settings .b)) (ltb 0 free) z) in
-      omega arith
+      let r = go (ltb n (s .settings .d)) (isNext s e) (eqb (s .next) 0 && eqb (s .pages) 0 && not (s .seen)) (blockAllowed (isStaged (s .slots) n) (s .settings .b) (s .blocks) (s .records)) (isStaged (s .slots) n) (ltb 0 (freeFor s)) z in
+      (r .0, omega (arith, ltb-false 0 (freeFor s) (r .1)))
     where
-      go : (a b c d f : Bool) → refusal (test noSuchUnit a ∷ test badEpoch b ∷ test outOfOrder c ∷ test allowanceUsed d ∷ test slotsFull f ∷ []) ≡ slotsFull → f ≡ false
-      go false b c d f h = absurd (omega arith)
-      go true false c d f h = absurd (omega arith)
-      go true true false d f h = absurd (omega arith)
-      go true true true false f h = absurd (omega arith)
-      go true true true true true h = absurd (omega arith)
-      go true true true true false h = refl
+      go : (a b c d f g : Bool) → refusal (test noSuchUnit a ∷ test badEpoch b ∷ test outOfOrder c ∷ test allowanceUsed d ∷ test slotsFull (f || g) ∷ []) ≡ slotsFull → (f ≡ false) × (g ≡ false)
+      go false b c d f g h = absurd (omega arith)
+      go true false c d f g h = absurd (omega arith)
+      go true true false d f g h = absurd (omega arith)
+      go true true true false f g h = absurd (omega arith)
+      go true true true true true g h = absurd (omega arith)
+      go true true true true false true h = absurd (omega arith)
+      go true true true true false false h = (refl, refl)
 
 -- ---- the record judged
 pub record ReadReady (s : Standby) (l : ReadLent) : Type 0 where

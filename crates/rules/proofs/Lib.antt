@@ -2,6 +2,7 @@
 pub mod Compute
 pub mod ReplyLaws
 pub mod DetectorFacts
+pub mod BlocksLaws
 pub mod PrimaryFacts
 pub mod WriteLaws
 pub mod PacketLaws

@@ -14,10 +14,9 @@ use Rattle.queue.specs.Held.{oldestAt, hasPacket, oldest, queueOk, added, witho
 use Rattle.queue.proofs.QueueLaws.{space-facts, space-of, array-added, queue-added, array-removed, queue-removed}
 use Rattle.rules.specs.declared.Primary.{Primary}
 use Rattle.rules.specs.PrimaryState.{primaryOk, withQueue}
-use Rattle.rules.specs.Packets.{packetTests, takeTests, packetRefusal, packetReply, mayLeave, takeRefusal, takeReply}
-use Rattle.rules.specs.Reached.{PrimaryReached}
+use Rattle.rules.specs.Packets.{packetTests, takeTests, packetRefusal, mayLeave, takeRefusal}
+use Rattle.rules.specs.Reached.{PrimaryInRange, PrimaryReached}
 use Rattle.rules.proofs.PrimaryFacts.{primary-facts, primary-of}
-use Rattle.rules.proofs.ReplyLaws.{pick-cases}
 
 -- ---- packet
 pub record PacketFacts (p : Primary) (held port n : ℕ) : Type 0 where
@@ -131,44 +130,42 @@ module _ (p : Primary) (held port destination : ℕ) where
     not-released f =
         rw (ok, eq-eqb held (p .settings .q) held-is, le-leb port mostPort port-high, sym (refuted (mayLeave p port) (λ e. f (may-leave p port e))))
 
--- ---- what a call leaves is reached
+-- ---- what a call leaves is in range, and reached
 
 -- another queue that is in its ranges
-reached-queue : (p : Primary) (k : Queue) → primaryOk p ≡ true → queueOk k (p .epoch) (p .settings .q) ≡ true → length (k .packets) ≡ mostPackets → PrimaryReached (withQueue p k)
-reached-queue p k ok queue packets =
-    let f = primary-facts p ok in
-    record {
-      inRange = primary-of (withQueue p k)
-          (record { settings = f .settings; queue = queue; acknowledged = f .acknowledged; waiting = f .waiting; blocks = f .blocks; detector = f .detector });
-      packets = packets;
-    }
+module _ (p : Primary) (k : Queue) (queue : queueOk k (p .epoch) (p .settings .q) ≡ true) where
+  pub queue-ok : primaryOk p ≡ true → primaryOk (withQueue p k) ≡ true
+  queue-ok ok =
+      let f = primary-facts p ok in
+      primary-of (withQueue p k)
+      (record { settings = f .settings; queue = queue; acknowledged = f .acknowledged; waiting = f .waiting; blocks = f .blocks; records = f .records; detector = f .detector })
 
-module _ (p : Primary) (held port n : ℕ) where
-  pub packet-state-reached : PacketFacts p held port n → PrimaryReached p → PrimaryReached (withQueue p (added (p .queue) (p .epoch) port n))
-  packet-state-reached f r =
+  queue-in-range : PrimaryInRange p → length (k .packets) ≡ mostPackets → PrimaryInRange (withQueue p k)
+  queue-in-range r packets = record { inRange = queue-ok (r .inRange); packets = packets; numbers = r .numbers }
+
+module _ (p : Primary) (held port n : ℕ) (f : PacketFacts p held port n) where
+  -- its own queue after a packet
+  pub packet-queue : length (p .queue .packets) ≡ mostPackets → queueOk (added (p .queue) (p .epoch) port n) (p .epoch) (p .settings .q) ≡ true
+  packet-queue array =
       let q = primary-facts p (f .ok) .queue in
       let own = join (packetLengthOk n) (portOk port) (within-of 1 mostPacketBytes n (f .length-low) (f .length-high)) (le-leb port mostPort (f .port-high)) in
-      reached-queue p (added (p .queue) (p .epoch) port n) (f .ok)
-      (queue-added (p .queue) (r .packets) (p .epoch) port n (p .settings .q) q (space-of (p .queue) (p .settings .q) n (f .count-low) (f .bytes-fit)) own)
-      (array-added (p .queue) (r .packets) (p .epoch) port n)
+      queue-added (p .queue) array (p .epoch) port n (p .settings .q) q (space-of (p .queue) (p .settings .q) n (f .count-low) (f .bytes-fit)) own
 
-  pub packet-reached : PrimaryReached p → PrimaryReached (packetReply p held port n .state)
-  unfolding packetReply
-  packet-reached r =
-      pick-cases PrimaryReached (packetRefusal p held port n) (withQueue p (added (p .queue) (p .epoch) port n)) p
-      (λ e. packet-state-reached (packet-accepted p held port n e) r) (λ e. r)
+  pub packet-in-range : PrimaryInRange p → PrimaryInRange (withQueue p (added (p .queue) (p .epoch) port n))
+  packet-in-range r = queue-in-range p (added (p .queue) (p .epoch) port n) (packet-queue (r .packets)) r (array-added (p .queue) (r .packets) (p .epoch) port n)
 
-module _ (p : Primary) (held port destination : ℕ) where
-  pub take-state-reached : TakeFacts p held port destination → PrimaryReached p → PrimaryReached (withQueue p (withoutPacket (p .queue) (oldestAt (p .queue) port)))
-  take-state-reached f r =
-      let q = primary-facts p (f .ok) .queue in
+  pub packet-reached : PrimaryReached p → PrimaryReached (withQueue p (added (p .queue) (p .epoch) port n))
+  packet-reached r = record { range = packet-in-range (r .range); different = r .different; recordsHigh = r .recordsHigh }
+
+module _ (p : Primary) (held port destination : ℕ) (f : TakeFacts p held port destination) where
+  pub take-queue : length (p .queue .packets) ≡ mostPackets → queueOk (withoutPacket (p .queue) (oldestAt (p .queue) port)) (p .epoch) (p .settings .q) ≡ true
+  take-queue array = queue-removed (p .queue) array (p .epoch) (p .settings .q) (primary-facts p (f .ok) .queue) (oldestAt (p .queue) port) (f .released .some)
+
+  pub take-in-range : PrimaryInRange p → PrimaryInRange (withQueue p (withoutPacket (p .queue) (oldestAt (p .queue) port)))
+  take-in-range r =
       let i = oldestAt (p .queue) port in
-      reached-queue p (withoutPacket (p .queue) i) (f .ok)
-      (queue-removed (p .queue) (r .packets) (p .epoch) (p .settings .q) q i (f .released .some))
-      (array-removed (p .queue) (r .packets) (p .epoch) (p .settings .q) q i (f .released .some))
+      queue-in-range p (withoutPacket (p .queue) i) (take-queue (r .packets)) r
+      (array-removed (p .queue) (r .packets) (p .epoch) (p .settings .q) (primary-facts p (f .ok) .queue) i (f .released .some))
 
-  pub take-reached : PrimaryReached p → PrimaryReached (takeReply p held port destination .state)
-  unfolding takeReply
-  take-reached r =
-      pick-cases PrimaryReached (takeRefusal p held port destination) (withQueue p (withoutPacket (p .queue) (oldestAt (p .queue) port))) p
-      (λ e. take-state-reached (take-accepted p held port destination e) r) (λ e. r)
+  pub take-reached : PrimaryReached p → PrimaryReached (withQueue p (withoutPacket (p .queue) (oldestAt (p .queue) port)))
+  take-reached r = record { range = take-in-range (r .range); different = r .different; recordsHigh = r .recordsHigh }

@@ -12,16 +12,15 @@ use Rattle.lists.proofs.SelectLaws.{selected-same}
 use Rattle.queue.specs.declared.Queue.{Queue}
 use Rattle.queue.specs.Held.{oldestAt, hasPacket, oldest, added, addedBytes, withoutPacket, withoutPacketBytes}
 use Rattle.queue.specs.HeldList.{Held, heldList, isHeldOf, heldOf}
-use Rattle.queue.proofs.QueueLaws.{space-of}
+use Rattle.queue.proofs.QueueLaws.{space-of, array-added, array-removed}
 use Rattle.queue.proofs.HeldLaws.{length-added-bytes, held-added, length-without-bytes, others-stay}
 use Rattle.queue.proofs.PortLaws.{Holding, same-some, same-oldest, same-bytes}
 use Rattle.rules.specs.declared.Primary.{Primary}
 use Rattle.rules.specs.PrimaryState.{primaryOk, withQueue}
 use Rattle.rules.specs.Packets.{packetRefusal, packetReply, packetHeld, mayLeave, takeRefusal, takeReply, takeHeld}
 use Rattle.rules.specs.Ports.{PortAsBefore, PacketApart, TakeApart}
-use Rattle.rules.specs.Reached.{PrimaryReached}
 use Rattle.rules.proofs.PrimaryFacts.{primary-facts}
-use Rattle.rules.proofs.PacketLaws.{packet-accepted, packet-state-reached, take-accepted, take-state-reached}
+use Rattle.rules.proofs.PacketLaws.{queue-ok, packet-accepted, packet-queue, take-accepted, take-queue}
 
 -- nothing has changed
 as-before : (p : Primary) (held : List ℕ) (port : ℕ) → PortAsBefore p p held held port
@@ -64,9 +63,6 @@ module _ (p : Primary) (k : Queue) (held held′ : List ℕ) (port : ℕ) (h : H
         number = number ok ok′;
       }
 
-holding : (p : Primary) (held : List ℕ) → PrimaryReached p → length held ≡ p .settings .q → Holding (p .epoch) (p .settings .q) (p .queue) held
-holding p held r e = record { array = r .packets; ok = primary-facts p (r .inRange) .queue; size = e }
-
 -- accepted or refused
 by-number : (P : Primary → List ℕ → Type 0) (n : ℕ) (p p′ : Primary) (held held′ : List ℕ) → (n ≡ 0 → P p′ held′) → P p held → P (pick n p′ p) (pick n held′ held)
 by-number P n p p′ held held′ f g = ⊎-elim (λ e. rw (eq-eqb n 0 e) (f e)) (λ e. rw (ne-eqb n 0 e) g) (eq-or-ne n 0)
@@ -80,16 +76,15 @@ packet-apart p held port bytes other array ne =
     by-number (λ (x : Primary) (y : List ℕ). PortAsBefore p x held y other) (packetRefusal p (length held) port n) p (withQueue p k) held held′
     (λ e.
     let f = packet-accepted p (length held) port n e in
-    let r : PrimaryReached p = record { inRange = f .ok; packets = array } in
     let ok = primary-facts p (f .ok) .queue in
     let space = space-of (p .queue) (p .settings .q) n (f .count-low) (f .bytes-fit) in
     let size = length-added-bytes (p .queue) array (p .epoch) (p .settings .q) ok held (f .held-is) port bytes space ∙ f .held-is in
     let new : Held = record { epoch = p .epoch; port = port; bytes = bytes } in
-    let r′ = packet-state-reached p (length held) port n f r in
-    queue-as-before p k held held′ other (holding p held r (f .held-is)) (holding (withQueue p k) held′ r′ size)
+    let ok′ = packet-queue p (length held) port n f array in
+    queue-as-before p k held held′ other (record { array = array; ok = ok; size = f .held-is }) (record { array = array-added (p .queue) array (p .epoch) port n; ok = ok′; size = size })
     (ap (heldOf other) (held-added (p .queue) array (p .epoch) (p .settings .q) ok held (f .held-is) port bytes space)
     ∙ selected-same (isHeldOf other) (heldList (p .queue) held) new (ne-eqb _ _ (λ x. ne (sym x))))
-    (f .ok) (r′ .inRange))
+    (f .ok) (queue-ok p k ok′ (f .ok)))
     (as-before p held other)
 
 pub take-apart : TakeApart
@@ -101,11 +96,11 @@ take-apart p held port destination other array ne =
     by-number (λ (x : Primary) (y : List ℕ). PortAsBefore p x held y other) (takeRefusal p (length held) port (length destination)) p (withQueue p k) held held′
     (λ e.
     let f = take-accepted p (length held) port (length destination) e in
-    let r : PrimaryReached p = record { inRange = f .ok; packets = array } in
     let ok = primary-facts p (f .ok) .queue in
     let some = f .released .some in
     let size = length-without-bytes (p .queue) array (p .epoch) (p .settings .q) ok held (f .held-is) i some ∙ f .held-is in
-    let r′ = take-state-reached p (length held) port (length destination) f r in
-    queue-as-before p k held held′ other (holding p held r (f .held-is)) (holding (withQueue p k) held′ r′ size)
-    (others-stay (p .queue) array (p .epoch) (p .settings .q) ok held (f .held-is) port some other ne) (f .ok) (r′ .inRange))
+    let ok′ = take-queue p (length held) port (length destination) f array in
+    queue-as-before p k held held′ other (record { array = array; ok = ok; size = f .held-is })
+    (record { array = array-removed (p .queue) array (p .epoch) (p .settings .q) ok i some; ok = ok′; size = size })
+    (others-stay (p .queue) array (p .epoch) (p .settings .q) ok held (f .held-is) port some other ne) (f .ok) (queue-ok p k ok′ (f .ok)))
     (as-before p held other)

@@ -5,6 +5,7 @@ use Prim.Native.Nat.{_≤_, _<_}
 use lib.Dec.{leb, ltb}
 use borrow.Author.Tests.{leb-true, le-leb, ltb-true, lt-ltb}
 use Rattle.lists.proofs.TestLaws.{both}
+use Rattle.settings.specs.Range.{mostRecords}
 use Rattle.settings.proofs.RangeLaws.{PrimarySettingsFacts, primary-settings-facts, primary-settings-of}
 use Rattle.queue.specs.Held.{queueOk}
 use Rattle.rules.specs.declared.Primary.{Primary}
@@ -18,6 +19,7 @@ pub record PrimaryFacts (p : Primary) : Type 0 where
   pub acknowledged : p .acknowledged < p .epoch
   pub waiting : p .waiting ≤ p .settings .l
   pub blocks : p .blocks ≤ p .settings .b
+  pub records : p .records ≤ mostRecords
   pub detector : DetectorFacts (p .detector) (protected p)
 
 module _ (p : Primary) where
@@ -25,7 +27,8 @@ module _ (p : Primary) where
   unfolding primaryOk
   primary-facts e =
       let d = both _ (detectorOk (p .detector) (protected p)) e in
-      let b = both _ (leb (p .blocks) (p .settings .b)) (d .0) in
+      let r = both _ (leb (p .records) mostRecords) (d .0) in
+      let b = both _ (leb (p .blocks) (p .settings .b)) (r .0) in
       let w = both _ (leb (p .waiting) (p .settings .l)) (b .0) in
       let a = both _ (ltb (p .acknowledged) (p .epoch)) (w .0) in
       let q = both _ (queueOk (p .queue) (p .epoch) (p .settings .q)) (a .0) in
@@ -35,6 +38,7 @@ module _ (p : Primary) where
         acknowledged = ltb-true (p .acknowledged) (p .epoch) (a .1);
         waiting = leb-true (p .waiting) (p .settings .l) (w .1);
         blocks = leb-true (p .blocks) (p .settings .b) (b .1);
+        records = leb-true (p .records) mostRecords (r .1);
         detector = detector-facts (p .detector) (protected p) (d .1);
       }
 
@@ -47,5 +51,6 @@ module _ (p : Primary) where
         lt-ltb (p .acknowledged) (p .epoch) (f .acknowledged),
         le-leb (p .waiting) (p .settings .l) (f .waiting),
         le-leb (p .blocks) (p .settings .b) (f .blocks),
+        le-leb (p .records) mostRecords (f .records),
         detector-of (p .detector) (protected p) (f .detector),
       )

@@ -9,11 +9,10 @@ use Rattle.detector.specs.Tick.{withCount, reset, expired, ticked}
 use Rattle.detector.proofs.TickLaws.{ticked-counts, ticked-rests}
 use Rattle.rules.specs.declared.Primary.{Primary}
 use Rattle.rules.specs.PrimaryState.{protected, withDetectorAloneWaiting}
-use Rattle.rules.specs.PrimaryTick.{primaryTickRefusal, outstanding, aloneAt, primaryTickState, primaryTickReply}
-use Rattle.rules.specs.Reached.{PrimaryReached}
+use Rattle.rules.specs.PrimaryTick.{outstanding, aloneAt, primaryTickState}
+use Rattle.rules.specs.Reached.{PrimaryInRange, PrimaryReached}
 use Rattle.rules.proofs.DetectorFacts.{ticked-facts}
 use Rattle.rules.proofs.PrimaryFacts.{primary-facts, primary-of}
-use Rattle.rules.proofs.ReplyLaws.{pick-cases}
 
 module _ (p : Primary) where
   -- "Once alone, a tick changes nothing"
@@ -50,11 +49,26 @@ module _ (p : Primary) where
         tick-protected on
         ∙ rw (o, ticked-counts (p .detector) not-expired, le-leb (p .detector .patience) (p .detector .count + 1) h)
 
--- ---- what a tick leaves is reached
-module _ (p : Primary) (r : PrimaryReached p) where
-  watched-reached : (alone : Bool) (waiting : ℕ) → waiting ≤ p .waiting → (alone ≡ false → expired (ticked (p .detector) (outstanding p)) ≡ false)
-      → PrimaryReached (withDetectorAloneWaiting p (ticked (p .detector) (outstanding p)) alone waiting)
-  watched-reached alone waiting h below =
+-- ---- what a tick leaves is in range, and reached
+
+-- a fact that is kept with the detector ticked
+module _ (P : Primary → Type 0) (p : Primary) (r : P p)
+    (watched : (alone : Bool) (waiting : ℕ) → waiting ≤ p .waiting → (alone ≡ false → expired (ticked (p .detector) (outstanding p)) ≡ false)
+    → P (withDetectorAloneWaiting p (ticked (p .detector) (outstanding p)) alone waiting)) where
+  tick-kept : P (primaryTickState p)
+  unfolding primaryTickState
+  tick-kept = go (p .alone) (expired (ticked (p .detector) (outstanding p))) refl
+    where
+      go : (a x : Bool) → expired (ticked (p .detector) (outstanding p)) ≡ x
+          → P (cond a p (cond x (withDetectorAloneWaiting p (ticked (p .detector) (outstanding p)) true 0) (withDetectorAloneWaiting p (ticked (p .detector) (outstanding p)) false (p .waiting))))
+      go true x e = r
+      go false true e = watched true 0 (omega arith) (λ w. absurd (true≢false w))
+      go false false e = watched false (p .waiting) (le-refl (p .waiting)) (λ w. e)
+
+module _ (p : Primary) where
+  watched-in-range : PrimaryInRange p → (alone : Bool) (waiting : ℕ) → waiting ≤ p .waiting → (alone ≡ false → expired (ticked (p .detector) (outstanding p)) ≡ false)
+      → PrimaryInRange (withDetectorAloneWaiting p (ticked (p .detector) (outstanding p)) alone waiting)
+  watched-in-range r alone waiting h below =
       let f = primary-facts p (r .inRange) in
       record {
         inRange = primary-of (withDetectorAloneWaiting p (ticked (p .detector) (outstanding p)) alone waiting)
@@ -64,21 +78,17 @@ module _ (p : Primary) (r : PrimaryReached p) where
               acknowledged = f .acknowledged;
               waiting = omega (arith, f .waiting, h);
               blocks = f .blocks;
+              records = f .records;
               detector = ticked-facts (p .detector) (protected p) (f .detector) (outstanding p) (not alone) (λ w. below (not-true alone w));
             });
         packets = r .packets;
+        numbers = r .numbers;
       }
 
-  pub tick-state-reached : PrimaryReached (primaryTickState p)
-  unfolding primaryTickState
-  tick-state-reached = go (p .alone) (expired (ticked (p .detector) (outstanding p))) refl
-    where
-      go : (a x : Bool) → expired (ticked (p .detector) (outstanding p)) ≡ x
-          → PrimaryReached (cond a p (cond x (withDetectorAloneWaiting p (ticked (p .detector) (outstanding p)) true 0) (withDetectorAloneWaiting p (ticked (p .detector) (outstanding p)) false (p .waiting))))
-      go true x e = r
-      go false true e = watched-reached true 0 (omega arith) (λ w. absurd (true≢false w))
-      go false false e = watched-reached false (p .waiting) (le-refl (p .waiting)) (λ w. e)
+  pub tick-in-range : PrimaryInRange p → PrimaryInRange (primaryTickState p)
+  tick-in-range r = tick-kept PrimaryInRange p r (watched-in-range r)
 
-  pub primary-tick-reached : PrimaryReached (primaryTickReply p .state)
-  unfolding primaryTickReply
-  primary-tick-reached = pick-cases PrimaryReached (primaryTickRefusal p) (primaryTickState p) p (λ e. tick-state-reached) (λ e. r)
+  pub tick-reached : PrimaryReached p → PrimaryReached (primaryTickState p)
+  tick-reached r =
+      tick-kept PrimaryReached p r
+      (λ alone waiting h below. record { range = watched-in-range (r .range) alone waiting h below; different = r .different; recordsHigh = r .recordsHigh })

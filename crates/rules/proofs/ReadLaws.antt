@@ -1,11 +1,15 @@
 -- What a read keeps: a state stays in range, and reached, whatever record is judged, and what is cut short or refused
 -- changes nothing. Assumes nothing.
-use mathlib.Core.Path.{_≡_, refl, _∙_, ap}
+use mathlib.Core.Path.{_≡_, refl, sym, ap, _∙_, subst}
 use mathlib.Core.Bool.{true}
+use mathlib.Core.Logic.{⊎-elim}
 use mathlib.Core.List.{List}
 use Prim.Native.Nat.{ℕ, _+_, _-_, _≤_, _<_}
 use native.Mathlib.Omega.{arith}
 use lib.ListN.{length, getD}
+use Rattle.lists.specs.Select.{NoRepeats}
+use Rattle.lists.proofs.TestLaws.{by-test, cond-true, cond-false}
+use Rattle.lists.proofs.SelectLaws.{no-repeats-with}
 use Rattle.lists.proofs.PartLaws.{length-part}
 use Rattle.records.specs.Kind.{processorBytes}
 use Rattle.records.specs.declared.Cursor.{Cursor}
@@ -13,16 +17,20 @@ use Rattle.records.specs.declared.Record.{Record}
 use Rattle.records.specs.declared.Record.the-variants.{Page, Block, State, Commit, Ack, Short, Refused}
 use Rattle.records.proofs.ReadLaws.{found-cases, FieldsFit, read-fits}
 use Rattle.settings.specs.Range.{mostEpoch}
-use Rattle.staging.specs.Slot.{withBlock, allDue}
-use Rattle.staging.proofs.SlotLaws.{array-with-block, slots-with-block, slots-all-due}
+use Rattle.staging.specs.declared.Slots.{Slots}
+use Rattle.staging.specs.Slot.{freshNumbers, isStaged, withBlock, allDue}
+use Rattle.staging.proofs.SlotLaws.{slots-all-due}
+use Rattle.staging.proofs.BlockLaws.{with-block-again, with-block-next, array-with-block, fresh-with-block, slot-fits, stage-fits, slots-with-block, fresh-all-due}
 use Rattle.detector.specs.Tick.{reset}
 use Rattle.rules.specs.declared.Standby.{Standby}
 use Rattle.rules.specs.declared.ReadLent.{ReadLent}
-use Rattle.rules.specs.StandbyState.{isReceiving, withPagesNext, withSlotsBlocks, withPendingSeen, withNoTicks}
+use Rattle.rules.specs.Blocks.{blocksWith}
+use Rattle.rules.specs.StandbyState.{isReceiving, withPagesNext, withPendingSeen, withNoTicks}
 use Rattle.rules.specs.Reply.{numberOf, valueOf, usedOf, answerOf}
 use Rattle.rules.specs.Judge.{readerOf, judged}
-use Rattle.rules.specs.Read.{bytesAt, sealedState, installedState, readState, memoryAfter, stagedPagesAfter, stagedMarksAfter, stagedBlocksAfter, replyAfter, readReply}
+use Rattle.rules.specs.Read.{bytesAt, sealedState, installedState, stagedState, readState, memoryAfter, stagedPagesAfter, stagedMarksAfter, stagedBlocksAfter, replyAfter, readReply}
 use Rattle.rules.specs.Reached.{StandbyInRange, StandbyReached}
+use Rattle.rules.proofs.BlocksLaws.{blocks-high, blocks-of-records}
 use Rattle.rules.proofs.StandbyFacts.{standby-tests, standby-tested, standby-facts, in-range-slots, reached-slots, reset-in-range, reset-reached}
 use Rattle.rules.proofs.ReplyLaws.{answer-found}
 use Rattle.rules.proofs.JudgeLaws.{PageTests, BlockTests, JudgedFacts, judged-cases, judged-facts}
@@ -41,24 +49,27 @@ module _ (s : Standby) (h : StandbyInRange s) where
       let t = standby-tests s (h .inRange) in
       record {
         inRange = standby-tested (withPagesNext s (s .pages + 1) (p + 1))
-            (record { settings-ok = t .settings-ok; slots-ok = t .slots-ok; blocks-high = t .blocks-high; pages-high = omega (arith, f .not-below, f .page-low); detector-ok = t .detector-ok });
+            (record { settings-ok = t .settings-ok; slots-ok = t .slots-ok; blocks-high = t .blocks-high; records-high = t .records-high; pages-high = omega (arith, f .not-below, f .page-low); detector-ok = t .detector-ok });
         numbers = h .numbers;
       }
 
-  pub block-in-range : (e n : ℕ) → BlockTests s e n → StandbyInRange (withSlotsBlocks s (withBlock (s .slots) n) (s .blocks + 1))
+  pub block-in-range : (e n : ℕ) → BlockTests s e n → StandbyInRange (stagedState s n)
   block-in-range e n f =
       let t = standby-tests s (h .inRange) in
       let g = standby-facts s (h .inRange) in
-      in-range-slots s (withBlock (s .slots) n) (s .blocks + 1) h
-      (slots-with-block (s .slots) (s .settings .s) (s .settings .d) (h .numbers) (g .settings .slots .s-high) n (t .slots-ok) (f .slot-free) (f .block-low))
-      (array-with-block (s .slots) (h .numbers) n) (omega (arith, f .allowed))
+      let high = g .settings .slots .s-high in
+      let low = slot-fits (s .slots) n (s .settings .s) (s .settings .d) (h .numbers) high (t .slots-ok) (f .slot-free) in
+      in-range-slots s (withBlock (s .slots) n) (blocksWith (isStaged (s .slots) n) (s .blocks)) (s .records + 1) h
+      (slots-with-block (s .slots) n (s .settings .s) (s .settings .d) (h .numbers) high (t .slots-ok) low (f .block-low))
+      (array-with-block (s .slots) n (h .numbers))
+      (blocks-high (isStaged (s .slots) n) (s .settings .b) (s .blocks) (s .records) (f .allowed) (t .blocks-high)) (omega (arith, f .allowed .records-low))
 
   pub state-in-range : (processor : List ℕ) → StandbyInRange (withPendingSeen s processor)
   state-in-range processor =
       let t = standby-tests s (h .inRange) in
       record {
         inRange = standby-tested (withPendingSeen s processor)
-            (record { settings-ok = t .settings-ok; slots-ok = t .slots-ok; blocks-high = t .blocks-high; pages-high = t .pages-high; detector-ok = t .detector-ok });
+            (record { settings-ok = t .settings-ok; slots-ok = t .slots-ok; blocks-high = t .blocks-high; records-high = t .records-high; pages-high = t .pages-high; detector-ok = t .detector-ok });
         numbers = h .numbers;
       }
 
@@ -72,6 +83,7 @@ module _ (s : Standby) (h : StandbyInRange s) where
               settings-ok = t .settings-ok;
               slots-ok = slots-all-due (s .slots) (s .settings .s) (s .settings .d) (t .slots-ok);
               blocks-high = omega arith;
+              records-high = omega arith;
               pages-high = omega arith;
               detector-ok = t .detector-ok;
             });
@@ -79,6 +91,15 @@ module _ (s : Standby) (h : StandbyInRange s) where
       }
 
 -- ---- and reached
+
+-- the epoch's blocks stay those that are not due
+counts-with-block : (k : Slots) (n blocks : ℕ) → k .due ≤ k .staged → blocks ≡ k .staged - k .due → blocksWith (isStaged k n) blocks ≡ withBlock k n .staged - withBlock k n .due
+counts-with-block k n blocks high e =
+    ⊎-elim
+    (λ z. cond-true (isStaged k n) blocks (blocks + 1) z ∙ e ∙ sym (ap (λ (x : Slots). x .staged - x .due) (with-block-again k n z)))
+    (λ z. cond-false (isStaged k n) blocks (blocks + 1) z ∙ omega arith ∙ sym (ap (λ (x : Slots). x .staged - x .due) (with-block-next k n z)))
+    (by-test (isStaged k n))
+
 module _ (s : Standby) (h : StandbyReached s) where
   pub page-reached : (e p : ℕ) → PageTests s e p → StandbyReached (withPagesNext s (s .pages + 1) (p + 1))
   page-reached e p f =
@@ -89,14 +110,22 @@ module _ (s : Standby) (h : StandbyReached s) where
         pagesBelow = omega (arith, f .not-below);
         nextBelow = omega (arith, f .page-low);
         notDue = h .notDue;
+        different = h .different;
+        recordsHigh = h .recordsHigh;
       }
 
-  pub block-reached : (e n : ℕ) → BlockTests s e n → StandbyReached (withSlotsBlocks s (withBlock (s .slots) n) (s .blocks + 1))
-  unfolding withBlock
+  pub block-reached : (e n : ℕ) → BlockTests s e n → StandbyReached (stagedState s n)
   block-reached e n f =
-      let b = standby-facts s (h .range .inRange) .slots .due-high in
-      let d = h .notDue in
-      reached-slots s (withBlock (s .slots) n) (s .blocks + 1) h (block-in-range s (h .range) e n f) (omega arith)
+      let k = s .slots in
+      let t = standby-tests s (h .range .inRange) in
+      let g = standby-facts s (h .range .inRange) in
+      let high = g .settings .slots .s-high in
+      let low = slot-fits k n (s .settings .s) (s .settings .d) (h .range .numbers) high (t .slots-ok) (f .slot-free) in
+      let fits = stage-fits k n (s .settings .s) (s .settings .d) (h .range .numbers) high (t .slots-ok) low in
+      reached-slots s (withBlock k n) (blocksWith (isStaged k n) (s .blocks)) (s .records + 1) h (block-in-range s (h .range) e n f)
+      (counts-with-block k n (s .blocks) (fits .due-high) (h .notDue))
+      (subst NoRepeats (sym (fresh-with-block k n (h .range .numbers) (fits .due-high) (fits .few) (fits .slot-low))) (no-repeats-with n (freshNumbers k) (h .different)))
+      (blocks-of-records (isStaged k n) (s .blocks) (s .records) (h .recordsHigh))
 
   pub state-reached : (processor : List ℕ) → length processor ≡ processorBytes → StandbyReached (withPendingSeen s processor)
   state-reached processor size =
@@ -107,6 +136,8 @@ module _ (s : Standby) (h : StandbyReached s) where
         pagesBelow = h .pagesBelow;
         nextBelow = h .nextBelow;
         notDue = h .notDue;
+        different = h .different;
+        recordsHigh = h .recordsHigh;
       }
 
   pub commit-reached : (epoch : ℕ) → StandbyReached (installedState (sealedState s) epoch)
@@ -119,12 +150,14 @@ module _ (s : Standby) (h : StandbyReached s) where
         pagesBelow = omega arith;
         nextBelow = omega arith;
         notDue = omega arith;
+        different = subst NoRepeats (sym (fresh-all-due (s .slots))) tt;
+        recordsHigh = omega arith;
       }
 
 -- ---- a fact of the state is kept by a read, where each accepted record keeps it, and so does the count returned to 0
 module _ (P : Standby → Type 0) (resets : (s : Standby) → P s → P (withNoTicks s)) (s : Standby) (h : P s)
     (page : (e p : ℕ) → PageTests s e p → P (withPagesNext s (s .pages + 1) (p + 1)))
-    (block : (e n : ℕ) → BlockTests s e n → P (withSlotsBlocks s (withBlock (s .slots) n) (s .blocks + 1)))
+    (block : (e n : ℕ) → BlockTests s e n → P (stagedState s n))
     (state : (processor : List ℕ) → length processor ≡ processorBytes → P (withPendingSeen s processor))
     (commit : (epoch : ℕ) → P (installedState (sealedState s) epoch))
     (l : ReadLent) (bytes : List ℕ) where

@@ -6,11 +6,12 @@ use Prim.Native.Nat.{ℕ, _-_, _≤_}
 use lib.Dec.{leb}
 use lib.ListN.{length}
 use borrow.Author.Tests.{leb-true, le-leb}
+use Rattle.lists.specs.Select.{NoRepeats}
 use Rattle.lists.proofs.TestLaws.{both, join}
-use Rattle.settings.specs.Range.{standbySettingsOk, mostSlots}
+use Rattle.settings.specs.Range.{standbySettingsOk, mostRecords, mostSlots}
 use Rattle.settings.proofs.RangeLaws.{StandbySettingsFacts, standby-settings-facts}
 use Rattle.staging.specs.declared.Slots.{Slots}
-use Rattle.staging.specs.Slot.{slotsOk}
+use Rattle.staging.specs.Slot.{slotsOk, freshNumbers}
 use Rattle.staging.proofs.SlotLaws.{SlotsTests, slots-tests}
 use Rattle.rules.specs.declared.Standby.{Standby}
 use Rattle.detector.specs.declared.Detector.{Detector}
@@ -26,6 +27,7 @@ pub record StandbyTests (s : Standby) : Type 0 where
   pub settings-ok : standbySettingsOk (s .settings) ≡ true
   pub slots-ok : slotsOk (s .slots) (s .settings .s) (s .settings .d) ≡ true
   pub blocks-high : s .blocks ≤ s .settings .b
+  pub records-high : s .records ≤ mostRecords
   pub pages-high : s .pages ≤ s .settings .m
   pub detector-ok : detectorOk (s .detector) (isReceiving (s .mode)) ≡ true
 
@@ -34,6 +36,7 @@ pub record StandbyFacts (s : Standby) : Type 0 where
   pub settings : StandbySettingsFacts (s .settings)
   pub slots : SlotsTests (s .slots) (s .settings .s) (s .settings .d)
   pub blocks-high : s .blocks ≤ s .settings .b
+  pub records-high : s .records ≤ mostRecords
   pub pages-high : s .pages ≤ s .settings .m
   pub detector : DetectorFacts (s .detector) (isReceiving (s .mode))
 
@@ -43,12 +46,14 @@ module _ (s : Standby) where
   standby-tests e =
       let d = both _ (detectorOk (s .detector) (isReceiving (s .mode))) e in
       let p = both _ (leb (s .pages) (s .settings .m)) (d .0) in
-      let b = both _ (leb (s .blocks) (s .settings .b)) (p .0) in
+      let r = both _ (leb (s .records) mostRecords) (p .0) in
+      let b = both _ (leb (s .blocks) (s .settings .b)) (r .0) in
       let k = both _ (slotsOk (s .slots) (s .settings .s) (s .settings .d)) (b .0) in
       record {
         settings-ok = k .0;
         slots-ok = k .1;
         blocks-high = leb-true (s .blocks) (s .settings .b) (b .1);
+        records-high = leb-true (s .records) mostRecords (r .1);
         pages-high = leb-true (s .pages) (s .settings .m) (p .1);
         detector-ok = d .1;
       }
@@ -58,7 +63,9 @@ module _ (s : Standby) where
   standby-tested f =
       join _ _
       (join _ _
+      (join _ _
       (join _ _ (join _ _ (f .settings-ok) (f .slots-ok)) (le-leb (s .blocks) (s .settings .b) (f .blocks-high)))
+      (le-leb (s .records) mostRecords (f .records-high)))
       (le-leb (s .pages) (s .settings .m) (f .pages-high)))
       (f .detector-ok)
 
@@ -69,25 +76,26 @@ module _ (s : Standby) where
         settings = standby-settings-facts (s .settings) (t .settings-ok);
         slots = slots-tests (s .slots) (s .settings .s) (s .settings .d) (t .slots-ok);
         blocks-high = t .blocks-high;
+        records-high = t .records-high;
         pages-high = t .pages-high;
         detector = detector-facts (s .detector) (isReceiving (s .mode)) (t .detector-ok);
       }
 
--- ---- the staged blocks and the epoch's count of them replaced: the state stays in range, and reached
-module _ (s : Standby) (slots : Slots) (blocks : ℕ) where
+-- ---- the staged blocks and the epoch's counts of them replaced: the state stays in range, and reached
+module _ (s : Standby) (slots : Slots) (blocks records : ℕ) where
   pub in-range-slots : StandbyInRange s → slotsOk slots (s .settings .s) (s .settings .d) ≡ true → length (slots .numbers) ≡ mostSlots
-      → blocks ≤ s .settings .b → StandbyInRange (withSlotsBlocks s slots blocks)
-  in-range-slots r ok array high =
+      → blocks ≤ s .settings .b → records ≤ mostRecords → StandbyInRange (withSlotsBlocks s slots blocks records)
+  in-range-slots r ok array high few =
       let f = standby-tests s (r .inRange) in
       record {
-        inRange = standby-tested (withSlotsBlocks s slots blocks)
-            (record { settings-ok = f .settings-ok; slots-ok = ok; blocks-high = high; pages-high = f .pages-high; detector-ok = f .detector-ok });
+        inRange = standby-tested (withSlotsBlocks s slots blocks records)
+            (record { settings-ok = f .settings-ok; slots-ok = ok; blocks-high = high; records-high = few; pages-high = f .pages-high; detector-ok = f .detector-ok });
         numbers = array;
       }
 
-  pub reached-slots : StandbyReached s → StandbyInRange (withSlotsBlocks s slots blocks) → blocks ≡ slots .staged - slots .due
-      → StandbyReached (withSlotsBlocks s slots blocks)
-  reached-slots r range e =
+  pub reached-slots : StandbyReached s → StandbyInRange (withSlotsBlocks s slots blocks records) → blocks ≡ slots .staged - slots .due → NoRepeats (freshNumbers slots) → blocks ≤ records
+      → StandbyReached (withSlotsBlocks s slots blocks records)
+  reached-slots r range e different high =
       record {
         range = range;
         stagedProcessor = r .stagedProcessor;
@@ -95,6 +103,8 @@ module _ (s : Standby) (slots : Slots) (blocks : ℕ) where
         pagesBelow = r .pagesBelow;
         nextBelow = r .nextBelow;
         notDue = e;
+        different = different;
+        recordsHigh = high;
       }
 
 -- ---- the detector and the mode replaced
@@ -104,7 +114,7 @@ module _ (s : Standby) (d : Detector) (mode : Mode) (ok : detectorOk d (isReceiv
       let t = standby-tests s (r .inRange) in
       record {
         inRange = standby-tested (withMode (withDetector s d) mode)
-            (record { settings-ok = t .settings-ok; slots-ok = t .slots-ok; blocks-high = t .blocks-high; pages-high = t .pages-high; detector-ok = ok });
+            (record { settings-ok = t .settings-ok; slots-ok = t .slots-ok; blocks-high = t .blocks-high; records-high = t .records-high; pages-high = t .pages-high; detector-ok = ok });
         numbers = r .numbers;
       }
 
@@ -117,6 +127,8 @@ module _ (s : Standby) (d : Detector) (mode : Mode) (ok : detectorOk d (isReceiv
         pagesBelow = r .pagesBelow;
         nextBelow = r .nextBelow;
         notDue = r .notDue;
+        different = r .different;
+        recordsHigh = r .recordsHigh;
       }
 
 -- no tick counted

@@ -120,16 +120,22 @@ module _ (g : Settings) (e : settingsOk g ≡ true) where
   pub opened-primary : PrimaryReached (openedPrimary g)
   opened-primary =
       record {
-        inRange = primary-of (openedPrimary g)
-            (record {
-              settings = primary-settings-facts (ofPrimary g) (primary-of-settings g e);
-              queue = queue-empty 1 (g .q);
-              acknowledged = omega arith;
-              waiting = omega arith;
-              blocks = omega arith;
-              detector = watches;
-            });
-        packets = refl;
+        range = record {
+          inRange = primary-of (openedPrimary g)
+              (record {
+                settings = primary-settings-facts (ofPrimary g) (primary-of-settings g e);
+                queue = queue-empty 1 (g .q);
+                acknowledged = omega arith;
+                waiting = omega arith;
+                blocks = omega arith;
+                records = omega arith;
+                detector = watches;
+              });
+          packets = refl;
+          numbers = refl;
+        };
+        different = tt;
+        recordsHigh = omega arith;
       }
 
   pub opened-standby : (processor : List ℕ) → length processor ≡ processorBytes → StandbyReached (openedStandby g processor)
@@ -141,6 +147,7 @@ module _ (g : Settings) (e : settingsOk g ≡ true) where
                 settings-ok = standby-of-settings g e;
                 slots-ok = slots-empty (g .s) (g .d);
                 blocks-high = omega arith;
+                records-high = omega arith;
                 pages-high = omega arith;
                 detector-ok = detector-of (record { patience = g .t; count = 0 }) true watches;
               });
@@ -151,6 +158,8 @@ module _ (g : Settings) (e : settingsOk g ≡ true) where
         pagesBelow = omega arith;
         nextBelow = omega arith;
         notDue = refl;
+        different = tt;
+        recordsHigh = omega arith;
       }
 
 -- "an accepted start": its states

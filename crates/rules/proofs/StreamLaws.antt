@@ -19,11 +19,11 @@ use Rattle.detector.specs.Tick.{reset}
 use Rattle.rules.specs.declared.Primary.{Primary}
 use Rattle.rules.specs.PrimaryState.{primaryOk, protected, withWaiting, withAcknowledgedDetector}
 use Rattle.rules.specs.Reply.{unlessRefused}
-use Rattle.rules.specs.Stream.{drainTests, ackTests, drainRefusal, drainCount, drainReply, ackRefusal, ackJudged, ackReply}
-use Rattle.rules.specs.Reached.{PrimaryReached}
+use Rattle.rules.specs.Stream.{drainTests, ackTests, drainRefusal, drainCount, ackRefusal, ackJudged, ackReply}
+use Rattle.rules.specs.Reached.{PrimaryInRange, PrimaryReached}
 use Rattle.rules.proofs.DetectorFacts.{reset-facts}
 use Rattle.rules.proofs.PrimaryFacts.{primary-facts, primary-of}
-use Rattle.rules.proofs.ReplyLaws.{pick-cases, unless-cases}
+use Rattle.rules.proofs.ReplyLaws.{unless-cases}
 
 -- ---- drain
 pub record DrainFacts (p : Primary) (stream : ℕ) : Type 0 where
@@ -101,24 +101,23 @@ module _ (p : Primary) where
     pub ack-accepted : AckJudgedFacts p (ackJudged p bytes)
     ack-accepted = ack-cases (AckJudgedFacts p) (λ n. tt) (λ ok on z. record-facts ok on (readRecord reader.Primary (p .settings .u) bytes) z)
 
--- ---- what a call leaves is reached
+-- ---- what a call leaves is in range, and reached
 module _ (p : Primary) where
-  pub drain-state-reached : (n destination : ℕ) → PrimaryReached p → PrimaryReached (withWaiting p (p .waiting - drainCount p n destination))
-  drain-state-reached n destination r =
+  pub drain-in-range : (n destination : ℕ) → PrimaryInRange p → PrimaryInRange (withWaiting p (p .waiting - drainCount p n destination))
+  drain-in-range n destination r =
       let f = primary-facts p (r .inRange) in
       record {
         inRange = primary-of (withWaiting p (p .waiting - drainCount p n destination))
-            (record { settings = f .settings; queue = f .queue; acknowledged = f .acknowledged; waiting = omega arith; blocks = f .blocks; detector = f .detector });
+            (record { settings = f .settings; queue = f .queue; acknowledged = f .acknowledged; waiting = omega arith; blocks = f .blocks; records = f .records; detector = f .detector });
         packets = r .packets;
+        numbers = r .numbers;
       }
 
-  pub drain-reached : (stream n destination : ℕ) → PrimaryReached p → PrimaryReached (drainReply p stream n destination .state)
-  unfolding drainReply
-  drain-reached stream n destination r =
-      pick-cases PrimaryReached (drainRefusal p stream) (withWaiting p (p .waiting - drainCount p n destination)) p (λ e. drain-state-reached n destination r) (λ e. r)
+  pub drain-reached : (n destination : ℕ) → PrimaryReached p → PrimaryReached (withWaiting p (p .waiting - drainCount p n destination))
+  drain-reached n destination r = record { range = drain-in-range n destination (r .range); different = r .different; recordsHigh = r .recordsHigh }
 
-  pub ack-state-reached : (e : ℕ) → AckFacts p e → PrimaryReached p → PrimaryReached (withAcknowledgedDetector p e (reset (p .detector)))
-  ack-state-reached e a r =
+  pub ack-in-range : (e : ℕ) → AckFacts p e → PrimaryInRange p → PrimaryInRange (withAcknowledgedDetector p e (reset (p .detector)))
+  ack-in-range e a r =
       let f = primary-facts p (a .ok) in
       record {
         inRange = primary-of (withAcknowledgedDetector p e (reset (p .detector)))
@@ -128,13 +127,20 @@ module _ (p : Primary) where
               acknowledged = a .below;
               waiting = f .waiting;
               blocks = f .blocks;
+              records = f .records;
               detector = reset-facts (p .detector) (protected p) (f .detector);
             });
         packets = r .packets;
+        numbers = r .numbers;
       }
 
-  pub ack-reached : (bytes : List ℕ) → PrimaryReached p → PrimaryReached (ackReply p bytes .state)
+  pub ack-reached : (e : ℕ) → AckFacts p e → PrimaryReached p → PrimaryReached (withAcknowledgedDetector p e (reset (p .detector)))
+  ack-reached e a r = record { range = ack-in-range e a (r .range); different = r .different; recordsHigh = r .recordsHigh }
+
+  -- a fact that an accepted ACK keeps
+  pub ack-kept : (P : Primary → Type 0) → ((e : ℕ) → AckFacts p e → P p → P (withAcknowledgedDetector p e (reset (p .detector))))
+      → (bytes : List ℕ) → P p → P (ackReply p bytes .state)
   unfolding ackReply
-  ack-reached bytes r =
-      on-ack PrimaryReached (λ e c. withAcknowledgedDetector p e (reset (p .detector))) p (ackJudged p bytes)
-      (λ e c q. ack-state-reached e (subst (AckJudgedFacts p) q (ack-accepted p bytes)) r) r
+  ack-kept P acks bytes r =
+      on-ack P (λ e c. withAcknowledgedDetector p e (reset (p .detector))) p (ackJudged p bytes)
+      (λ e c q. acks e (subst (AckJudgedFacts p) q (ack-accepted p bytes)) r) r

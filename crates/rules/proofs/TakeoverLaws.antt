@@ -1,16 +1,18 @@
 -- Laws of the standby's tick, of activation and of the guest's writes: what acceptance says, the tick by cases, and
 -- that a state stays in range, and reached. Assumes nothing.
-use mathlib.Core.Path.{_≡_, refl, ap, _∙_}
+use mathlib.Core.Path.{_≡_, refl, sym, ap, _∙_, subst}
 use mathlib.Core.Bool.{Bool, true, false, cond, false≢true}
 use Prim.Native.Nat.{ℕ, _+_, _≤_, _<_}
 use native.Mathlib.Omega.{arith}
 use lib.Dec.{leb, eqb}
 use lib.ListN.{length}
 use borrow.Author.Tests.{eqb-true, eq-eqb, ltb-true, leb-true}
+use Rattle.lists.specs.Select.{NoRepeats}
 use Rattle.lists.proofs.TestLaws.{both, join, accepted, accepts}
 use Rattle.records.specs.Area.{areaLength}
 use Rattle.staging.specs.Slot.{onlyDue}
 use Rattle.staging.proofs.SlotLaws.{numbers-only-due, slots-only-due}
+use Rattle.staging.proofs.BlockLaws.{fresh-only-due}
 use Rattle.detector.specs.declared.Detector.{Detector}
 use Rattle.detector.specs.Tick.{ticked, expired}
 use Rattle.rules.specs.declared.Mode.{Mode}
@@ -137,6 +139,7 @@ module _ (s : Standby) where
               settings-ok = t .settings-ok;
               slots-ok = slots-only-due (s .slots) (s .settings .s) (s .settings .d) (t .slots-ok);
               blocks-high = omega arith;
+              records-high = omega arith;
               pages-high = omega arith;
               detector-ok = t .detector-ok;
             });
@@ -153,6 +156,8 @@ module _ (s : Standby) where
         pagesBelow = omega arith;
         nextBelow = omega arith;
         notDue = omega (arith, k .0, k .1);
+        different = subst NoRepeats (sym (fresh-only-due (s .slots))) tt;
+        recordsHigh = omega arith;
       }
 
 -- a fact of states in range that another detector and mode keep, and dropping

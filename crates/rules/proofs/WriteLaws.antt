@@ -1,20 +1,27 @@
 -- Laws of the guest's writes at the primary: what acceptance says, what a disk write needs, and that the ranges are kept. Assumes nothing.
-use mathlib.Core.Path.{_≡_, refl}
-use mathlib.Core.Bool.{Bool, true, false, cond, _&&_, _||_, true≢false}
+use mathlib.Core.Path.{_≡_, refl, sym, ap, _∙_, subst}
+use mathlib.Core.Bool.{Bool, true, false, cond, _&&_}
+use mathlib.Core.Logic.{⊎-elim}
 use Prim.Native.Nat.{ℕ, _+_, _*_, _≤_, _<_}
+use native.Mathlib.Numerals.{add-one}
 use native.Mathlib.Omega.{arith}
 use lib.Dec.{leb, eqb}
+use lib.ListN.{length, set, length-set}
+use lib.Seq.{take-suc-set}
 use borrow.Author.Tests.{leb-true, le-leb, ltb-true, lt-ltb, eqb-true, eq-eqb}
 use Rattle.lists.specs.Refusal.{test}
-use Rattle.lists.proofs.TestLaws.{both, join, accepted, accepts}
+use Rattle.lists.specs.Select.{NoRepeats}
+use Rattle.lists.proofs.TestLaws.{by-test, both, join, unless, or-unless, cond-true, cond-false, accepted, accepts}
+use Rattle.lists.proofs.SelectLaws.{withNumber, no-repeats-with}
 use Rattle.lists.proofs.PageLaws.{page-end}
 use Rattle.records.specs.Kind.{BLOCK, recordLength}
+use Rattle.settings.specs.Range.{mostAllowance}
 use Rattle.rules.specs.declared.Primary.{Primary}
-use Rattle.rules.specs.PrimaryState.{primaryOk, memoryLength, diskLength, marksLength, withBlocksWaiting}
-use Rattle.rules.specs.PrimaryWrites.{memoryWriteTests, diskWriteTests, memoryWriteRefusal, memoryWriteReply, diskWriteRefusal, diskWriteState, diskWriteReply}
-use Rattle.rules.specs.Reached.{PrimaryReached}
+use Rattle.rules.specs.PrimaryState.{primaryOk, writtenNumbers, isWritten, memoryLength, diskLength, marksLength}
+use Rattle.rules.specs.PrimaryWrites.{memoryWriteTests, diskWriteTests, memoryWriteRefusal, diskWriteRefusal, withBlockAppended, diskWriteState}
+use Rattle.rules.specs.Reached.{PrimaryInRange, PrimaryReached}
+use Rattle.rules.proofs.BlocksLaws.{BlockRoom, block-room, block-allowed, blocks-high, blocks-of-records}
 use Rattle.rules.proofs.PrimaryFacts.{primary-facts, primary-of}
-use Rattle.rules.proofs.ReplyLaws.{pick-cases}
 
 -- ---- memory write
 pub record MemoryWriteRoom (p : Primary) (memory dirty page offset n : ℕ) : Type 0 where
@@ -47,28 +54,33 @@ module _ (p : Primary) (memory dirty page offset n : ℕ) where
     pub memory-write-end : page * p .settings .u + offset + n ≤ memory
     memory-write-end = omega (arith, page-end page (p .settings .m) (p .settings .u) (f .below), f .memory-is, f .inside)
 
-  pub memory-write-reached : PrimaryReached p → PrimaryReached (memoryWriteReply p memory dirty page offset n .state)
-  unfolding memoryWriteReply
-  memory-write-reached r = pick-cases PrimaryReached (memoryWriteRefusal p memory dirty page offset n) p p (λ e. r) (λ e. r)
-
 -- ---- disk write
+
+-- the numbers remembered with one BLOCK more: the block's own is among them, once
+module _ (p : Primary) (block : ℕ) where
+  array-appended : length (p .numbers) ≡ mostAllowance → length (withBlockAppended p block .numbers) ≡ mostAllowance
+  array-appended array =
+      ⊎-elim
+      (λ e. ap length (cond-true (isWritten p block) (p .numbers) (set (p .numbers) (p .blocks) block) e) ∙ array)
+      (λ e. ap length (cond-false (isWritten p block) (p .numbers) (set (p .numbers) (p .blocks) block) e) ∙ length-set (p .numbers) (p .blocks) block ∙ array)
+      (by-test (isWritten p block))
+
+  pub numbers-appended : length (p .numbers) ≡ mostAllowance → (isWritten p block ≡ false → p .blocks < mostAllowance)
+      → writtenNumbers (withBlockAppended p block) ≡ withNumber block (writtenNumbers p)
+  numbers-appended array low =
+      ⊎-elim
+      (λ e. rw e)
+      (λ e. let h = low e in rw (e, add-one) (take-suc-set (p .numbers) (p .blocks) block (omega arith)))
+      (by-test (isWritten p block))
+
 pub record DiskWriteRoom (p : Primary) (disk stream block n : ℕ) : Type 0 where
   pub ok : primaryOk p ≡ true
   pub disk-is : disk ≡ diskLength p
   pub stream-is : stream ≡ p .settings .l
   pub below : block < p .settings .d
   pub size : n ≡ p .settings .u
-  pub allowance : p .alone ≡ false → p .blocks < p .settings .b
+  pub allowance : p .alone ≡ false → BlockRoom (isWritten p block) (p .settings .b) (p .blocks) (p .records)
   pub room : p .alone ≡ false → p .waiting + recordLength (p .settings .u) BLOCK ≤ p .settings .l
-
--- a test that is made only where the primary is not alone
-unless-alone : (alone b : Bool) → (alone || b) ≡ true → alone ≡ false → b ≡ true
-unless-alone true b e h = absurd (true≢false h)
-unless-alone false b e h = e
-
-or-alone : (alone b : Bool) → (alone ≡ false → b ≡ true) → (alone || b) ≡ true
-or-alone true b f = refl
-or-alone false b f = f refl
 
 module _ (p : Primary) (disk stream block n : ℕ) where
   pub disk-write-accepted : diskWriteRefusal p disk stream block n ≡ 0 → DiskWriteRoom p disk stream block n
@@ -83,8 +95,8 @@ module _ (p : Primary) (disk stream block n : ℕ) where
         stream-is = eqb-true stream (p .settings .l) (s .1);
         below = ltb-true block (p .settings .d) (h .1 .0);
         size = eqb-true n (p .settings .u) (h .1 .1 .0);
-        allowance = λ a. ltb-true (p .blocks) (p .settings .b) (unless-alone (p .alone) _ (h .1 .1 .1 .0) a);
-        room = λ a. leb-true (p .waiting + recordLength (p .settings .u) BLOCK) (p .settings .l) (unless-alone (p .alone) _ (h .1 .1 .1 .1 .0) a);
+        allowance = λ a. block-room (isWritten p block) (p .settings .b) (p .blocks) (p .records) (unless (p .alone) _ (h .1 .1 .1 .0) a);
+        room = λ a. leb-true (p .waiting + recordLength (p .settings .u) BLOCK) (p .settings .l) (unless (p .alone) _ (h .1 .1 .1 .1 .0) a);
       }
 
   module _ (f : DiskWriteRoom p disk stream block n) where
@@ -98,8 +110,8 @@ module _ (p : Primary) (disk stream block n : ℕ) where
             (
               eq-eqb n (p .settings .u) (f .size),
               (
-                or-alone (p .alone) _ (λ a. lt-ltb (p .blocks) (p .settings .b) (f .allowance a)),
-                (or-alone (p .alone) _ (λ a. le-leb (p .waiting + recordLength (p .settings .u) BLOCK) (p .settings .l) (f .room a)), tt),
+                or-unless (p .alone) _ (λ a. block-allowed (isWritten p block) (p .settings .b) (p .blocks) (p .records) (f .allowance a)),
+                (or-unless (p .alone) _ (λ a. le-leb (p .waiting + recordLength (p .settings .u) BLOCK) (p .settings .l) (f .room a)), tt),
               ),
             ),
           ),
@@ -110,31 +122,46 @@ module _ (p : Primary) (disk stream block n : ℕ) where
     disk-write-end = omega (arith, page-end block (p .settings .d) (p .settings .u) (f .below), f .disk-is, f .size)
 
     -- a BLOCK appended
-    pub appended-reached : p .alone ≡ false → PrimaryReached p → PrimaryReached (withBlocksWaiting p (p .blocks + 1) (p .waiting + recordLength (p .settings .u) BLOCK))
-    appended-reached a r =
-        let g = primary-facts p (f .ok) in
-        let h = f .allowance a in
-        record {
-          inRange = primary-of _ (record {
-            settings = g .settings;
-            queue = g .queue;
-            acknowledged = g .acknowledged;
-            waiting = f .room a;
-            blocks = omega arith;
-            detector = g .detector;
-          });
-          packets = r .packets;
-        }
+    module _ (a : p .alone ≡ false) where
+      pub appended-in-range : PrimaryInRange p → PrimaryInRange (withBlockAppended p block)
+      appended-in-range r =
+          let g = primary-facts p (f .ok) in
+          let h = f .allowance a in
+          record {
+            inRange = primary-of _ (record {
+              settings = g .settings;
+              queue = g .queue;
+              acknowledged = g .acknowledged;
+              waiting = f .room a;
+              blocks = blocks-high (isWritten p block) (p .settings .b) (p .blocks) (p .records) h (g .blocks);
+              records = omega (arith, h .records-low);
+              detector = g .detector;
+            });
+            packets = r .packets;
+            numbers = array-appended p block (r .numbers);
+          }
 
-    disk-write-state-reached : PrimaryReached p → PrimaryReached (diskWriteState p)
+      pub appended-reached : PrimaryReached p → PrimaryReached (withBlockAppended p block)
+      appended-reached r =
+          let g = primary-facts p (f .ok) in
+          let h = f .allowance a in
+          record {
+            range = appended-in-range (r .range);
+            different = subst NoRepeats (sym (numbers-appended p block (r .range .numbers) (λ z. omega (arith, h .blocks-low z, g .settings .shared .b-high)))) (no-repeats-with block (writtenNumbers p) (r .different));
+            recordsHigh = blocks-of-records (isWritten p block) (p .blocks) (p .records) (r .recordsHigh);
+          }
+
+    -- a fact that a BLOCK appended keeps
+    pub disk-write-kept : (P : Primary → Type 0) → (p .alone ≡ false → P p → P (withBlockAppended p block)) → P p → P (diskWriteState p block)
     unfolding diskWriteState
-    disk-write-state-reached r = go (p .alone) refl
+    disk-write-kept P appends r = go (p .alone) refl
       where
-        go : (a : Bool) → p .alone ≡ a → PrimaryReached (cond a p (withBlocksWaiting p (p .blocks + 1) (p .waiting + recordLength (p .settings .u) BLOCK)))
+        go : (a : Bool) → p .alone ≡ a → P (cond a p (withBlockAppended p block))
         go true e = r
-        go false e = appended-reached e r
+        go false e = appends e r
 
-  pub disk-write-reached : PrimaryReached p → PrimaryReached (diskWriteReply p disk stream block n .state)
-  unfolding diskWriteReply
-  disk-write-reached r =
-      pick-cases PrimaryReached (diskWriteRefusal p disk stream block n) (diskWriteState p) p (λ e. disk-write-state-reached (disk-write-accepted e) r) (λ e. r)
+  pub disk-write-in-range : DiskWriteRoom p disk stream block n → PrimaryInRange p → PrimaryInRange (diskWriteState p block)
+  disk-write-in-range f = disk-write-kept f PrimaryInRange (λ a. appended-in-range f a)
+
+  pub disk-write-reached : DiskWriteRoom p disk stream block n → PrimaryReached p → PrimaryReached (diskWriteState p block)
+  disk-write-reached f = disk-write-kept f PrimaryReached (λ a. appended-reached f a)

@@ -14,7 +14,7 @@ use Rattle.marks.specs.Mark.{countMarks, cleared}
 use Rattle.pages.specs.Dirty.{dirtyRecords}
 use Rattle.rules.specs.declared.Primary.{Primary}
 use Rattle.rules.specs.declared.PrimaryReply.{PrimaryReply}
-use Rattle.rules.specs.PrimaryState.{primaryOk, protected, memoryLength, marksLength, withEpochBlocksWaiting}
+use Rattle.rules.specs.PrimaryState.{primaryOk, protected, memoryLength, marksLength, withEpochWaiting}
 use Rattle.rules.specs.Reply.{primaryReply}
 
 -- the dirty pages of the memory
@@ -25,11 +25,12 @@ dirtyCount p dirty = countMarks dirty (p .settings .m)
 unfoldable pub checkpointLength : ℕ → (wide : Bool) → ℕ → ℕ
 checkpointLength u wide pages = pages * recordLength u (pageKind wide) + checkpointEnd u wide
 
--- "appends every dirty page, STATE and COMMIT", "COMMIT with the counts"
+-- "appends every dirty page, STATE and COMMIT", "COMMIT with the counts"; that of blocks "is still of records"
+-- (document 02, Job 9)
 unfoldable pub checkpointBytes : Primary → List ℕ → List ℕ → List ℕ → List ℕ
 checkpointBytes p memory dirty processor =
     dirtyRecords memory dirty (isWide (p .settings .m)) (p .settings .u) (p .epoch) (p .settings .m)
-    ++ (stateRecord (p .epoch) processor ++ commitRecord (isWide (p .settings .m)) (p .epoch) (dirtyCount p dirty) (p .blocks))
+    ++ (stateRecord (p .epoch) processor ++ commitRecord (isWide (p .settings .m)) (p .epoch) (dirtyCount p dirty) (p .records))
 
 -- 1 13 15 19; pages is the count of dirty pages
 abbrev pub checkpointTests : Primary → ℕ → ℕ → ℕ → ℕ → List Test
@@ -44,7 +45,7 @@ unfoldable pub checkpointRefusal : Primary → ℕ → ℕ → ℕ → ℕ → �
 checkpointRefusal p memory dirty stream pages = refusal (checkpointTests p memory dirty stream pages)
 
 unfoldable pub checkpointState : Primary → ℕ → Primary
-checkpointState p pages = withEpochBlocksWaiting p (p .epoch + 1) 0 (p .waiting + checkpointLength (p .settings .u) (isWide (p .settings .m)) pages)
+checkpointState p pages = withEpochWaiting p (p .epoch + 1) (p .waiting + checkpointLength (p .settings .u) (isWide (p .settings .m)) pages)
 
 unfoldable pub checkpointReply : Primary → ℕ → ℕ → ℕ → ℕ → PrimaryReply
 checkpointReply p memory dirty stream pages =

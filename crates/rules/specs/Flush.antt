@@ -22,7 +22,7 @@ flushRefusal s slots disk = refusal (flushTests s slots disk)
 unfoldable pub flushReply : Standby → ℕ → ℕ → ℕ → StandbyReply
 flushReply s slots disk n =
     let count = flushCount (s .slots) n in
-    standbyReply (flushRefusal s slots disk) s (withSlotsBlocks s (flushed (s .slots) count) (s .blocks)) count
+    standbyReply (flushRefusal s slots disk) s (withSlotsBlocks s (flushed (s .slots) count) (s .blocks) (s .records)) count
 
 unfoldable pub flushStagedBlocks : Standby → List ℕ → List ℕ → ℕ → List ℕ
 flushStagedBlocks s slots disk n =

@@ -1,6 +1,6 @@
 -- What a read at the standby is refused with, and the record that an accepted one finds. Assumes nothing.
 use Prim.Native.Nat.{ℕ, _+_}
-use mathlib.Core.Bool.{Bool, cond, _&&_, not}
+use mathlib.Core.Bool.{Bool, cond, _&&_, _||_, not}
 use mathlib.Core.List.{List, [], _∷_}
 use lib.Dec.{leb, ltb, eqb}
 use Rattle.lists.specs.Refusal.{Test, test, refusal}
@@ -12,9 +12,10 @@ use Rattle.records.specs.Kind.{ACK, isWide, recordLength}
 use Rattle.records.specs.Cases.{byKind}
 use Rattle.records.specs.Read.{readRecord, otherRefusal}
 use Rattle.records.specs.Number.{outOfRange, noSuchUnit, noRoom, badEpoch, outOfOrder, badCounts, wrongMode, allowanceUsed, slotsFull}
-use Rattle.staging.specs.Slot.{freeSlots}
+use Rattle.staging.specs.Slot.{freeSlots, isStaged}
 use Rattle.rules.specs.declared.Standby.{Standby}
 use Rattle.rules.specs.declared.ReadLent.{ReadLent}
+use Rattle.rules.specs.Blocks.{blockAllowed}
 use Rattle.rules.specs.StandbyState.{standbyOk, isReceiving, memoryLength, slotsLength, marksLength}
 use Rattle.rules.specs.Reply.{unlessRefused}
 
@@ -43,18 +44,19 @@ pageTests s epoch page =
 unfoldable pub pageRefusal : Standby → ℕ → ℕ → ℕ
 pageRefusal s epoch page = refusal (pageTests s epoch page)
 
--- BLOCK: 2 8 9 14 17 ("BLOCK after PAGE or STATE": a page came where the next page is not 0 or pages are counted)
-abbrev pub blockTests : Standby → ℕ → ℕ → List Test
-blockTests s epoch block =
+-- BLOCK: 2 8 9 14 17, with so many slots free for it ("BLOCK after PAGE or STATE": a page came where the next page is
+-- not 0 or pages are counted; "17 isn't given where a slot is reused")
+abbrev pub blockTests : Standby → (free : ℕ) → ℕ → ℕ → List Test
+blockTests s free epoch block =
     test noSuchUnit (ltb block (s .settings .d))
     ∷ test badEpoch (isNext s epoch)
     ∷ test outOfOrder (eqb (s .next) 0 && eqb (s .pages) 0 && not (s .seen))
-    ∷ test allowanceUsed (ltb (s .blocks) (s .settings .b))
-    ∷ test slotsFull (ltb 0 (freeSlots (s .slots) (s .settings .s)))
+    ∷ test allowanceUsed (blockAllowed (isStaged (s .slots) block) (s .settings .b) (s .blocks) (s .records))
+    ∷ test slotsFull (isStaged (s .slots) block || ltb 0 free)
     ∷ []
 
-unfoldable pub blockRefusal : Standby → ℕ → ℕ → ℕ
-blockRefusal s epoch block = refusal (blockTests s epoch block)
+unfoldable pub blockRefusal : Standby → (free : ℕ) → ℕ → ℕ → ℕ
+blockRefusal s free epoch block = refusal (blockTests s free epoch block)
 
 -- STATE: 8 9 ("second STATE")
 abbrev pub stateTests : Standby → ℕ → List Test
@@ -63,21 +65,25 @@ stateTests s epoch = test badEpoch (isNext s epoch) ∷ test outOfOrder (not (s 
 unfoldable pub stateRefusal : Standby → ℕ → ℕ
 stateRefusal s epoch = refusal (stateTests s epoch)
 
--- COMMIT: 5 8 9 ("COMMIT without STATE") 10
+-- COMMIT: 5 8 9 ("COMMIT without STATE") 10 ("COMMIT's count is still of records")
 abbrev pub commitTests : Standby → ℕ → ℕ → ℕ → ℕ → List Test
 commitTests s reply epoch pages blocks =
     test noRoom (leb (recordLength (s .settings .u) ACK) reply)
     ∷ test badEpoch (isNext s epoch)
     ∷ test outOfOrder (s .seen)
-    ∷ test badCounts (eqb pages (s .pages) && eqb blocks (s .blocks))
+    ∷ test badCounts (eqb pages (s .pages) && eqb blocks (s .records))
     ∷ []
 
 unfoldable pub commitRefusal : Standby → ℕ → ℕ → ℕ → ℕ → ℕ
 commitRefusal s reply epoch pages blocks = refusal (commitTests s reply epoch pages blocks)
 
+-- the slots that are free for a BLOCK
+abbrev pub freeFor : Standby → ℕ
+freeFor s = freeSlots (s .slots) (s .settings .s)
+
 abbrev pub recordRefusal : Standby → ℕ → Record → ℕ
 recordRefusal s reply r =
-    byKind r (λ e p c. pageRefusal s e p) (λ e n c. blockRefusal s e n) (λ e c. stateRefusal s e) (λ e p b c. commitRefusal s reply e p b) (otherRefusal r)
+    byKind r (λ e p c. pageRefusal s e p) (λ e n c. blockRefusal s (freeFor s) e n) (λ e c. stateRefusal s e) (λ e p b c. commitRefusal s reply e p b) (otherRefusal r)
 
 -- "A standby reads only the kinds that its M calls for" (document 02, Job 7)
 abbrev pub readerOf : Standby → Reader

@@ -1,3 +1,4 @@
+pub mod Blocks
 pub mod PrimaryState
 pub mod StandbyState
 pub mod Reply

@@ -3,7 +3,7 @@ use Prim.Native.Nat.{ℕ, _+_}
 use mathlib.Core.Bool.{cond, _&&_, _||_}
 use mathlib.Core.List.{List, [], _∷_}
 use lib.Dec.{leb, ltb, eqb}
-use lib.ListN.{length}
+use lib.ListN.{length, set}
 use Rattle.lists.specs.Refusal.{Test, test, refusal, pick}
 use Rattle.lists.specs.Part.{put}
 use Rattle.lists.specs.Page.{withPage}
@@ -14,7 +14,8 @@ use Rattle.marks.specs.Mark.{withMark}
 use Rattle.rules.specs.declared.Primary.{Primary}
 use Rattle.rules.specs.declared.PrimaryReply.{PrimaryReply}
 use Rattle.pages.specs.Write.{insidePage, written}
-use Rattle.rules.specs.PrimaryState.{primaryOk, memoryLength, diskLength, marksLength, withBlocksWaiting}
+use Rattle.rules.specs.Blocks.{blockAllowed, blocksWith}
+use Rattle.rules.specs.PrimaryState.{primaryOk, isWritten, memoryLength, diskLength, marksLength, withBlocksWaiting}
 use Rattle.rules.specs.Reply.{primaryReply}
 
 -- ---- memory write: 1 2 3
@@ -46,18 +47,27 @@ diskWriteTests p disk stream block n =
     test outOfRange (primaryOk p && eqb disk (diskLength p) && eqb stream (p .settings .l))
     ∷ test noSuchUnit (ltb block (p .settings .d))
     ∷ test badSize (eqb n (p .settings .u))
-    ∷ test allowanceUsed (p .alone || ltb (p .blocks) (p .settings .b))
+    ∷ test allowanceUsed (p .alone || blockAllowed (isWritten p block) (p .settings .b) (p .blocks) (p .records))
     ∷ test streamFull (p .alone || leb (p .waiting + recordLength (p .settings .u) BLOCK) (p .settings .l))
     ∷ []
 
 unfoldable pub diskWriteRefusal : Primary → ℕ → ℕ → ℕ → ℕ → ℕ
 diskWriteRefusal p disk stream block n = refusal (diskWriteTests p disk stream block n)
 
-unfoldable pub diskWriteState : Primary → Primary
-diskWriteState p = cond (p .alone) p (withBlocksWaiting p (p .blocks + 1) (p .waiting + recordLength (p .settings .u) BLOCK))
+-- one BLOCK more; the number of a block that the open epoch did not have is remembered
+abbrev pub withBlockAppended : Primary → ℕ → Primary
+withBlockAppended p block =
+    withBlocksWaiting p
+    (blocksWith (isWritten p block) (p .blocks))
+    (p .records + 1)
+    (cond (isWritten p block) (p .numbers) (set (p .numbers) (p .blocks) block))
+    (p .waiting + recordLength (p .settings .u) BLOCK)
+
+unfoldable pub diskWriteState : Primary → ℕ → Primary
+diskWriteState p block = cond (p .alone) p (withBlockAppended p block)
 
 unfoldable pub diskWriteReply : Primary → ℕ → ℕ → ℕ → ℕ → PrimaryReply
-diskWriteReply p disk stream block n = primaryReply (diskWriteRefusal p disk stream block n) p (diskWriteState p) (p .epoch)
+diskWriteReply p disk stream block n = primaryReply (diskWriteRefusal p disk stream block n) p (diskWriteState p block) (p .epoch)
 
 -- "U bytes, stored on the primary's disk, and a BLOCK appended to the stream"
 unfoldable pub diskWriteDisk : Primary → List ℕ → List ℕ → ℕ → List ℕ → List ℕ

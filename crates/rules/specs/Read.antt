@@ -10,10 +10,11 @@ use Rattle.records.specs.Cases.{onPage, onBlock, onCommit, byKind}
 use Rattle.records.specs.Write.{ackRecord}
 use Rattle.marks.specs.Mark.{withMark, cleared}
 use Rattle.pages.specs.Dirty.{installed}
-use Rattle.staging.specs.Slot.{withBlock, withBlockBytes, allDue}
+use Rattle.staging.specs.Slot.{isStaged, withBlock, withBlockBytes, allDue}
 use Rattle.rules.specs.declared.Standby.{Standby}
 use Rattle.rules.specs.declared.ReadLent.{ReadLent}
 use Rattle.rules.specs.declared.StandbyAnswer.{StandbyAnswer}
+use Rattle.rules.specs.Blocks.{blocksWith}
 use Rattle.rules.specs.StandbyState.{withPagesNext, withSlotsBlocks, withPendingSeen, withNoRecords, withReceivedSlotsProcessor, withNoTicks}
 use Rattle.rules.specs.Reply.{answerOf}
 use Rattle.rules.specs.Judge.{judged}
@@ -30,6 +31,11 @@ sealedState s = withNoRecords s
 abbrev pub installedState : Standby → ℕ → Standby
 installedState s epoch = withReceivedSlotsProcessor s epoch (allDue (s .slots)) (s .pending)
 
+-- a block is staged: one BLOCK more, in the slot of its number
+abbrev pub stagedState : Standby → ℕ → Standby
+stagedState s n =
+    withSlotsBlocks s (withBlock (s .slots) n) (blocksWith (isStaged (s .slots) n) (s .blocks)) (s .records + 1)
+
 -- the state after a record is accepted: the count "returns to 0 at each accepted record of kinds 1 to 4" (document 02,
 -- Job 1); any other answer leaves the state
 abbrev pub readState : Standby → List ℕ → Record → Standby
@@ -37,7 +43,7 @@ readState s bytes r =
     let t = withNoTicks s in
     byKind r
     (λ e p c. withPagesNext t (t .pages + 1) (p + 1))
-    (λ e n c. withSlotsBlocks t (withBlock (t .slots) n) (t .blocks + 1))
+    (λ e n c. stagedState t n)
     (λ e c. withPendingSeen t (bytesAt c bytes))
     (λ e p b c. installedState (sealedState t) e)
     s
@@ -53,7 +59,7 @@ abbrev pub stagedMarksAfter : Standby → List ℕ → Record → List ℕ
 stagedMarksAfter s marks r = onPage r (λ e p c. withMark marks p) (onCommit r (λ e p b c. cleared marks (s .settings .m)) marks)
 
 abbrev pub stagedBlocksAfter : Standby → List ℕ → List ℕ → Record → List ℕ
-stagedBlocksAfter s bytes slots r = onBlock r (λ e n c. withBlockBytes (s .settings .u) (s .slots) slots (bytesAt c bytes)) slots
+stagedBlocksAfter s bytes slots r = onBlock r (λ e n c. withBlockBytes (s .settings .u) (s .slots) n slots (bytesAt c bytes)) slots
 
 -- "writes the ACK into the first 8 bytes of the reply buffer"
 abbrev pub replyAfter : List ℕ → Record → List ℕ

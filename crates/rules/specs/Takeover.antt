@@ -29,7 +29,7 @@ standbyTickRefusal s marks = refusal (standbyTickTests s marks)
 
 -- "staged pages and blocks not yet due are dropped": the state; the marks are cleared beside it
 abbrev pub dropped : Standby → Standby
-dropped s = withNoRecords (withSlotsBlocks s (onlyDue (s .slots)) 0)
+dropped s = withNoRecords (withSlotsBlocks s (onlyDue (s .slots)) 0 0)
 
 -- this tick is the one at which the standby takes over
 abbrev pub takesOver : Standby → Bool

@@ -1,6 +1,7 @@
 // The states of both ends and the replies of their calls. What each call does is defined in specs/.
 use detector::Detector;
 use queue::Queue;
+use settings::MOST_ALLOWANCE;
 use settings::PrimarySettings;
 use settings::StandbySettings;
 use staging::Slots;
@@ -13,11 +14,14 @@ pub struct Primary {
     pub epoch: u32,
     pub acknowledged: u32,
     pub alone: bool,
-    // blocks of the open epoch
+    // different blocks of the open epoch, and its BLOCK records
     pub blocks: usize,
+    pub records: usize,
     // bytes of the outgoing stream
     pub waiting: usize,
     pub queue: Queue,
+    // the first `blocks` entries are the numbers of those blocks, in the order first written; the others say nothing
+    pub numbers: [u16; MOST_ALLOWANCE],
 }
 
 pub enum Mode {
@@ -34,8 +38,9 @@ pub struct Standby {
     // the last received epoch
     pub received: u32,
     pub slots: Slots,
-    // blocks and pages of the epoch that is being received
+    // different blocks of the epoch that is being received, its BLOCK records, and its pages
     pub blocks: usize,
+    pub records: usize,
     pub pages: usize,
     // the last page of that epoch + 1, or 0
     pub next: usize,

@@ -21,7 +21,7 @@ use Rattle.rules.specs.declared.Primary.{Primary}
 use Rattle.rules.specs.PrimaryState.{protected, withAcknowledgedDetector}
 use Rattle.rules.specs.World as call
 use Rattle.rules.specs.Step.{Stepped}
-use Rattle.rules.proofs.StreamLaws.{AckFacts, ack-epochs, ack-state-reached}
+use Rattle.rules.proofs.StreamLaws.{AckFacts, ack-epochs, ack-reached}
 use Rattle.rules.proofs.PrimaryFacts.{primary-facts}
 use Rattle.runs.specs.Plain.{withCounts, plainAccepted, plainStep}
 use Rattle.runs.specs.Run.{Both, steps, runCall}
@@ -91,7 +91,7 @@ module _ (g : Settings) (b : Both) (i : Inv g b) where
           primaryKept = record {
             settings = k .settings;
             patience = k .patience;
-            reached = ack-state-reached (p .state) e f (k .reached);
+            reached = ack-reached (p .state) e f (k .reached);
             memory = k .memory;
             disk = k .disk;
             dirty = k .dirty;
@@ -124,7 +124,7 @@ module _ (g : Settings) (b : Both) (i : Inv g b) where
         let p = b .world .primary .state in
         let f = ack-epochs p e (cursor 8 (recordLength (p .settings .u) ACK)) (sym z ∙ accepted) in
         subst (λ (y : Record). Inv g (bothBy y)) (sym (seen accepted))
-        (by-ack e es same (record { ok = i .holds .primaryKept .reached .inRange; protects = on; above = f .0; below = f .1 }) bytes)
+        (by-ack e es same (record { ok = i .holds .primaryKept .reached .range .inRange; protects = on; above = f .0; below = f .1 }) bytes)
 
 pub ack-keeps : (g : Settings) (n : ℕ) → KeepsAccepted g (call.ack n)
 ack-keeps g n b i e =

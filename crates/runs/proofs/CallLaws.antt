@@ -3,36 +3,40 @@
 use mathlib.Core.Path.{_≡_, refl}
 use mathlib.Core.Bool.{true, false}
 use mathlib.Core.List.{List, []}
-use Prim.Native.Nat.{ℕ, _≤_}
+use Prim.Native.Nat.{ℕ, _-_, _≤_}
 use native.Mathlib.Omega.{arith}
 use borrow.Author.Tests.{ne-eqb}
 use lib.ListN.{length, take}
 use Rattle.records.specs.Number.{outOfOrder}
 use Rattle.settings.specs.declared.Settings.{Settings}
+use Rattle.queue.specs.Held.{oldestAt, added, withoutPacket}
 use Rattle.staging.specs.Slot.{flushCount, flushed}
+use Rattle.detector.specs.Tick.{reset}
 use Rattle.rules.specs.declared.Mode.the-variants.{Active}
+use Rattle.rules.specs.declared.Primary.{Primary}
 use Rattle.rules.specs.declared.Standby.{Standby}
 use Rattle.rules.specs.declared.ReadLent.{ReadLent}
 use Rattle.rules.specs.StandbyState.{standbyOk, withPagesNext, withSlotsBlocks, withMode}
 use Rattle.rules.specs.Start.{openedStandby}
-use Rattle.rules.specs.PrimaryWrites.{memoryWriteReply, diskWriteReply}
-use Rattle.rules.specs.Packets.{packetReply, takeReply, takeDestination}
-use Rattle.rules.specs.Checkpoint.{checkpointReply}
-use Rattle.rules.specs.Stream.{drainReply, drainDestination, ackJudged, ackReply}
-use Rattle.rules.specs.PrimaryTick.{primaryTickReply}
+use Rattle.rules.specs.PrimaryState.{withQueue, withWaiting, withAcknowledgedDetector}
+use Rattle.rules.specs.PrimaryWrites.{memoryWriteRefusal, memoryWriteReply, diskWriteRefusal, diskWriteState, diskWriteReply}
+use Rattle.rules.specs.Packets.{packetRefusal, packetReply, takeRefusal, takeReply, takeDestination}
+use Rattle.rules.specs.Checkpoint.{dirtyCount, checkpointRefusal, checkpointState, checkpointReply}
+use Rattle.rules.specs.Stream.{drainRefusal, drainCount, drainReply, drainDestination, ackJudged, ackReply}
+use Rattle.rules.specs.PrimaryTick.{primaryTickRefusal, primaryTickState, primaryTickReply}
 use Rattle.rules.specs.Judge.{pageRefusal, judged}
 use Rattle.rules.specs.Read.{readLent, readReply, readReplyBytes}
 use Rattle.rules.specs.Flush.{flushRefusal, flushReply}
 use Rattle.rules.specs.Takeover.{standbyTickRefusal, standbyTickState, standbyTickReply, activationRefusal, activationReply, activeMemoryWriteRefusal, activeMemoryWriteReply, activeDiskWriteRefusal, activeDiskWriteReply}
-use Rattle.rules.specs.Reached.{PrimaryReached, StandbyInRange, StandbyReached, StaysInRange}
+use Rattle.rules.specs.Reached.{PrimaryInRange, PrimaryReached, StandbyInRange, StandbyReached, StaysInRange}
 use Rattle.rules.specs.World.{World, Call, Processor, Buffers, startLent, startNumber, startWorld}
 use Rattle.rules.specs.World as call
 use Rattle.rules.specs.Step.{step}
-use Rattle.rules.proofs.WriteLaws.{memory-write-reached, disk-write-reached}
-use Rattle.rules.proofs.CheckpointLaws.{checkpoint-reached}
-use Rattle.rules.proofs.PacketLaws.{packet-reached, take-reached}
-use Rattle.rules.proofs.StreamLaws.{drain-reached, ack-reached}
-use Rattle.rules.proofs.PrimaryTickLaws.{primary-tick-reached}
+use Rattle.rules.proofs.WriteLaws.{DiskWriteRoom, disk-write-accepted, disk-write-in-range, disk-write-reached}
+use Rattle.rules.proofs.CheckpointLaws.{CheckpointRoom, checkpoint-accepted, checkpoint-in-range, checkpoint-reached}
+use Rattle.rules.proofs.PacketLaws.{PacketFacts, packet-accepted, packet-in-range, packet-reached, TakeFacts, take-accepted, take-in-range, take-reached}
+use Rattle.rules.proofs.StreamLaws.{drain-in-range, drain-reached, AckFacts, ack-in-range, ack-reached, ack-kept}
+use Rattle.rules.proofs.PrimaryTickLaws.{tick-in-range, tick-reached}
 use Rattle.rules.proofs.ReadLaws.{read-in-range, read-reached, nothing-read}
 use Rattle.rules.proofs.FlushLaws.{flushed-in-range, flushed-reached}
 use Rattle.rules.proofs.TakeoverLaws.{ticked-in-range, ticked-reached, activated-in-range, activated-reached}
@@ -46,28 +50,49 @@ pub record BothReached (w : World) : Type 0 where
   pub primary : PrimaryReached (w .primary .state)
   pub standby : StandbyReached (w .standby .state)
 
--- every call keeps what the primary's own calls keep: of the primary
-primary-kept : (w : World) (c : Call) → PrimaryReached (w .primary .state) → PrimaryReached (step w c .next .primary .state)
-unfolding step
-primary-kept w (call.memoryWrite page offset bytes) r = memory-write-reached _ _ _ _ _ _ r
-primary-kept w (call.diskWrite block bytes) r = disk-write-reached _ _ _ _ _ r
-primary-kept w (call.packet port bytes) r = packet-reached _ _ _ _ r
-primary-kept w (call.checkpoint processor) r = checkpoint-reached _ _ _ _ _ r
-primary-kept w (call.drain n destination) r = drain-reached _ _ _ _ r
-primary-kept w (call.ack n) r = ack-reached _ _ r
-primary-kept w (call.take port destination) r = take-reached _ _ _ _ r
-primary-kept w call.primaryTick r = primary-tick-reached _ r
-primary-kept w (call.read n reply) r = r
-primary-kept w (call.flush n) r = r
-primary-kept w call.standbyTick r = r
-primary-kept w call.activation r = r
-primary-kept w (call.activeMemoryWrite page offset bytes) r = r
-primary-kept w (call.activeDiskWrite block bytes) r = r
+-- every call keeps what each end's own calls keep: of the primary; a memory write leaves its state
+module _ (P : Primary → Type 0)
+    (writes : (p : Primary) (disk stream block n : ℕ) → DiskWriteRoom p disk stream block n → P p → P (diskWriteState p block))
+    (packets : (p : Primary) (held port n : ℕ) → PacketFacts p held port n → P p → P (withQueue p (added (p .queue) (p .epoch) port n)))
+    (closes : (p : Primary) (memory dirty stream pages : ℕ) → CheckpointRoom p memory dirty stream pages → P p → P (checkpointState p pages))
+    (drains : (p : Primary) (n destination : ℕ) → P p → P (withWaiting p (p .waiting - drainCount p n destination)))
+    (acks : (p : Primary) (e : ℕ) → AckFacts p e → P p → P (withAcknowledgedDetector p e (reset (p .detector))))
+    (takes : (p : Primary) (held port destination : ℕ) → TakeFacts p held port destination → P p → P (withQueue p (withoutPacket (p .queue) (oldestAt (p .queue) port))))
+    (ticks : (p : Primary) → P p → P (primaryTickState p)) where
+  primary-kept : (w : World) (c : Call) → P (w .primary .state) → P (step w c .next .primary .state)
+  unfolding step memoryWriteReply diskWriteReply packetReply checkpointReply drainReply takeReply primaryTickReply
+  primary-kept w (call.memoryWrite page offset bytes) r =
+      let e = w .primary in
+      pick-cases P (memoryWriteRefusal (e .state) (length (e .memory)) (length (e .dirty)) page offset (length bytes)) (e .state) (e .state) (λ _. r) (λ _. r)
+  primary-kept w (call.diskWrite block bytes) r =
+      let e = w .primary in
+      pick-cases P (diskWriteRefusal (e .state) (length (e .disk)) (length (e .stream)) block (length bytes)) _ (e .state) (λ z. writes (e .state) _ _ block _ (disk-write-accepted _ _ _ _ _ z) r) (λ _. r)
+  primary-kept w (call.packet port bytes) r =
+      let e = w .primary in
+      pick-cases P (packetRefusal (e .state) (length (e .held)) port (length bytes)) _ (e .state) (λ z. packets (e .state) _ port _ (packet-accepted _ _ _ _ z) r) (λ _. r)
+  primary-kept w (call.checkpoint processor) r =
+      let e = w .primary in
+      pick-cases P (checkpointRefusal (e .state) (length (e .memory)) (length (e .dirty)) (length (e .stream)) (dirtyCount (e .state) (e .dirty))) _ (e .state)
+      (λ z. closes (e .state) _ _ _ _ (checkpoint-accepted _ _ _ _ _ z) r) (λ _. r)
+  primary-kept w (call.drain n destination) r =
+      let e = w .primary in
+      pick-cases P (drainRefusal (e .state) (length (e .stream))) _ (e .state) (λ _. drains (e .state) n (length destination) r) (λ _. r)
+  primary-kept w (call.ack n) r = ack-kept (w .primary .state) P (acks (w .primary .state)) (take n (w .acks)) r
+  primary-kept w (call.take port destination) r =
+      let e = w .primary in
+      pick-cases P (takeRefusal (e .state) (length (e .held)) port (length destination)) _ (e .state) (λ z. takes (e .state) _ port _ (take-accepted _ _ _ _ z) r) (λ _. r)
+  primary-kept w call.primaryTick r = pick-cases P (primaryTickRefusal (w .primary .state)) _ (w .primary .state) (λ _. ticks (w .primary .state) r) (λ _. r)
+  primary-kept w (call.read n reply) r = r
+  primary-kept w (call.flush n) r = r
+  primary-kept w call.standbyTick r = r
+  primary-kept w call.activation r = r
+  primary-kept w (call.activeMemoryWrite page offset bytes) r = r
+  primary-kept w (call.activeDiskWrite block bytes) r = r
 
 -- and of the standby; a guest's write leaves its state
 module _ (P : Standby → Type 0)
     (read : (s : Standby) (l : ReadLent) (bytes : List ℕ) → P s → P (readReply s l bytes .state))
-    (flushes : (s : Standby) (count : ℕ) → count ≤ s .slots .due → P s → P (withSlotsBlocks s (flushed (s .slots) count) (s .blocks)))
+    (flushes : (s : Standby) (count : ℕ) → count ≤ s .slots .due → P s → P (withSlotsBlocks s (flushed (s .slots) count) (s .blocks) (s .records)))
     (ticks : (s : Standby) → P s → P (standbyTickState s))
     (activates : (s : Standby) → P s → P (withMode s Active)) where
   standby-kept : (w : World) (c : Call) → P (w .standby .state) → P (step w c .next .standby .state)
@@ -101,7 +126,7 @@ module _ (P : Standby → Type 0)
 pub stays-in-range : (w : World) (c : Call) → StaysInRange w c
 stays-in-range w c =
     record {
-      primary = primary-kept w c;
+      primary = primary-kept PrimaryInRange disk-write-in-range packet-in-range checkpoint-in-range drain-in-range ack-in-range take-in-range tick-in-range w c;
       standby = standby-kept StandbyInRange read-in-range flushed-in-range ticked-in-range activated-in-range w c;
     }
 
@@ -117,7 +142,7 @@ page-below-count = (refl, refl, refl, refl)
 pub step-reached : (w : World) (c : Call) → BothReached w → BothReached (step w c .next)
 step-reached w c r =
     record {
-      primary = primary-kept w c (r .primary);
+      primary = primary-kept PrimaryReached disk-write-reached packet-reached checkpoint-reached drain-reached ack-reached take-reached tick-reached w c (r .primary);
       standby = standby-kept StandbyReached read-reached flushed-reached ticked-reached activated-reached w c (r .standby);
     }
 

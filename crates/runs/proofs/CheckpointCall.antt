@@ -23,14 +23,14 @@ use Rattle.pages.specs.Clean.{Clean}
 use Rattle.pages.specs.Dirty.{dirtyRecords}
 use Rattle.pages.specs.DirtyMessages.{dirtyMessages}
 use Rattle.pages.proofs.CleanLaws.{clean-clear}
-use Rattle.rules.specs.PrimaryState.{withEpochBlocksWaiting}
+use Rattle.rules.specs.PrimaryState.{withEpochWaiting}
 use Rattle.rules.specs.Checkpoint.{dirtyCount, checkpointLength, checkpointBytes, checkpointState, checkpointReply, checkpointDirty, checkpointStream}
 use Rattle.rules.specs.Reached.{PrimaryReached}
 use Rattle.rules.specs.World.{Processor}
 use Rattle.rules.specs.World as call
 use Rattle.rules.specs.Step.{atPrimary, step}
 use Rattle.rules.proofs.PrimaryFacts.{primary-facts}
-use Rattle.rules.proofs.CheckpointLaws.{CheckpointRoom, checkpoint-accepted, checkpoint-state-reached, length-checkpoint}
+use Rattle.rules.proofs.CheckpointLaws.{CheckpointRoom, checkpoint-accepted, checkpoint-reached, length-checkpoint}
 use Rattle.runs.specs.Plain.{Checkpoint, withCheckpoint, plainAccepted, plainStep}
 use Rattle.runs.specs.Run.{Both, steps, runCall}
 use Rattle.runs.proofs.Effects.{effects, effects-append, Epoch, closed, checkpointsAfter, lastAfter, checkpoints-more, last-more, All, all-append, Before, Readable}
@@ -54,7 +54,7 @@ module _ (processor : Processor) where
       let p = b .world .primary in
       let e = p .state .epoch in
       let wide = isWide (x .m) in
-      dirtyRecords (p .memory) (p .dirty) wide (x .u) e (x .m) ++ (stateRecord e (processor .bytes) ++ commitRecord wide e (countMarks (p .dirty) (x .m)) (p .state .blocks))
+      dirtyRecords (p .memory) (p .dirty) wide (x .u) e (x .m) ++ (stateRecord e (processor .bytes) ++ commitRecord wide e (countMarks (p .dirty) (x .m)) (p .state .records))
 
   abbrev new : Both → Checkpoint
   new b = record { memory = b .plain .memory; disk = b .plain .disk; processor = processor .bytes; packets = b .plain .accepted }
@@ -64,7 +64,7 @@ module _ (processor : Processor) where
       let p = b .world .primary in
       record {
         world = atPrimary (b .world) (record {
-          state = withEpochBlocksWaiting (p .state) (p .state .epoch + 1) 0 (p .state .waiting + checkpointLength (x .u) (isWide (x .m)) (countMarks (p .dirty) (x .m)));
+          state = withEpochWaiting (p .state) (p .state .epoch + 1) (p .state .waiting + checkpointLength (x .u) (isWide (x .m)) (countMarks (p .dirty) (x .m)));
           memory = p .memory;
           disk = p .disk;
           dirty = cleared (p .dirty) (x .m);
@@ -97,10 +97,10 @@ module _ (processor : Processor) where
     closing = beforeCommit (b .world .primary .memory) (b .world .primary .dirty) (processor .bytes) (g .u) (b .world .primary .state .epoch) (g .m)
 
     abbrev pub commit : Message
-    commit = message.commit epoch count (b .world .primary .state .blocks)
+    commit = message.commit epoch count (b .world .primary .state .records)
 
     abbrev shut : Epoch
-    shut = record { records = i .ghost .opened ++ closing; number = epoch; pages = count; blocks = b .world .primary .state .blocks; packets = b .plain .accepted }
+    shut = record { records = i .ghost .opened ++ closing; number = epoch; pages = count; blocks = b .world .primary .state .records; packets = b .plain .accepted }
 
     abbrev last : Checkpoint
     last = lastAfter (g .u) (i .ghost .base) (i .ghost .ahead)
@@ -124,7 +124,7 @@ module _ (processor : Processor) where
 
     -- the bytes appended are those of its records
     pub bytes-are : encodeAll (isWide (g .m)) (closing ++ (commit ∷ [])) ≡ bytesOf b (ofPrimary g)
-    bytes-are = let p = b .world .primary in records-bytes (p .memory) (p .dirty) (processor .bytes) (g .u) epoch (g .m) (p .state .blocks) (isWide (g .m))
+    bytes-are = let p = b .world .primary in records-bytes (p .memory) (p .dirty) (processor .bytes) (g .u) epoch (g .m) (p .state .records) (isWide (g .m))
 
     -- in start's settings: their length, the room, and the state
     pub long : length (bytesOf b (ofPrimary g)) ≡ checkpointLength (g .u) (isWide (g .m)) count
@@ -139,22 +139,21 @@ module _ (processor : Processor) where
         let p = b .world .primary in
         subst (λ (x : PrimarySettings). p .state .waiting + checkpointLength (x .u) (isWide (x .m)) (countMarks (p .dirty) (x .m)) ≤ x .l) (i .holds .primaryKept .settings) (f .room)
 
-    reached : PrimaryReached (withEpochBlocksWaiting (b .world .primary .state) (b .world .primary .state .epoch + 1) 0 (b .world .primary .state .waiting + checkpointLength (g .u) (isWide (g .m)) count))
+    reached : PrimaryReached (withEpochWaiting (b .world .primary .state) (b .world .primary .state .epoch + 1) (b .world .primary .state .waiting + checkpointLength (g .u) (isWide (g .m)) count))
     unfolding checkpointState
     reached =
         let p = b .world .primary in
         let k = i .holds .primaryKept in
-        subst (λ (x : PrimarySettings). PrimaryReached (withEpochBlocksWaiting (p .state) (p .state .epoch + 1) 0 (p .state .waiting + checkpointLength (x .u) (isWide (x .m)) (countMarks (p .dirty) (x .m))))) (k .settings)
-        (checkpoint-state-reached (p .state) (length (p .memory)) (length (p .dirty)) (length (p .stream)) (dirtyCount (p .state) (p .dirty)) f (k .reached))
+        subst (λ (x : PrimarySettings). PrimaryReached (withEpochWaiting (p .state) (p .state .epoch + 1) (p .state .waiting + checkpointLength (x .u) (isWide (x .m)) (countMarks (p .dirty) (x .m))))) (k .settings)
+        (checkpoint-reached (p .state) (length (p .memory)) (length (p .dirty)) (length (p .stream)) (dirtyCount (p .state) (p .dirty)) f (k .reached))
 
     pub readable : All (Readable (g .u) (isWide (g .m))) (closing ++ (commit ∷ []))
     readable =
         let p = b .world .primary in
         let k = i .holds .primaryKept in
         let s = primary-settings g p k in
-        let blocks = primary-facts (p .state) (f .ok) .blocks in
-        let bs = ap (λ (x : PrimarySettings). x .b) (k .settings) in
-        records-readable (p .memory) (p .dirty) (processor .bytes) (g .u) epoch (g .m) (p .state .blocks) (omega (arith, f .next)) (s .shared .m-high) (omega (arith, s .shared .b-high)) (k .memory) (processor .size)
+        let few = primary-facts (p .state) (f .ok) .records in
+        records-readable (p .memory) (p .dirty) (processor .bytes) (g .u) epoch (g .m) (p .state .records) (omega (arith, f .next)) (s .shared .m-high) (omega arith) (k .memory) (processor .size)
 
     closing-before : All Before (i .ghost .opened ++ closing)
     closing-before =

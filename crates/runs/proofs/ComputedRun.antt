@@ -61,14 +61,18 @@ rows =
     ∷ row (call.take 1 (zeros 39)) 5 0
     ∷ row (call.take 1 (zeros 50)) 0 40
     ∷ row (call.take 1 (zeros 50)) 18 0
-    -- checkpoint 2, for which one slot of three is free until a flush; it takes six ticks, twice T, never three between
-    -- two records
+    -- checkpoint 2 has block 0 twice: a third block would be too many. One slot of three is free until a flush: block 0
+    -- is in a due slot too, which it does not reuse; its second BLOCK reuses the slot of its first, with no slot free.
+    -- The checkpoint takes six ticks, twice T, never three between two records
+    ∷ row (call.diskWrite 0 (unit 40)) 0 2
+    ∷ row (call.diskWrite 2 (unit 45)) 14 0
     ∷ row (call.diskWrite 0 (unit 44)) 0 2
     ∷ row (call.checkpoint (processorOf 62)) 0 2
     ∷ row (call.read 74 (zeros 8)) 0 2
-    ∷ row (call.drain 300 (zeros 300)) 0 232
+    ∷ row (call.drain 400 (zeros 400)) 0 306
     ∷ row (call.read 74 (zeros 8)) 17 0
     ∷ row (call.flush 1) 0 1
+    ∷ row (call.read 74 (zeros 8)) 0 2
     ∷ row (call.read 74 (zeros 8)) 0 2
     ∷ row call.standbyTick 0 0
     ∷ row call.standbyTick 0 0
@@ -175,7 +179,7 @@ run-choice = (refl, refl, refl)
 
 -- ---- the same list, the standby cut inside its flush of 2, which counts as one of 1; the primary goes on, and a takeover follows
 abbrev pub standbyCut : Cut
-standbyCut = record { primary = uncut; standby = after 73 (budget 1) }
+standbyCut = record { primary = uncut; standby = after 76 (budget 1) }
 
 abbrev pub cutThere : List Call → Both
 cutThere calls = run steps 64 begun calls
@@ -204,7 +208,7 @@ cut-inside-flush =
 
 -- ---- the same list, the primary cut inside the drain of the rest of checkpoint 2, and the standby going on
 abbrev pub primaryCut : Running → Cut
-primaryCut running = record { primary = after 37 running; standby = uncut }
+primaryCut running = record { primary = after 39 running; standby = uncut }
 
 -- the standby becomes active at checkpoint r and the guest writes there
 pub record PrimaryCut (r : ℕ) (memory disk : List ℕ) (calls : List Call) : Type 0 where

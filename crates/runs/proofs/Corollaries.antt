@@ -1,4 +1,5 @@
--- The first four claims of specs/Corollaries.antt, from demand 3. Assumes nothing.
+-- The claims of specs/Corollaries.antt but the fifth: the first four from demand 3, the sixth from the invariant.
+-- Assumes nothing.
 use Prim.Native.Nat.{ℕ, _≤_}
 use mathlib.Core.Path.{_≡_, refl, sym, ap, _∙_, subst}
 use mathlib.Core.Bool.{true, cond}
@@ -16,11 +17,13 @@ use Rattle.runs.specs.Plain.{Checkpoint, receivedCheckpoint, plainAccept
 use Rattle.runs.specs.Run.{Both, steps, runCall, run, startBoth}
 use Rattle.runs.specs.Cut.{countedCalls}
 use Rattle.runs.specs.Demand3.{active, Holds, WholeRun}
-use Rattle.runs.specs.Corollaries.{IsCheckpoint, pairAfter, PacketSaved, AcknowledgedReceived, AcknowledgedKept, OneCheckpoint, PrimaryDiskUntilActivation, AfterStart}
+use Rattle.runs.specs.Corollaries.{IsCheckpoint, pairAfter, PacketSaved, AcknowledgedReceived, AcknowledgedKept, OneCheckpoint, PrimaryDiskUntilActivation, DiskAtCheckpoint, AfterStart}
 use Rattle.runs.proofs.CutLaws.{noCut, counted-uncut}
 use Rattle.runs.proofs.PlainLaws.{run-append, Later, run-later, activation-plain}
-use Rattle.runs.proofs.Frame.{Accepted}
-use Rattle.runs.proofs.Proved.{demand-3}
+use Rattle.runs.proofs.Conclusions.{received-is}
+use Rattle.runs.proofs.Frame.{Accepted, run-inv}
+use Rattle.runs.proofs.StartCall.{start-law}
+use Rattle.runs.proofs.Proved.{per-call, demand-3}
 
 -- what the plain pair does with an accepted ACK
 ack-plain : (u : ℕ) (n : ℕ) (b : Both) → Accepted b (call.ack n) → runCall steps u b (call.ack n) .plain .a ≡ step (b .world) (call.ack n) .outcome .value
@@ -90,3 +93,8 @@ never-a-mixture = one-checkpoint
 
 pub primary-disk-until-activation : AfterStart PrimaryDiskUntilActivation
 primary-disk-until-activation = primary-disk
+
+pub disk-at-checkpoint : AfterStart DiskAtCheckpoint
+disk-at-checkpoint g processor buffers started calls cut off =
+    let v = run-inv g (per-call g) (countedCalls cut calls) (startBoth g processor buffers) (start-law g processor buffers started) .holds in
+    v .taker .diskIs (sym (v .taker .modeIs) ∙ off) ∙ ap (λ (c : Checkpoint). c .disk) (sym (received-is (v .history)))

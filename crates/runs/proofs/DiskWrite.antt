@@ -20,8 +20,7 @@ use Rattle.records.proofs.MessageLaws.{length-message}
 use Rattle.settings.specs.declared.Settings.{Settings}
 use Rattle.settings.specs.declared.PrimarySettings.{PrimarySettings}
 use Rattle.rules.specs.declared.Primary.{Primary}
-use Rattle.rules.specs.PrimaryState.{withBlocksWaiting}
-use Rattle.rules.specs.PrimaryWrites.{diskWriteState, diskWriteReply, diskWriteDisk, diskWriteStream}
+use Rattle.rules.specs.PrimaryWrites.{withBlockAppended, diskWriteState, diskWriteReply, diskWriteDisk, diskWriteStream}
 use Rattle.rules.specs.World as call
 use Rattle.rules.specs.Step.{atPrimary, step}
 use Rattle.rules.proofs.WriteLaws.{DiskWriteRoom, disk-write-accepted, appended-reached}
@@ -50,7 +49,7 @@ module _ (block : ℕ) (bytes : List ℕ) where
   streamAfter b = let p = b .world .primary in put (p .stream) (p .state .waiting) (blockRecord (p .state .epoch) block bytes)
 
   abbrev pub stateAfter : Both → Primary
-  stateAfter b = let s = b .world .primary .state in withBlocksWaiting s (s .blocks + 1) (s .waiting + recordLength (s .settings .u) BLOCK)
+  stateAfter b = withBlockAppended (b .world .primary .state) block
 
   pub after-is : (u : ℕ) (b : Both) (a : Bool) → b .world .primary .state .alone ≡ a → Accepted b (call.diskWrite block bytes)
       → runCall steps u b (call.diskWrite block bytes)

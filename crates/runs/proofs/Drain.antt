@@ -13,7 +13,7 @@ use Rattle.rules.specs.PrimaryState.{withWaiting}
 use Rattle.rules.specs.Stream.{drainCount, drainReply, drainStream, drainDestination}
 use Rattle.rules.specs.World as call
 use Rattle.rules.specs.Step.{step}
-use Rattle.rules.proofs.StreamLaws.{DrainFacts, drain-accepted, drain-state-reached}
+use Rattle.rules.proofs.StreamLaws.{DrainFacts, drain-accepted, drain-reached}
 use Rattle.rules.proofs.PrimaryFacts.{primary-facts}
 use Rattle.runs.specs.Plain.{plainAccepted, plainStep}
 use Rattle.runs.specs.Run.{Both, steps, runCall}
@@ -109,7 +109,7 @@ module _ (n : ℕ) (destination : List ℕ) where
             primaryKept = record {
               settings = k .settings;
               patience = k .patience;
-              reached = drain-state-reached (p .state) n (length destination) (k .reached);
+              reached = drain-reached (p .state) n (length destination) (k .reached);
               memory = k .memory;
               disk = k .disk;
               dirty = k .dirty;

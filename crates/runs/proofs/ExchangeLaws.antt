@@ -87,7 +87,7 @@ module _ (g : Settings) (b : Both) (a : Agree g b) where
     drain-made =
         let p = b .world .primary in
         let k = a .inv .holds .primaryKept in
-        accepts (drainTests (p .state) (length (p .stream))) (join _ _ (k .reached .inRange) (eq-eqb _ _ (lent-stream g p k)), tt)
+        accepts (drainTests (p .state) (length (p .stream))) (join _ _ (k .reached .range .inRange) (eq-eqb _ _ (lent-stream g p k)), tt)
 
     is : runCall steps (g .u) b (call.drain n destination) ≡ drain.after n destination b
     is = drain.after-is n destination (g .u) b drain-made

@@ -37,7 +37,7 @@ module _ (n : ℕ) where
       let c = flushCount k n in
       record {
         world = atStandby (b .world) (record {
-          state = withSlotsBlocks (e .state) (flushed k c) (e .state .blocks);
+          state = withSlotsBlocks (e .state) (flushed k c) (e .state .blocks) (e .state .records);
           memory = e .memory;
           disk = stored v (k .numbers) (e .stagedBlocks) (e .disk) c;
           stagedPages = e .stagedPages;

@@ -19,7 +19,7 @@ use Rattle.runs.proofs.KeptLaws.{standby-ranges, standby-settings}
 use Rattle.runs.proofs.Flush as flush
 use Rattle.runs.proofs.TakeoverCalls.{flush-accepted}
 use Rattle.runs.proofs.Pending.{View, viewOf, Agree}
-use Rattle.runs.proofs.PendingCalls.{flush-pending}
+use Rattle.runs.proofs.PendingCalls.{flush-view, flush-pending}
 use Rattle.runs.proofs.PendingRead.{read-number, read-full}
 
 module _ (g : Settings) (b : Both) (a : Agree g b) where
@@ -34,7 +34,7 @@ module _ (g : Settings) (b : Both) (a : Agree g b) where
   is k = flush.after-is k (g .u) b (flush-made k)
 
   pub same-view : (k : ℕ) → viewOf (step (b .world) (call.flush k) .next) ≡ viewOf (b .world)
-  same-view k = ap (λ (x : Both). viewOf (x .world)) (is k)
+  same-view k = ap (λ (x : Both). viewOf (x .world)) (is k) ∙ flush-view g b (a .inv) k
 
   pub flush-agree : (k : ℕ) → Agree g (flushedBoth k)
   flush-agree k = record { inv = flush.flush-keeps g k b (a .inv) (flush-made k); pending = flush-pending g k b (a .inv) (flush-made k) (a .pending) }

@@ -3,7 +3,9 @@ use Prim.Native.Nat.{ℕ, _*_, _≤_}
 use mathlib.Core.Path.{_≡_, sym, ap, _∙_, subst}
 use mathlib.Core.Bool.{Bool, true}
 use mathlib.Core.List.{List}
+use native.Mathlib.Omega.{arith}
 use lib.ListN.{length}
+use lib.Seq.{length-take-le}
 use Rattle.records.specs.Kind.{unitOk}
 use Rattle.settings.specs.declared.Settings.{Settings}
 use Rattle.settings.specs.declared.PrimarySettings.{PrimarySettings}
@@ -11,12 +13,15 @@ use Rattle.settings.specs.declared.StandbySettings.{StandbySettings}
 use Rattle.settings.specs.Range.{ofPrimary, ofStandby, mostSlots}
 use Rattle.settings.proofs.RangeLaws.{shared-unit, PrimarySettingsFacts, StandbySettingsFacts}
 use Rattle.marks.specs.Mark.{wordsFor}
+use Rattle.staging.specs.Slot.{slotsOk, freshNumbers}
 use Rattle.staging.specs.Fits.{FlushFits}
+use Rattle.staging.proofs.BlockLaws.{count-fresh}
+use Rattle.rules.specs.PrimaryState.{writtenNumbers}
 use Rattle.rules.specs.StandbyState.{memoryLength, diskLength, slotsLength, marksLength}
 use Rattle.rules.specs.World.{PrimaryEnd, StandbyEnd}
 use Rattle.rules.specs.Step.{atStandby}
 use Rattle.rules.proofs.PrimaryFacts.{primary-facts}
-use Rattle.rules.proofs.StandbyFacts.{StandbyFacts, standby-facts}
+use Rattle.rules.proofs.StandbyFacts.{StandbyFacts, standby-tests, standby-facts}
 use Rattle.rules.proofs.FlushLaws.{flush-room}
 use Rattle.runs.specs.Plain.{withActivatedStandbyImages}
 use Rattle.runs.specs.Run.{Both}
@@ -40,7 +45,13 @@ module _ (g : Settings) (p : PrimaryEnd) (k : PrimaryKept g p) where
   lent-stream = k .stream ∙ ap (λ (x : PrimarySettings). x .l) (sym (k .settings))
 
   pub primary-settings : PrimarySettingsFacts (ofPrimary g)
-  primary-settings = subst PrimarySettingsFacts (k .settings) (primary-facts (p .state) (k .reached .inRange) .settings)
+  primary-settings = subst PrimarySettingsFacts (k .settings) (primary-facts (p .state) (k .reached .range .inRange) .settings)
+
+  -- the numbers remembered are as many as the blocks counted
+  pub written-count : length (writtenNumbers (p .state)) ≡ p .state .blocks
+  written-count =
+      let f = primary-facts (p .state) (k .reached .range .inRange) in
+      length-take-le (p .state .blocks) (p .state .numbers) (omega (arith, f .blocks, f .settings .shared .b-high, k .reached .range .numbers))
 
 module _ (g : Settings) (s : StandbyEnd) (k : StandbyKept g s) where
   pub standby-u : s .state .settings .u ≡ g .u
@@ -79,6 +90,16 @@ module _ (g : Settings) (s : StandbyEnd) (k : StandbyKept g s) where
 
   pub slots-few : g .s ≤ mostSlots
   slots-few = standby-settings .slots .s-high
+
+  pub slots-ok : slotsOk (s .state .slots) (g .s) (g .d) ≡ true
+  slots-ok = subst (λ (x : StandbySettings). slotsOk (s .state .slots) (x .s) (x .d) ≡ true) (k .settings) (standby-tests (s .state) (k .reached .range .inRange) .slots-ok)
+
+  -- the blocks counted are as many as the epoch's slots
+  pub staged-few : s .state .slots .staged ≤ mostSlots
+  staged-few = omega (arith, standby-ranges .slots .staged-high, standby-ranges .settings .slots .s-high)
+
+  pub fresh-count : length (freshNumbers (s .state .slots)) ≡ s .state .blocks
+  fresh-count = count-fresh (s .state .slots) (k .reached .range .numbers) staged-few ∙ sym (k .reached .notDue)
 
   -- the staged blocks stand in their buffer, and those due on the disk
   pub slots-fit : FlushFits (g .u) (s .state .slots) (length (s .stagedBlocks)) (length (s .disk))

@@ -13,7 +13,7 @@ use Rattle.rules.specs.PrimaryState.{withQueue}
 use Rattle.rules.specs.Packets.{packetReply, packetHeld}
 use Rattle.rules.specs.World as call
 use Rattle.rules.specs.Step.{atPrimary, step}
-use Rattle.rules.proofs.PacketLaws.{PacketFacts, packet-accepted, packet-state-reached}
+use Rattle.rules.proofs.PacketLaws.{PacketFacts, packet-accepted, packet-reached}
 use Rattle.rules.proofs.PrimaryFacts.{primary-facts}
 use Rattle.runs.specs.Plain.{withPackets, plainAccepted, plainStep}
 use Rattle.runs.specs.Run.{Both, steps, runCall}
@@ -54,7 +54,7 @@ module _ (port : ℕ) (bytes : List ℕ) where
       let q = p .state .settings .q in
       let epoch = p .state .epoch in
       let n = length bytes in
-      let array = k .reached .packets in
+      let array = k .reached .range .packets in
       let ok = primary-facts (p .state) (f .ok) .queue in
       let space = space-of queue q n (f .count-low) (f .bytes-fit) in
       let h : Held = record { epoch = epoch; port = port; bytes = bytes } in
@@ -72,7 +72,7 @@ module _ (port : ℕ) (bytes : List ℕ) where
           primaryKept = record {
             settings = k .settings;
             patience = k .patience;
-            reached = packet-state-reached (p .state) (length (p .held)) port n f (k .reached);
+            reached = packet-reached (p .state) (length (p .held)) port n f (k .reached);
             memory = k .memory;
             disk = k .disk;
             dirty = k .dirty;

@@ -9,6 +9,7 @@ use Rattle.records.specs.Kind.{isWide}
 use Rattle.records.specs.Message.{Message, encodeAll}
 use Rattle.settings.specs.declared.Settings.{Settings}
 use Rattle.rules.specs.declared.Standby.{Standby}
+use Rattle.rules.specs.PrimaryState.{writtenNumbers}
 use Rattle.rules.specs.StandbyState.{isReceiving}
 use Rattle.rules.specs.World.{PrimaryEnd, World, Call}
 use Rattle.rules.specs.Step.{step}
@@ -24,7 +25,9 @@ pub record Sender : Type 0 where
   pub out : List ℕ
   pub alone : Bool
   pub epoch : ℕ
-  pub blocks : ℕ
+  -- the open epoch's different blocks, and its BLOCKs
+  pub numbers : List ℕ
+  pub records : ℕ
   pub acknowledged : ℕ
 
 pub record Receiver : Type 0 where
@@ -38,7 +41,7 @@ pub record View : Type 0 where
   pub acks : List ℕ
 
 abbrev pub senderOf : PrimaryEnd → Sender
-senderOf p = record { out = take (p .state .waiting) (p .stream); alone = p .state .alone; epoch = p .state .epoch; blocks = p .state .blocks; acknowledged = p .state .acknowledged }
+senderOf p = record { out = take (p .state .waiting) (p .stream); alone = p .state .alone; epoch = p .state .epoch; numbers = writtenNumbers (p .state); records = p .state .records; acknowledged = p .state .acknowledged }
 
 abbrev pub receiverOf : Standby → Receiver
 receiverOf s = record { receiving = isReceiving (s .mode); counts = countsOf s }
@@ -67,7 +70,7 @@ pub record InFlight (u : ℕ) (wide : Bool) (link out : List ℕ) (alone : Bool)
 -- ---- the invariant
 pub record Pending (g : Settings) (v : View) : Type 0 where
   pub flight : InFlight (g .u) (isWide (g .m)) (v .link) (v .sender .out) (v .sender .alone)
-  pub walk : v .receiver .receiving ≡ true → Walk g (v .receiver .counts) (flight .records) (blocksOnly (v .sender .epoch) (v .sender .blocks))
+  pub walk : v .receiver .receiving ≡ true → Walk g (v .receiver .counts) (flight .records) (blocksOnly (v .sender .epoch) (v .sender .numbers) (v .sender .records))
   pub trail : Trail (v .acks) (v .sender .acknowledged) (v .receiver .counts .epoch)
 
 -- both invariants hold
@@ -87,12 +90,12 @@ abbrev pub withReceiver : View → Receiver → View
 withReceiver v r = record { sender = v .sender; receiver = r; link = v .link; acks = v .acks }
 
 -- with other bytes waiting, and another open epoch with its blocks
-abbrev pub sending : Sender → List ℕ → ℕ → ℕ → Sender
-sending s out epoch blocks = record { out = out; alone = s .alone; epoch = epoch; blocks = blocks; acknowledged = s .acknowledged }
+abbrev pub sending : Sender → List ℕ → ℕ → List ℕ → ℕ → Sender
+sending s out epoch numbers records = record { out = out; alone = s .alone; epoch = epoch; numbers = numbers; records = records; acknowledged = s .acknowledged }
 
 -- with bytes moved from the primary to the link
 abbrev pub movedTo : View → List ℕ → List ℕ → View
-movedTo v link out = record { sender = sending (v .sender) out (v .sender .epoch) (v .sender .blocks); receiver = v .receiver; link = link; acks = v .acks }
+movedTo v link out = record { sender = sending (v .sender) out (v .sender .epoch) (v .sender .numbers) (v .sender .records); receiver = v .receiver; link = link; acks = v .acks }
 
 module _ (g : Settings) (v : View) (p : Pending g v) where
   -- the standby no longer receives
@@ -101,11 +104,11 @@ module _ (g : Settings) (v : View) (p : Pending g v) where
 
   -- the primary takes the next ACK
   pub pending-acked : (e : ℕ) (acks : List ℕ) → Trail acks e (v .receiver .counts .epoch)
-      → Pending g (record { sender = record { out = v .sender .out; alone = v .sender .alone; epoch = v .sender .epoch; blocks = v .sender .blocks; acknowledged = e }; receiver = v .receiver; link = v .link; acks = acks })
+      → Pending g (record { sender = record { out = v .sender .out; alone = v .sender .alone; epoch = v .sender .epoch; numbers = v .sender .numbers; records = v .sender .records; acknowledged = e }; receiver = v .receiver; link = v .link; acks = acks })
   pending-acked e acks t = record { flight = p .flight; walk = p .walk; trail = t }
 
   -- the primary is alone, and what waits is dropped
-  pub pending-dropped : Pending g (withSender v (record { out = []; alone = true; epoch = v .sender .epoch; blocks = v .sender .blocks; acknowledged = v .sender .acknowledged }))
+  pub pending-dropped : Pending g (withSender v (record { out = []; alone = true; epoch = v .sender .epoch; numbers = v .sender .numbers; records = v .sender .records; acknowledged = v .sender .acknowledged }))
   pending-dropped =
       let f = p .flight in
       record {
@@ -130,10 +133,10 @@ module _ (g : Settings) (v : View) (p : Pending g v) where
       }
 
   -- records are appended: they lead from the primary's counts to its next ones
-  pub pending-appended : (ms : List Message) (epoch blocks : ℕ) → v .sender .alone ≡ false → All (Readable (g .u) (isWide (g .m))) ms
-      → Walk g (blocksOnly (v .sender .epoch) (v .sender .blocks)) ms (blocksOnly epoch blocks)
-      → Pending g (withSender v (sending (v .sender) (v .sender .out ++ encodeAll (isWide (g .m)) ms) epoch blocks))
-  pending-appended ms epoch blocks on readable more =
+  pub pending-appended : (ms : List Message) (epoch : ℕ) (numbers : List ℕ) (records : ℕ) → v .sender .alone ≡ false → All (Readable (g .u) (isWide (g .m))) ms
+      → Walk g (blocksOnly (v .sender .epoch) (v .sender .numbers) (v .sender .records)) ms (blocksOnly epoch numbers records)
+      → Pending g (withSender v (sending (v .sender) (v .sender .out ++ encodeAll (isWide (g .m)) ms) epoch numbers records))
+  pending-appended ms epoch numbers records on readable more =
       let f = p .flight in
       record {
         flight = record {
@@ -143,6 +146,6 @@ module _ (g : Settings) (v : View) (p : Pending g v) where
           lossless = f .lossless;
           readable = all-append (Readable (g .u) (isWide (g .m))) (f .records) ms (f .readable) readable;
         };
-        walk = λ z. walk-append g (v .receiver .counts) (f .records) (blocksOnly (v .sender .epoch) (v .sender .blocks)) ms (blocksOnly epoch blocks) (p .walk z) more;
+        walk = λ z. walk-append g (v .receiver .counts) (f .records) (blocksOnly (v .sender .epoch) (v .sender .numbers) (v .sender .records)) ms (blocksOnly epoch numbers records) (p .walk z) more;
         trail = p .trail;
       }

@@ -41,7 +41,7 @@ module _ (g : Settings) (b : Both) (i : Inv g b) (p : Pending g (viewOf (b .worl
   u = b .world .primary .state .settings .u
 
   unit-ok : unitOk u ≡ true
-  unit-ok = shared-unit (primary-facts (b .world .primary .state) (i .holds .primaryKept .reached .inRange) .settings .shared)
+  unit-ok = shared-unit (primary-facts (b .world .primary .state) (i .holds .primaryKept .reached .range .inRange) .settings .shared)
 
   rising : (es : List ℕ) → p .trail .epochs ≡ es → Rising (b .world .primary .state .acknowledged) (b .world .standby .state .received) es
   rising es same = leads-rising _ _ es (rw same at (p .trail .leads))

@@ -1,10 +1,13 @@
 -- The calls that append nothing and read no record keep the second invariant. Assumes nothing.
-use Prim.Native.Nat.{ℕ}
-use mathlib.Core.Path.{_≡_, refl, sym, subst}
+use Prim.Native.Nat.{ℕ, _+_}
+use mathlib.Core.Path.{_≡_, refl, sym, ap, subst}
 use mathlib.Core.Bool.{Bool, true, false}
 use mathlib.Core.List.{List}
+use native.Mathlib.Omega.{arith}
 use lib.ListN.{take}
 use Rattle.settings.specs.declared.Settings.{Settings}
+use Rattle.staging.specs.Slot.{flushCount}
+use Rattle.staging.proofs.BlockLaws.{fresh-flushed}
 use Rattle.detector.specs.Tick.{ticked, expired}
 use Rattle.rules.specs.declared.Primary.{Primary}
 use Rattle.rules.specs.StandbyState.{isReceiving}
@@ -16,6 +19,8 @@ use Rattle.rules.specs.Step.{step}
 use Rattle.rules.proofs.PrimaryTickLaws.{tick-alone, tick-protected}
 use Rattle.rules.proofs.TakeoverLaws.{tick-rests, tick-counts, tick-takes-over}
 use Rattle.runs.specs.Run.{Both, steps, runCall}
+use Rattle.runs.proofs.Invariant.{Inv}
+use Rattle.runs.proofs.KeptLaws.{standby-ranges, staged-few}
 use Rattle.runs.proofs.MemoryWrite as memory-write
 use Rattle.runs.proofs.Packet as packet
 use Rattle.runs.proofs.Take as take-call
@@ -32,6 +37,15 @@ use Rattle.runs.proofs.Pending.{senderOf, receiverOf, viewOf, Pending, 
 pub pending-after : (g : Settings) (c : Call) (b next : Both) → runCall steps (g .u) b c ≡ next → Pending g (viewOf (next .world)) → Pending g (viewOf (step (b .world) c .next))
 pending-after g c b next is p = subst (λ (x : Both). Pending g (viewOf (x .world))) (sym is) p
 
+-- a flush leaves the blocks of the epoch under way, which are not due
+pub flush-view : (g : Settings) (b : Both) → Inv g b → (n : ℕ) → viewOf (flush.after n (b .world .standby .state .settings .u) b .world) ≡ viewOf (b .world)
+flush-view g b i n =
+    let e = b .world .standby in
+    let k = i .holds .standbyKept in
+    let t = standby-ranges g e k in
+    ap (λ (ns : List ℕ). withReceiver (viewOf (b .world)) (record { receiving = isReceiving (e .state .mode); counts = record { epoch = e .state .received + 1; numbers = ns; records = e .state .records; pages = e .state .pages; next = e .state .next; seen = e .state .seen } }))
+    (fresh-flushed (e .state .slots) (flushCount (e .state .slots) n) (k .reached .range .numbers) (t .slots .due-high) (staged-few g e k) (omega arith))
+
 module _ (g : Settings) where
   -- ---- the view is as before
   pub memory-write-pending : (page offset : ℕ) (bytes : List ℕ) → KeepsPending g (call.memoryWrite page offset bytes)
@@ -44,7 +58,7 @@ module _ (g : Settings) where
   take-pending port destination b i e p = pending-after g (call.take port destination) b _ (take-call.after-is port destination (g .u) b e) p
 
   pub flush-pending : (n : ℕ) → KeepsPending g (call.flush n)
-  flush-pending n b i e p = pending-after g (call.flush n) b _ (flush.after-is n (g .u) b e) p
+  flush-pending n b i e p = pending-after g (call.flush n) b _ (flush.after-is n (g .u) b e) (subst (Pending g) (sym (flush-view g b i n)) p)
 
   pub active-memory-write-pending : (page offset : ℕ) (bytes : List ℕ) → KeepsPending g (call.activeMemoryWrite page offset bytes)
   active-memory-write-pending page offset bytes b i e p = pending-after g (call.activeMemoryWrite page offset bytes) b _ (active.after-memory page offset bytes (g .u) b e) p

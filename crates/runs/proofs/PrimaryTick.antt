@@ -18,7 +18,7 @@ use Rattle.rules.specs.Reached.{PrimaryReached}
 use Rattle.rules.specs.World as call
 use Rattle.rules.specs.Step.{atPrimary, step}
 use Rattle.rules.proofs.PrimaryFacts.{primary-facts}
-use Rattle.rules.proofs.PrimaryTickLaws.{tick-alone, tick-rests, tick-counts, tick-leaves, tick-state-reached}
+use Rattle.rules.proofs.PrimaryTickLaws.{tick-alone, tick-rests, tick-counts, tick-leaves, tick-reached}
 use Rattle.runs.specs.Plain.{unacknowledged, withCounts, plainAccepted, plainStep}
 use Rattle.runs.specs.Run.{Both, steps, runCall}
 use Rattle.runs.proofs.Invariant.{Inv}
@@ -145,7 +145,7 @@ module _ (g : Settings) (b : Both) (i : Inv g b) where
   by-state : (s : Primary) (n : ℕ) → primaryTickState (b .world .primary .state) ≡ s → (PrimaryReached s → Kept s n) → Kept (primaryTickState (b .world .primary .state)) n
   by-state s n is f =
       let p = b .world .primary .state in
-      subst (λ (x : Primary). Kept x n) (sym is) (f (subst PrimaryReached is (tick-state-reached p (i .holds .primaryKept .reached))))
+      subst (λ (x : Primary). Kept x n) (sym is) (f (subst PrimaryReached is (tick-reached p (i .holds .primaryKept .reached))))
 
   by-alone : state .alone ≡ true → (o : Bool) → unacknowledged (b .plain) ≡ o → Kept (primaryTickState (b .world .primary .state)) (cond o (b .plain .count + 1) (b .plain .count))
   by-alone a true e =
@@ -161,7 +161,7 @@ module _ (g : Settings) (b : Both) (i : Inv g b) where
       let o : outstanding p ≡ true = outstanding-is ∙ e in
       let t = i .holds .primaryKept .patience in
       let quiet : b .plain .a + 1 ≡ length (b .plain .checkpoints) → n ≡ 0 = λ z. absurd (true≢false (sym e ∙ ap not (eq-eqb _ _ z))) in
-      let low : p .detector .count < p .detector .patience = primary-facts p (i .holds .primaryKept .reached .inRange) .detector .below (ap not a) in
+      let low : p .detector .count < p .detector .patience = primary-facts p (i .holds .primaryKept .reached .range .inRange) .detector .below (ap not a) in
       ⊎-elim
       (λ (h : p .detector .count + 1 < p .detector .patience).
       by-state (withDetectorAloneWaiting p (withCount (p .detector) n) false (p .waiting)) n
@@ -176,7 +176,7 @@ module _ (g : Settings) (b : Both) (i : Inv g b) where
       let p = b .world .primary .state in
       let n = b .plain .count in
       let t = i .holds .primaryKept .patience in
-      let d = primary-facts p (i .holds .primaryKept .reached .inRange) .detector in
+      let d = primary-facts p (i .holds .primaryKept .reached .range .inRange) .detector in
       let none : n ≡ 0 = i .holds .detector .quiet (eqb-true (b .plain .a + 1) (length (b .plain .checkpoints)) (not-false _ e)) in
       by-state (withDetectorAloneWaiting p (withCount (p .detector) n) false (p .waiting)) n
       (tick-rests p a (d .below (ap not a)) (outstanding-is ∙ e) ∙ ap (λ (x : ℕ). withDetectorAloneWaiting p (withCount (p .detector) x) false (p .waiting)) (sym none))

@@ -29,8 +29,8 @@ use Rattle.runs.proofs.FlushFrees.{waits}
 abbrev startView : View
 startView =
     record {
-      sender = record { out = []; alone = false; epoch = 1; blocks = 0; acknowledged = 0 };
-      receiver = record { receiving = true; counts = blocksOnly 1 0 };
+      sender = record { out = []; alone = false; epoch = 1; numbers = []; records = 0; acknowledged = 0 };
+      receiver = record { receiving = true; counts = blocksOnly 1 [] 0 };
       link = [];
       acks = [];
     }

@@ -30,7 +30,7 @@ module _ (κ : Steps) (calls : List Call) where
   abbrev after : World
   after = run κ 64 begun calls .world
 
-  goesOn : ProgressOf κ → GoesOn κ small (run κ 64 begun calls .world)
+  pub goesOn : ProgressOf κ → GoesOn κ small (run κ 64 begun calls .world)
   goesOn p = subst (λ (cs : List Call). GoesOn κ small (run κ 64 begun cs .world)) (counted-uncut calls) (p small (processorOf 1) buffers small-starts calls noCut)
 
   pub catchesUp : CatchUpOf κ → CatchesUp κ small (run κ 64 begun calls)
@@ -92,7 +92,7 @@ abbrev pub countsPageMore : World → Call → Stepped → Stepped
 countsPageMore w c s =
     let p = w .primary in
     let n = s .next .primary in
-    let bytes = commitRecord (isWide (p .state .settings .m)) (p .state .epoch) (dirtyCount (p .state) (p .dirty) + 1) (p .state .blocks) in
+    let bytes = commitRecord (isWide (p .state .settings .m)) (p .state .epoch) (dirtyCount (p .state) (p .dirty) + 1) (p .state .records) in
     cond (accepts s) (leaving s (primaryWith (s .next) (n .state) (n .dirty) (put (n .stream) (n .state .waiting - length bytes) bytes))) s
 
 pub refutes-page-more : ProgressOf (wrongly (insteadOf (call.checkpoint (processorOf 0)) countsPageMore)) → ⊥

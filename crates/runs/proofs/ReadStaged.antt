@@ -15,12 +15,14 @@ use Rattle.settings.specs.declared.Settings.{Settings}
 use Rattle.settings.specs.declared.StandbySettings.{StandbySettings}
 use Rattle.marks.specs.Mark.{withMark}
 use Rattle.marks.proofs.MarkLaws.{words-cover, length-withMark}
-use Rattle.staging.specs.Slot.{withBlock, withBlockBytes}
-use Rattle.staging.specs.SlotList.{Staged, slotList, storeAll}
-use Rattle.staging.proofs.ListLaws.{list-with-block, due-with-block}
-use Rattle.staging.proofs.FlushLaws.{store-all-append}
+use Rattle.staging.specs.Slot.{slotFor, withBlockBytes}
+use Rattle.staging.specs.SlotList.{storeAll}
+use Rattle.staging.proofs.BlockLaws.{due-same, slot-fits, stage-fits}
+use Rattle.staging.proofs.ListLaws.{due-with-block}
+use Rattle.staging.proofs.AgainLaws.{store-with-block}
 use Rattle.rules.specs.declared.Standby.{Standby}
-use Rattle.rules.specs.StandbyState.{isReceiving, withPagesNext, withSlotsBlocks, withPendingSeen, withNoTicks}
+use Rattle.rules.specs.StandbyState.{isReceiving, withPagesNext, withPendingSeen, withNoTicks}
+use Rattle.rules.specs.Read.{stagedState}
 use Rattle.rules.specs.World.{StandbyEnd}
 use Rattle.rules.proofs.JudgeLaws.{PageTests, BlockTests}
 use Rattle.rules.proofs.StandbyFacts.{reset-reached}
@@ -29,7 +31,7 @@ use Rattle.runs.specs.Plain.{Checkpoint}
 use Rattle.runs.specs.Run.{Both}
 use Rattle.runs.proofs.Effects.{effect, effects, effects-append, All, all-append, Before, Readable}
 use Rattle.runs.proofs.Invariant.{Taker, StandbyKept, Inv}
-use Rattle.runs.proofs.KeptLaws.{standby-m, slots-few, slots-fit}
+use Rattle.runs.proofs.KeptLaws.{standby-m, standby-d, slots-few, slots-ok}
 use Rattle.runs.proofs.StagedPages.{installed-more}
 
 -- the standby after a record that is staged: this state with no tick counted
@@ -146,11 +148,11 @@ module _ (g : Settings) (b : Both) (i : Inv g b) where
   abbrev pub blockEnd : ℕ → ℕ → List ℕ → StandbyEnd
   blockEnd v n bs =
       let e = b .world .standby in
-      stagedEnd e (withSlotsBlocks (e .state) (withBlock (e .state .slots) n) (e .state .blocks + 1)) (e .stagedPages) (e .stagedMarks) (withBlockBytes v (e .state .slots) (e .stagedBlocks) bs)
+      stagedEnd e (stagedState (e .state) n) (e .stagedPages) (e .stagedMarks) (withBlockBytes v (e .state .slots) n (e .stagedBlocks) bs)
 
   pub block-inv : (epoch m : ℕ) (bs : List ℕ) (xs : List Message) → Next g b i (message.block epoch m bs) xs → BlockTests (b .world .standby .state) epoch m
       → Inv g (stagedAfter b (blockEnd (g .u) m bs) (length (encode (isWide (g .m)) (message.block epoch m bs))))
-  unfolding withBlockBytes withBlock storeAll
+  unfolding withBlockBytes
   block-inv epoch m bs xs n f =
       let x = message.block epoch m bs in
       let e = b .world .standby in
@@ -159,30 +161,30 @@ module _ (g : Settings) (b : Both) (i : Inv g b) where
       let k = i .holds .standbyKept in
       let r = k .reached in
       let few = slots-few g e k in
+      let ok = slots-ok g e k in
+      let array = r .range .numbers in
       let whole : length bs ≡ g .u = n .fits .2 in
-      let sizes = ap (λ (y : StandbySettings). y .s) (k .settings) in
-      let free : s .slots .staged < g .s = omega (arith, f .slot-free) in
-      let room : s .slots .staged * g .u + g .u ≤ length (e .stagedBlocks) = omega (arith, page-end (s .slots .staged) (g .s) (g .u) free, k .stagedBlocks) in
-      let less : s .slots .staged < 64 = omega arith in
-      let one : Staged = record { number = m; bytes = bs } in
-      let more = list-with-block (g .u) (s .slots) (e .stagedBlocks) (r .range .numbers) m bs less whole room in
+      let size = ap (λ (y : StandbySettings). y .s) (k .settings) in
+      let below : m < g .d = omega (arith, f .block-low, standby-d g e k) in
+      let low = slot-fits (s .slots) m (g .s) (g .d) array few ok (λ z. omega (arith, f .slot-free z)) in
+      let fits = stage-fits (s .slots) m (g .s) (g .d) array few ok low in
+      let room : slotFor (s .slots) m * g .u + g .u ≤ length (e .stagedBlocks) = omega (arith, page-end (slotFor (s .slots) m) (g .s) (g .u) low, k .stagedBlocks) in
       staged-inv x xs n (blockEnd (g .u) m bs)
       (record {
         receivedIs = t .receivedIs;
         modeIs = t .modeIs;
         processorIs = t .processorIs;
         memoryIs = t .memoryIs;
-        diskIs = λ z. ap (storeAll (g .u) (e .disk)) (due-with-block (g .u) (s .slots) (e .stagedBlocks) (r .range .numbers) m bs less whole room (slots-fit g e k .due-high)) ∙ t .diskIs z;
+        diskIs = λ z. ap (storeAll (g .u) (e .disk)) (due-with-block (g .u) (s .slots) (e .stagedBlocks) m bs array fits whole room) ∙ t .diskIs z;
         stagedMemory = λ z. t .stagedMemory z ∙ memory-done x xs n;
         stagedDisk = λ z.
-            ap (storeAll (g .u) (e .disk)) more
-            ∙ store-all-append (g .u) (e .disk) (slotList (g .u) (s .slots) (e .stagedBlocks)) (one ∷ [])
+            store-with-block (g .u) (g .d) m bs below whole (e .disk) (k .disk) (s .slots) (g .s) (e .stagedBlocks) array few ok (k .stagedBlocks) (r .different) low
             ∙ ap (λ (l : List ℕ). withPage (g .u) l m bs) (t .stagedDisk z)
             ∙ disk-done x xs n;
         stagedProcessor = λ z y. t .stagedProcessor z y ∙ processor-done x xs n;
         activeMemory = t .activeMemory;
         activeDisk = t .activeDisk;
-        settled = t .settled;
+        settled = λ z. due-same (s .slots) m ∙ t .settled z;
         areaIs = t .areaIs;
       })
       (record {
@@ -193,7 +195,7 @@ module _ (g : Settings) (b : Both) (i : Inv g b) where
         disk = k .disk;
         stagedPages = k .stagedPages;
         stagedMarks = k .stagedMarks;
-        stagedBlocks = length-with-page (g .u) (s .slots .staged) (e .stagedBlocks) bs whole room ∙ k .stagedBlocks;
+        stagedBlocks = length-with-page (g .u) (slotFor (s .slots) m) (e .stagedBlocks) bs whole room ∙ k .stagedBlocks;
         area = k .area;
       })
 

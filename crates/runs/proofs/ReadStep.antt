@@ -148,7 +148,7 @@ module _ (w : World) (k : PrimaryReached (w .primary .state)) (n : ℕ) where
   ack-number-is = ap (λ (x : Stepped). x .outcome .number) (ack-step w n)
 
   pub ack-off : protected (w .primary .state) ≡ false → step w (call.ack n) .outcome .number ≡ wrongMode
-  ack-off off = ack-number-is ∙ ap (λ (r : Record). numberOf (answerOf r)) (ack-mode (w .primary .state) (take n (w .acks)) (k .inRange) off)
+  ack-off off = ack-number-is ∙ ap (λ (r : Record). numberOf (answerOf r)) (ack-mode (w .primary .state) (take n (w .acks)) (k .range .inRange) off)
 
   ack-by : (epochs : List ℕ)
       → Found (w .primary .state .settings .u) false (ackRefusal (w .primary .state)) (map message.ack epochs) (w .acks) [] (take n (w .acks)) (step w (call.ack n) .outcome .number) (ackSeen w n)
@@ -174,6 +174,6 @@ module _ (w : World) (k : PrimaryReached (w .primary .state)) (n : ℕ) where
       let ms = map message.ack epochs in
       ack-by epochs
       (found-by reader.Primary u false (ackRefusal p) ms (w .acks) [] (take n (w .acks)) (step w (call.ack n) .outcome .number) (ackSeen w n) ack-number-is
-      (λ r z. ack-number p (take n (w .acks)) (k .inRange) on r (sym z) (ackRefusal p r) refl)
+      (λ r z. ack-number p (take n (w .acks)) (k .range .inRange) on r (sym z) (ackRefusal p r) refl)
       (λ m. refl)
-      (read-next reader.Primary u false (shared-unit (primary-facts p (k .inRange) .settings .shared)) [] n ms (w .acks) readable (append-nil (w .acks) ∙ bytes)))
+      (read-next reader.Primary u false (shared-unit (primary-facts p (k .range .inRange) .settings .shared)) [] n ms (w .acks) readable (append-nil (w .acks) ∙ bytes)))

@@ -13,15 +13,16 @@ use Rattle.records.specs.Kind.{BLOCK, ACK, isCommit, recordLength}
 use Rattle.records.specs.Read.{cutShort}
 use Rattle.records.specs.Number.{noRoom, slotsFull}
 use Rattle.settings.specs.declared.Settings.{Settings}
+use Rattle.staging.specs.Slot.{isStaged}
 use Rattle.rules.specs.World.{World}
-use Rattle.runs.specs.Progress.{wholeRecord, kindAt, readNumber}
+use Rattle.runs.specs.Progress.{wholeRecord, kindAt, blockAt, readNumber}
 
 -- a COMMIT has room for its ACK; a BLOCK has a slot
 abbrev pub roomFor : Settings → List ℕ → List ℕ → Bool
 roomFor g bytes reply = not (isCommit (kindAt bytes)) || leb (recordLength (g .u) ACK) (length reply)
 
-abbrev slotFor : Settings → World → List ℕ → Bool
-slotFor g w bytes = not (eqb (kindAt bytes) BLOCK) || ltb (w .standby .state .slots .staged) (g .s)
+abbrev hasSlot : Settings → World → List ℕ → Bool
+hasSlot g w bytes = not (eqb (kindAt bytes) BLOCK) || isStaged (w .standby .state .slots) (blockAt bytes) || ltb (w .standby .state .slots .staged) (g .s)
 
 abbrev number : Bool → Bool → Bool → ℕ
 number whole room slot = refusal (test cutShort whole ∷ test noRoom room ∷ test slotsFull slot ∷ [])
@@ -47,13 +48,13 @@ one-of true true true = inl refl
 
 module _ (g : Settings) (w : World) (n : ℕ) (reply : List ℕ) where
   pub read-number-is : Number (readNumber g w n reply)
-  read-number-is = one-of (wholeRecord (take n (w .link))) (roomFor g (take n (w .link)) reply) (slotFor g w (take n (w .link)))
+  read-number-is = one-of (wholeRecord (take n (w .link))) (roomFor g (take n (w .link)) reply) (hasSlot g w (take n (w .link)))
 
   pub read-waits : readNumber g w n reply ≡ slotsFull → (wholeRecord (take n (w .link)) ≡ true) × (roomFor g (take n (w .link)) reply ≡ true)
-  read-waits = full (wholeRecord (take n (w .link))) (roomFor g (take n (w .link)) reply) (slotFor g w (take n (w .link)))
+  read-waits = full (wholeRecord (take n (w .link))) (roomFor g (take n (w .link)) reply) (hasSlot g w (take n (w .link)))
 
   pub read-accepts : wholeRecord (take n (w .link)) ≡ true → roomFor g (take n (w .link)) reply ≡ true → (readNumber g w n reply ≡ slotsFull → ⊥) → readNumber g w n reply ≡ 0
-  read-accepts = accepted (wholeRecord (take n (w .link))) (roomFor g (take n (w .link)) reply) (slotFor g w (take n (w .link)))
+  read-accepts = accepted (wholeRecord (take n (w .link))) (roomFor g (take n (w .link)) reply) (hasSlot g w (take n (w .link)))
 
 pub room-enough : (g : Settings) (bytes reply : List ℕ) → recordLength (g .u) ACK ≤ length reply → roomFor g bytes reply ≡ true
 room-enough g bytes reply room = rw (le-leb (recordLength (g .u) ACK) (length reply) room) (or-true (not (isCommit (kindAt bytes))))

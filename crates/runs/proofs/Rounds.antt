@@ -28,6 +28,7 @@ use Rattle.runs.proofs.Refused.{refused-world}
 use Rattle.runs.proofs.Frame.{Accepted}
 use Rattle.runs.proofs.ReadStep.{whole-given}
 use Rattle.runs.proofs.ReadTests.{room-enough}
+use Rattle.rules.specs.PrimaryState.{writtenNumbers}
 use Rattle.runs.proofs.Walk.{Counts, countsOf, blocksOnly}
 use Rattle.runs.proofs.Pending.{View, Agree}
 use Rattle.runs.proofs.PendingRead.{least-bytes, read-kept}
@@ -71,7 +72,7 @@ module _ (g : Settings) (s : Still) (nothing : s .out ≡ []) (protects : s .alo
   received-is b d l =
       let p = d .agree .pending in
       let none = none-pending (g .u) (isWide (g .m)) (p .flight .records) (standby-settings g (b .world .standby) (d .agree .inv .holds .standbyKept) .shared .u-low) (p .flight .readable) (omega (arith, ap length (link-is b d))) in
-      let walk : countsOf (b .world .standby .state) ≡ blocksOnly (b .world .primary .state .epoch) (b .world .primary .state .blocks) = rw none at (p .walk (on b d)) in
+      let walk : countsOf (b .world .standby .state) ≡ blocksOnly (b .world .primary .state .epoch) (writtenNumbers (b .world .primary .state)) (b .world .primary .state .records) = rw none at (p .walk (on b d)) in
       ap (λ (c : Counts). c .epoch) walk ∙ ap (λ (x : Still). x .epoch) (d .still)
 
   -- ---- rounds
@@ -161,7 +162,7 @@ module _ (g : Settings) (s : Still) (nothing : s .out ≡ []) (protects : s .alo
         → Acknowledged (run steps (g .u) b (replicate j (call.ack given)))
     acks-law zero b d l h =
         let p = b .world .primary .state in
-        let below = primary-facts p (d .agree .inv .holds .primaryKept .reached .inRange) .acknowledged in
+        let below = primary-facts p (d .agree .inv .holds .primaryKept .reached .range .inRange) .acknowledged in
         let epoch = ap (λ (x : Still). x .epoch) (d .still) in
         record { drained = d; none = l; last = omega arith }
     acks-law (suc j) b d l h =

@@ -95,7 +95,7 @@ abbrev pub sendsCommit : World → Call → Stepped → Stepped
 sendsCommit w c s =
     let p = w .primary in
     let n = s .next .primary in
-    let bytes = commitRecord (isWide (p .state .settings .m)) (p .state .epoch) (dirtyCount (p .state) (p .dirty)) (p .state .blocks) in
+    let bytes = commitRecord (isWide (p .state .settings .m)) (p .state .epoch) (dirtyCount (p .state) (p .dirty)) (p .state .records) in
     cond (ltb 1 (p .state .epoch))
     (leaving s (primaryWith (s .next) (withWaiting (n .state) (p .state .waiting + length bytes)) (n .dirty) (put (p .stream) (p .state .waiting) bytes)))
     s

@@ -70,7 +70,7 @@ refutes-stored-on-arrival d =
 abbrev pub dueOnArrival : World → Call → Stepped → Stepped
 dueOnArrival w c s =
     let n = s .next .standby in
-    cond (acceptsKind s BLOCK) (leaving s (standbyWith (s .next) (withSlotsBlocks (n .state) (allDue (n .state .slots)) (n .state .blocks)) (n .memory) (n .disk))) s
+    cond (acceptsKind s BLOCK) (leaving s (standbyWith (s .next) (withSlotsBlocks (n .state) (allDue (n .state .slots)) (n .state .blocks) (n .state .records)) (n .memory) (n .disk))) s
 
 pub refutes-due-on-arrival : Demand3Of (wrongly (insteadOf (call.read 0 []) dueOnArrival)) → ⊥
 unfolding allSteps
@@ -83,9 +83,9 @@ refutes-due-on-arrival d =
 abbrev pub activatesDue : World → Call → Stepped → Stepped
 activatesDue w c s =
     let o = w .standby in
-    let t = step (standbyWith w (withSlotsBlocks (o .state) emptySlots (o .state .blocks)) (o .memory) (o .disk)) c in
+    let t = step (standbyWith w (withSlotsBlocks (o .state) emptySlots (o .state .blocks) (o .state .records)) (o .memory) (o .disk)) c in
     let n = t .next .standby in
-    leaving t (standbyWith (t .next) (withSlotsBlocks (n .state) (o .state .slots) (o .state .blocks)) (n .memory) (n .disk))
+    leaving t (standbyWith (t .next) (withSlotsBlocks (n .state) (o .state .slots) (o .state .blocks) (o .state .records)) (n .memory) (n .disk))
 
 pub refutes-activation-with-due : Demand3Of (wrongly (insteadOf call.activation activatesDue)) → ⊥
 unfolding allSteps

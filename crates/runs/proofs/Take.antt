@@ -16,7 +16,7 @@ use Rattle.rules.specs.PrimaryState.{withQueue}
 use Rattle.rules.specs.Packets.{takeReply, takeHeld, takeDestination}
 use Rattle.rules.specs.World as call
 use Rattle.rules.specs.Step.{atPrimary, step}
-use Rattle.rules.proofs.PacketLaws.{TakeFacts, take-accepted, take-state-reached}
+use Rattle.rules.proofs.PacketLaws.{TakeFacts, take-accepted, take-reached}
 use Rattle.rules.proofs.PrimaryFacts.{primary-facts}
 use Rattle.runs.specs.Plain.{ofPort, takenOf, withPackets, plainAccepted, plainStep}
 use Rattle.runs.specs.Run.{Both, steps, runCall}
@@ -85,7 +85,7 @@ module _ (port : ℕ) (destination : List ℕ) where
     split : heldOf port (heldList (b .world .primary .state .queue) (b .world .primary .held)) ≡ first port b ∷ heldOf port (rest port b)
     split =
         let p = b .world .primary in
-        oldest-first (p .state .queue) (i .holds .primaryKept .reached .packets) (p .state .epoch) (p .state .settings .q) ok (p .held) (f .held-is) port (f .released .some)
+        oldest-first (p .state .queue) (i .holds .primaryKept .reached .range .packets) (p .state .epoch) (p .state .settings .q) ok (p .held) (f .held-is) port (f .released .some)
 
     packets : Packets port (first port b ∷ heldOf port (rest port b)) (ofPort port (b .plain .accepted)) (takenOf (b .plain) port) (b .plain .checkpoints)
     packets =
@@ -99,7 +99,7 @@ module _ (port : ℕ) (destination : List ℕ) where
         let queue = p .state .queue in
         let q = p .state .settings .q in
         let epoch = p .state .epoch in
-        let array = k .reached .packets in
+        let array = k .reached .range .packets in
         let some = f .released .some in
         let stay = others-stay queue array epoch q ok (p .held) (f .held-is) port some in
         record {
@@ -114,7 +114,7 @@ module _ (port : ℕ) (destination : List ℕ) where
             primaryKept = record {
               settings = k .settings;
               patience = k .patience;
-              reached = take-state-reached (p .state) (length (p .held)) port (length destination) f (k .reached);
+              reached = take-reached (p .state) (length (p .held)) port (length destination) f (k .reached);
               memory = k .memory;
               disk = k .disk;
               dirty = k .dirty;
@@ -149,7 +149,7 @@ module _ (port : ℕ) (destination : List ℕ) where
         let p = b .world .primary in
         let k = i .holds .primaryKept .reached in
         handed-accepted b e
-        ∙ handed-out (p .state .queue) (k .packets) (p .state .epoch) (p .state .settings .q) ok (p .held) (f .held-is) (place port b) (f .released .some) destination
+        ∙ handed-out (p .state .queue) (k .range .packets) (p .state .epoch) (p .state .settings .q) ok (p .held) (f .held-is) (place port b) (f .released .some) destination
 
 pub take-keeps : (g : Settings) (port : ℕ) (destination : List ℕ) → KeepsAccepted g (call.take port destination)
 take-keeps g port destination b i e = subst (Inv g) (sym (after-is port destination (g .u) b e)) (after-inv port destination g b i (facts port destination b e))

@@ -79,14 +79,14 @@ module _ (g : Settings) (destination : List ℕ) (room : mostPacketBytes ≤ len
     count = a ∙ i .holds .history .count
 
     ok : queueOk (b .world .primary .state .queue) (b .world .primary .state .epoch) (b .world .primary .state .settings .q) ≡ true
-    ok = primary-facts (b .world .primary .state) (i .holds .primaryKept .reached .inRange) .queue
+    ok = primary-facts (b .world .primary .state) (i .holds .primaryKept .reached .range .inRange) .queue
 
     some : oldestAt (b .world .primary .state .queue) port < b .world .primary .state .queue .count
     some =
         let p = b .world .primary in
         let k = i .holds .packets port in
         let f = k .first (length (b .plain .checkpoints) - 1) (omega (arith, count)) in
-        port-some (p .state .queue) (i .holds .primaryKept .reached .packets) (p .state .epoch) (p .state .settings .q) ok (p .held) (lent-held g p (i .holds .primaryKept)) port
+        port-some (p .state .queue) (i .holds .primaryKept .reached .range .packets) (p .state .epoch) (p .state .settings .q) ok (p .held) (lent-held g p (i .holds .primaryKept)) port
         (omega (arith, l, k .sum, first-length (ofPort port (lastCheckpoint (b .plain) .packets)) (ofPort port (b .plain .accepted)) f))
 
     take-made : Accepted b (call.take port destination)
@@ -94,7 +94,7 @@ module _ (g : Settings) (destination : List ℕ) (room : mostPacketBytes ≤ len
     take-made =
         let p = b .world .primary in
         let k = i .holds .primaryKept in
-        let array = k .reached .packets in
+        let array = k .reached .range .packets in
         let queue = p .state .queue in
         let held = lent-held g p k in
         let packets = subst (λ (x : List Held). Packets port x (ofPort port (b .plain .accepted)) (takenOf (b .plain) port) (b .plain .checkpoints))
@@ -105,7 +105,7 @@ module _ (g : Settings) (destination : List ℕ) (room : mostPacketBytes ≤ len
         let is = oldest-port queue array (p .state .epoch) (p .state .settings .q) ok (p .held) held port some in
         take-accepts (p .state) (length (p .held)) port (length destination)
         (record {
-          ok = k .reached .inRange;
+          ok = k .reached .range .inRange;
           held-is = held;
           port-high = rw is at (leb-true (oldest queue port .port) mostPort (own .1));
           released = record { some = some; free = inr (omega (arith, closed, count)) };

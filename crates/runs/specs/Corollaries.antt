@@ -1,4 +1,4 @@
--- What a service engineer reads off demand 3: five claims about every run. Assumes nothing.
+-- What a service engineer asks beside demand 3: six claims about every run. Assumes nothing.
 -- The calls that count at a cut, `countedCalls cut calls`, are themselves a list of calls: a claim about every list
 -- holds at every cut.
 use Prim.Native.Nat.{ℕ, _≤_}
@@ -7,6 +7,7 @@ use mathlib.Core.Bool.{true, false}
 use mathlib.Core.List.{List, [], _∷_, _++_}
 use lib.ListN.{length}
 use Rattle.settings.specs.declared.Settings.{Settings}
+use Rattle.staging.specs.SlotList.{dueList, storeAll}
 use Rattle.rules.specs.declared.Choice.the-variants.{PrimaryDisk}
 use Rattle.rules.specs.Choose.{choiceOf, chosenDisk}
 use Rattle.rules.specs.World.{StandbyEnd, Processor, Call, Buffers, startNumber}
@@ -82,6 +83,14 @@ module _ (g : Settings) (processor : Processor) (buffers : Buffers) where
   ReceivedFixed =
       (before later : List Call) → active (pairAfter before .world) ≡ true
       → (active (pairAfter (before ++ later) .world) ≡ true) × (pairAfter (before ++ later) .plain .r ≡ pairAfter before .plain .r)
+
+  -- ---- 6. until the standby is active its disk with all due blocks stored is checkpoint r's, at every cut: "the disk
+  -- at each checkpoint, all due flushed, is what it was" (document 02, Job 9), since no rule of the plain pair changed
+  abbrev pub DiskAtCheckpoint : Type 0
+  DiskAtCheckpoint =
+      (calls : List Call) (cut : Cut) → let b = pairAfter (countedCalls cut calls) in
+      let s = b .world .standby in
+      active (b .world) ≡ false → storeAll (g .u) (s .disk) (dueList (g .u) (s .state .slots) (s .stagedBlocks)) ≡ receivedCheckpoint (b .plain) .disk
 
 -- for every accepted start
 abbrev pub AfterStart : (Settings → Processor → Buffers → Type 0) → Type 0

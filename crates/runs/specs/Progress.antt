@@ -15,6 +15,7 @@ use Rattle.records.specs.Read.{cutShort}
 use Rattle.records.specs.Number.{noRoom, slotsFull}
 use Rattle.settings.specs.declared.Settings.{Settings}
 use Rattle.settings.specs.Range.{mostPacketBytes}
+use Rattle.staging.specs.Slot.{isStaged}
 use Rattle.rules.specs.StandbyState.{isReceiving}
 use Rattle.rules.specs.World.{World, Processor, Call, Buffers}
 use Rattle.rules.specs.World as call
@@ -40,17 +41,21 @@ withoutFirst bytes = drop (headerLength + leAt 2 bytes 0) bytes
 abbrev pub kindAt : List ℕ → ℕ
 kindAt bytes = leAt 2 bytes 2
 
+-- the block that a BLOCK names, behind its epoch
+abbrev pub blockAt : List ℕ → ℕ
+blockAt bytes = leAt 2 bytes 8
+
 -- ---- the number of a call that reads one
 
 -- while receiving, a read answers other than 0 for three things only: less than the whole next record, which is cut
--- short; a COMMIT with a reply under 8 bytes, 5; a BLOCK with all S slots staged, 17. So it never answers 2, 6 to 10 or
--- 14
+-- short; a COMMIT with a reply under 8 bytes, 5; a BLOCK that its epoch does not have staged, with all S slots staged,
+-- 17. So it never answers 2, 6 to 10 or 14: both ends count an epoch's blocks and records alike
 abbrev pub readTests : Settings → World → ℕ → List ℕ → List Test
 readTests g w n reply =
     let bytes = take n (w .link) in
     test cutShort (wholeRecord bytes)
     ∷ test noRoom (not (isCommit (kindAt bytes)) || leb (recordLength (g .u) ACK) (length reply))
-    ∷ test slotsFull (not (eqb (kindAt bytes) BLOCK) || ltb (w .standby .state .slots .staged) (g .s))
+    ∷ test slotsFull (not (eqb (kindAt bytes) BLOCK) || isStaged (w .standby .state .slots) (blockAt bytes) || ltb (w .standby .state .slots .staged) (g .s))
     ∷ []
 
 abbrev pub readNumber : Settings → World → ℕ → List ℕ → ℕ

@@ -52,6 +52,10 @@ mostStream = 536870912
 abbrev pub mostPatience : ℕ
 mostPatience = 60000
 
+-- the BLOCK records of an epoch, at most (document 02, Job 9)
+abbrev pub mostRecords : ℕ
+mostRecords = 65535
+
 abbrev pub memoryPagesOk : ℕ → Bool
 memoryPagesOk m = within 1 mostPages m
 
@@ -74,7 +78,8 @@ patienceOk t = within 1 mostPatience t
 abbrev pub checkpointEnd : ℕ → (wide : Bool) → ℕ
 checkpointEnd u wide = recordLength u STATE + recordLength u (commitKind wide)
 
--- L: room for a checkpoint of every page and every block allowed, with PAGE and COMMIT of the width that M calls for
+-- L: room for a checkpoint of every page and every block allowed, each once, with PAGE and COMMIT of the width that M
+-- calls for
 unfoldable pub leastStream : ℕ → ℕ → ℕ → ℕ
 leastStream u m b = m * recordLength u (pageKind (isWide m)) + b * recordLength u BLOCK + checkpointEnd u (isWide m)
 

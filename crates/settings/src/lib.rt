@@ -37,6 +37,9 @@ pub const MOST_STREAM: usize = 536870912;
 
 pub const MOST_PATIENCE: u32 = 60000;
 
+// The BLOCK records of an epoch, at most (document 02, Job 9).
+pub const MOST_RECORDS: usize = 65535;
+
 // What start is told (document 01, "Settings").
 pub struct Settings {
     pub u: usize,

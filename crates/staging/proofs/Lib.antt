@@ -2,5 +2,7 @@
 pub mod ArrayLaws
 pub mod SlotLaws
 pub mod StoreLaws
+pub mod BlockLaws
 pub mod ListLaws
 pub mod FlushLaws
+pub mod AgainLaws

@@ -1,20 +1,23 @@
 -- Laws of the staged blocks as a list: what each change of the slots does to it. Assumes nothing.
 use mathlib.Core.Path.{_≡_, refl, sym, ap, _∙_}
 use mathlib.Core.List.{List, [], _∷_, _++_}
-use Prim.Native.Nat.{ℕ, zero, suc, _+_, _-_, _*_, _≤_, _<_}
+use Prim.Native.Nat.{ℕ, zero, suc, _+_, _-_, _*_, _≤_}
 use native.Mathlib.Nat.{suc-mul, zero-mul, mul-le-mul-right, add-mul, add-comm}
+use native.Mathlib.Numerals.{add-one}
 use native.Mathlib.Omega.{arith}
 use lib.ListN.{length, take, drop, length-drop}
 use lib.Seq.{take-take, take-all, take-append-le, drop-drop, length-take-le}
 use Rattle.lists.specs.Part.{part}
 use Rattle.lists.specs.Page.{page, withPage}
-use Rattle.lists.proofs.PartLaws.{drop-take, take-put, length-removed, take-removed}
+use Rattle.lists.proofs.PartLaws.{drop-take, take-put, drop-put, length-removed, take-removed}
 use Rattle.lists.proofs.PageLaws.{page-with-same}
 use Rattle.settings.specs.Range.{mostSlots}
 use Rattle.staging.specs.declared.Slots.{Slots}
-use Rattle.staging.specs.Slot.{withBlock, withBlockBytes, allDue, onlyDue, flushed, flushedBytes}
+use Rattle.staging.specs.Slot.{slotFor, withBlock, withBlockBytes, allDue, onlyDue, flushed, flushedBytes}
+use Rattle.staging.specs.Fits.{StageFits}
 use Rattle.staging.specs.SlotList.{stagedFrom, slotList, dueList}
-use Rattle.staging.proofs.SlotLaws.{numbers-more, numbers-rest}
+use Rattle.staging.proofs.SlotLaws.{numbers-rest}
+use Rattle.staging.proofs.BlockLaws.{slot-not-due, slot-high, due-same, numbers-with-block}
 
 module _ (u : ℕ) where
   -- ---- blocks with these numbers, whose bytes stand in s
@@ -57,6 +60,22 @@ module _ (u : ℕ) where
       rw o at (sym (drop-take u (suc (length ns) * u) s) ∙ ap (drop u) e ∙ drop-take u (suc (length ns) * u) t) in
       rw (first, staged-same ns (drop u s) (drop u t) rest)
 
+  -- one block and its bytes put at place i, which may be behind all
+  pub staged-put : (ns s : List ℕ) (i n : ℕ) (block : List ℕ) → i ≤ length ns → length block ≡ u → i * u + u ≤ length s
+      → stagedFrom u (take i ns ++ (n ∷ drop (i + 1) ns)) (withPage u s i block)
+      ≡ take i (stagedFrom u ns s) ++ (record { number = n; bytes = block } ∷ drop (i + 1) (stagedFrom u ns s))
+  unfolding stagedFrom withPage page part
+  staged-put ns s i n block h size room =
+      let t = withPage u s i block in
+      let m : length (take i ns) ≡ i = length-take-le i ns h in
+      let before : take (i * u) t ≡ take (i * u) s = take-put s (i * u) block (omega arith) in
+      let front : stagedFrom u (take i ns) t ≡ take i (stagedFrom u ns s) = staged-same (take i ns) t s (rw m before) ∙ sym (take-staged i ns s) in
+      let there : take u (drop (i * u) t) ≡ block = page-with-same u i s block size room in
+      let next : (i + 1) * u ≡ i * u + length block = ap (λ (j : ℕ). j * u) (add-one i) ∙ suc-mul i u ∙ omega arith in
+      let rest : drop u (drop (i * u) t) ≡ drop ((i + 1) * u) s = drop-drop u (i * u) t ∙ ap (λ (j : ℕ). drop (i * u + j) t) (sym size) ∙ drop-put s (i * u) block (omega arith) ∙ rw next in
+      let behind : stagedFrom u (drop (i + 1) ns) (drop u (drop (i * u) t)) ≡ drop (i + 1) (stagedFrom u ns s) = ap (stagedFrom u (drop (i + 1) ns)) rest ∙ sym (drop-staged (i + 1) ns s) in
+      rw (staged-append (take i ns) (n ∷ drop (i + 1) ns) t, m, front, there, behind)
+
   -- ---- the list of the slots
   module _ (k : Slots) (slots : List ℕ) where
     pub slot-count : k .staged ≤ length (k .numbers) → length (slotList u k slots) ≡ k .staged
@@ -92,27 +111,29 @@ module _ (u : ℕ) where
     unfolding dueList
     take-due-list c h = take-take c (k .due) (slotList u k slots) h
 
-    -- ---- one block staged: it comes last
-    module _ (array : length (k .numbers) ≡ mostSlots) (n : ℕ) (block : List ℕ) (free : k .staged < mostSlots) (size : length block ≡ u) (room : k .staged * u + u ≤ length slots) where
-      take-before : take (k .staged * u) (withPage u slots (k .staged) block) ≡ take (k .staged * u) slots
-      unfolding withPage
-      take-before = take-put slots (k .staged * u) block (omega arith)
-
-      take-there : take u (drop (k .staged * u) (withPage u slots (k .staged) block)) ≡ block
-      unfolding page part
-      take-there = page-with-same u (k .staged) slots block size room
-
-      pub list-with-block : slotList u (withBlock k n) (withBlockBytes u k slots block) ≡ slotList u k slots ++ (record { number = n; bytes = block } ∷ [])
-      unfolding slotList withBlockBytes stagedFrom
+    -- ---- a block staged: it stands at its slot, and all others stay
+    module _ (n : ℕ) (block : List ℕ) (array : length (k .numbers) ≡ mostSlots) (fits : StageFits k n) (size : length block ≡ u) (room : slotFor k n * u + u ≤ length slots) where
+      pub list-with-block : slotList u (withBlock k n) (withBlockBytes u k n slots block)
+          ≡ take (slotFor k n) (slotList u k slots) ++ (record { number = n; bytes = block } ∷ drop (slotFor k n + 1) (slotList u k slots))
+      unfolding slotList withBlockBytes
       list-with-block =
           let ns = take (k .staged) (k .numbers) in
-          let m : length ns ≡ k .staged = length-take-le (k .staged) (k .numbers) (omega arith) in
-          let front : stagedFrom u ns (withPage u slots (k .staged) block) ≡ stagedFrom u ns slots = staged-same ns (withPage u slots (k .staged) block) slots (rw m take-before) in
-          rw (numbers-more k array n free, staged-append ns (n ∷ []) (withPage u slots (k .staged) block), m, front, take-there)
+          let m : length ns ≡ k .staged = length-take-le (k .staged) (k .numbers) (omega (arith, fits .few)) in
+          let high = slot-high k n array (fits .due-high) (fits .few) in
+          rw (numbers-with-block k n array (fits .due-high) (fits .few) (fits .slot-low)) (staged-put ns slots (slotFor k n) n block (omega arith) size room)
 
-      pub due-with-block : k .due ≤ k .staged → dueList u (withBlock k n) (withBlockBytes u k slots block) ≡ dueList u k slots
-      unfolding dueList withBlock
-      due-with-block h = ap (take (k .due)) list-with-block ∙ take-append-le (k .due) (slotList u k slots) _ (omega (arith, slot-count (omega arith)))
+      -- due slots stay
+      pub due-with-block : dueList u (withBlock k n) (withBlockBytes u k n slots block) ≡ dueList u k slots
+      unfolding dueList
+      due-with-block =
+          let l = slotList u k slots in
+          let low = slot-not-due k n in
+          let c = slot-count (omega (arith, fits .few)) in
+          let high = slot-high k n array (fits .due-high) (fits .few) in
+          ap (λ (i : ℕ). take i (slotList u (withBlock k n) (withBlockBytes u k n slots block))) (due-same k n)
+          ∙ ap (take (k .due)) list-with-block
+          ∙ take-append-le (k .due) (take (slotFor k n) l) _ (omega (arith, length-take-le (slotFor k n) l (omega arith)))
+          ∙ take-take (k .due) (slotFor k n) l low
 
     -- ---- a flush: the first of them are gone
     module _ (array : length (k .numbers) ≡ mostSlots) (count : ℕ) (h : count ≤ k .staged) (few : k .staged ≤ mostSlots) (room : k .staged * u ≤ length slots) where

@@ -1,21 +1,20 @@
--- Laws of the slots: what the range test says, and that the range is kept by one block staged, by all due, by only the due, and by a flush.
+-- Laws of the slots: what the range test says, and that the range is kept by all due, by only the due, and by a flush.
 -- The array's length is no part of the range: it comes from the type. Assumes nothing.
 use mathlib.Core.Path.{_≡_, refl, sym, ap, _∙_}
 use mathlib.Core.Bool.{Bool, true, false, _&&_, and-assoc}
 use mathlib.Core.List.{List, [], _∷_, _++_}
 use Prim.Native.Nat.{ℕ, zero, suc, _+_, _≤_, _<_}
 use native.Mathlib.Nat.{le-of-suc-le-suc, not-suc-le-zero}
-use native.Mathlib.Numerals.{add-one}
 use native.Mathlib.Omega.{arith}
 use lib.Dec.{leb, ltb}
-use lib.ListN.{length, take, drop, getD, length-set}
-use lib.Seq.{take-suc-set, take-take, getD-take, length-take-le}
+use lib.ListN.{length, take, drop, getD}
+use lib.Seq.{take-take, getD-take, length-take-le}
 use borrow.Author.Tests.{leb-true, le-leb, ltb-true, lt-ltb, le-ltb}
 use Rattle.lists.proofs.TestLaws.{both, join}
 use Rattle.lists.proofs.ArrayLaws.{rest-cons, rest-none, take-freed, length-freed}
 use Rattle.settings.specs.Range.{mostSlots}
 use Rattle.staging.specs.declared.Slots.{Slots}
-use Rattle.staging.specs.Slot.{emptySlots, numbersOk, slotsOk, freeSlots, withBlock, allDue, onlyDue, flushed}
+use Rattle.staging.specs.Slot.{emptySlots, numbersOk, slotsOk, freeSlots, allDue, onlyDue, flushed}
 
 -- ---- numbers below d
 pub numbers-cons : (d n : ℕ) (ns : List ℕ) → numbersOk d (n ∷ ns) ≡ true → (n < d) × (numbersOk d ns ≡ true)
@@ -85,15 +84,6 @@ pub record SlotsFacts (k : Slots) (s d : ℕ) : Type 0 where
 
 -- ---- the staged numbers, where the array has its 64 entries
 module _ (k : Slots) (array : length (k .numbers) ≡ mostSlots) where
-  -- one block staged
-  pub numbers-more : (n : ℕ) → k .staged < mostSlots → take (withBlock k n .staged) (withBlock k n .numbers) ≡ take (k .staged) (k .numbers) ++ (n ∷ [])
-  unfolding withBlock
-  numbers-more n h = rw add-one (take-suc-set (k .numbers) (k .staged) n (omega arith))
-
-  pub array-with-block : (n : ℕ) → length (withBlock k n .numbers) ≡ mostSlots
-  unfolding withBlock
-  array-with-block n = length-set (k .numbers) (k .staged) n ∙ array
-
   -- without the first count
   module _ (count : ℕ) (h : count ≤ k .staged) (few : k .staged ≤ mostSlots) where
     pub numbers-rest : take (flushed k count .staged) (flushed k count .numbers) ≡ drop count (take (k .staged) (k .numbers))
@@ -115,18 +105,6 @@ module _ (k : Slots) (s d : ℕ) (array : length (k .numbers) ≡ mostSlots) (fe
         due-high = t .due-high;
         number-low = λ i h. rw (getD-take (k .staged) (k .numbers) i 0 h) at (numbers-at d (take (k .staged) (k .numbers)) (t .numbers-ok) i (omega arith));
       }
-
-  pub slots-with-block : (n : ℕ) → slotsOk k s d ≡ true → 0 < freeSlots k s → n < d → slotsOk (withBlock k n) s d ≡ true
-  unfolding withBlock numbersOk
-  slots-with-block n ok free low =
-      let t = slots-tests k s d ok in
-      let e = numbers-more k array n (omega arith) in
-      slots-tested (withBlock k n) s d
-      (record {
-        staged-high = omega arith;
-        due-high = omega arith;
-        numbers-ok = rw e (numbers-append d (take (k .staged) (k .numbers)) (n ∷ []) ∙ simp (t .numbers-ok, lt-ltb n d low));
-      })
 
   pub slots-flushed : (count : ℕ) → slotsOk k s d ≡ true → count ≤ k .due → slotsOk (flushed k count) s d ≡ true
   unfolding flushed

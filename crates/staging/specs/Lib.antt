@@ -1,4 +1,5 @@
 pub mod Slot
 pub mod Fits
 pub mod SlotList
+pub mod Stages
 pub mod Flushes

@@ -1,10 +1,11 @@
 -- The standby's staged blocks. Assumes nothing.
 use Prim.Native.Nat.{ℕ, zero, suc, _+_, _-_, _*_, min}
-use mathlib.Core.Bool.{Bool, true, _&&_}
+use mathlib.Core.Bool.{Bool, true, cond, _&&_}
 use mathlib.Core.List.{List, [], _∷_}
 use lib.Dec.{leb, ltb}
-use lib.ListN.{take, getD, set, replicate}
+use lib.ListN.{take, drop, getD, set, replicate}
 use Rattle.lists.specs.Part.{removed, freed}
+use Rattle.lists.specs.Select.{placeIn, isIn}
 use Rattle.lists.specs.Page.{page, withPage}
 use Rattle.settings.specs.Range.{mostSlots}
 use Rattle.staging.specs.declared.Slots.{Slots}
@@ -25,12 +26,28 @@ slotsOk k s d = leb (k .staged) s && leb (k .due) (k .staged) && numbersOk d (ta
 abbrev pub freeSlots : Slots → ℕ → ℕ
 freeSlots k s = s - k .staged
 
--- ---- a block staged in the next slot
-unfoldable pub withBlock : Slots → ℕ → Slots
-withBlock k n = record { staged = k .staged + 1; due = k .due; numbers = set (k .numbers) (k .staged) n }
+-- ---- a block staged
+-- the numbers of the blocks of the epoch that is being received: staged and not due
+abbrev pub freshNumbers : Slots → List ℕ
+freshNumbers k = drop (k .due) (take (k .staged) (k .numbers))
 
-unfoldable pub withBlockBytes : ℕ → Slots → List ℕ → List ℕ → List ℕ
-withBlockBytes u k slots block = withPage u slots (k .staged) block
+-- "a block staged in the same epoch" (document 02, Job 9)
+abbrev pub isStaged : Slots → ℕ → Bool
+isStaged k n = isIn n (freshNumbers k)
+
+-- it "reuses the first such slot"; a block that the epoch does not have takes the next one: where there is none,
+-- `placeIn` is their count, so that this is `staged`. Due slots are in front, and stay
+unfoldable pub slotFor : Slots → ℕ → ℕ
+slotFor k n = k .due + placeIn n (freshNumbers k)
+
+-- "the earlier place"
+unfoldable pub withBlock : Slots → ℕ → Slots
+withBlock k n =
+    cond (isStaged k n) k (record { staged = k .staged + 1; due = k .due; numbers = set (k .numbers) (k .staged) n })
+
+-- "the later bytes"
+unfoldable pub withBlockBytes : ℕ → Slots → ℕ → List ℕ → List ℕ → List ℕ
+withBlockBytes u k n slots block = withPage u slots (slotFor k n) block
 
 -- "makes the epoch's staged blocks due"
 unfoldable pub allDue : Slots → Slots

@@ -1,5 +1,5 @@
--- The staged blocks as a list, each with its number and its bytes, in order of arrival, and a disk with the blocks of such a list stored.
--- Assumes nothing.
+-- The staged blocks as a list, each with its number and its bytes, in order of first arrival, and a disk with the
+-- blocks of such a list stored. Assumes nothing.
 use Prim.Native.Nat.{ℕ}
 use mathlib.Core.List.{List, [], _∷_}
 use lib.ListN.{take, drop}

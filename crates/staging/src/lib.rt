@@ -1,15 +1,17 @@
 // The standby's block slots.
 ghost use mathlib.Core.Path.{_≡_};
 ghost use Prim.Native.Nat.{_+_, _*_, _≤_, _<_};
-ghost use lib.ListN.{length, take, replicate};
+ghost use lib.ListN.{length, take, drop, replicate};
 ghost use Rattle.lists.specs.Part.{put, removed};
+ghost use Rattle.lists.specs.Select.{placeIn};
 ghost use Rattle.lists.specs.Page.{page, withPage};
 ghost use Rattle.settings.specs.Range.{mostSlots};
-ghost use Rattle.staging.specs.Slot.{numbersOk, slotsOk, freeSlots, withBlock, withBlockBytes, allDue, onlyDue, flushCount, stored, flushed, flushedBytes};
-ghost use Rattle.staging.specs.Fits.{StoreFits, FlushFits};
+ghost use Rattle.staging.specs.Slot.{numbersOk, slotsOk, freeSlots, slotFor, withBlock, allDue, onlyDue, flushCount, stored, flushed, flushedBytes};
+ghost use Rattle.staging.specs.Fits.{StageFits, StoreFits, FlushFits};
 use settings::MOST_SLOTS;
 
-// The staged blocks in order of arrival: how many, how many of them are due, and the number of each. Their bytes stand in the lent slots.
+// The staged blocks in order of first arrival: how many, how many of them are due, and the number of each. Their bytes
+// stand in the lent slots.
 pub struct Slots {
     pub staged: usize,
     pub due: usize,
@@ -62,25 +64,53 @@ pub fn free_slots(k: Slots, s: usize) -> usize
     s - staged
 }
 
-// The slots with block n staged in the next one.
-pub fn with_block(k: Slots, n: usize) -> Slots
-    requires { ⌜ k .staged < mostSlots ⌝ }
+// The place of number n among the first `end` from `from` on; where none of them is n, `end`.
+fn place_from(numbers: [usize; MOST_SLOTS], from: usize, end: usize, n: usize) -> usize
+    requires { ⌜ (from ≤ end) × (end ≤ mostSlots) ⌝ }
+    ensures { λ r. ⌜ r ≡ from + placeIn n (drop from (take end numbers)) ⌝ }
+{
+    let mut i = from;
+    while i < end {
+        if numbers[i] == n {
+            return i;
+        }
+        i += 1;
+    }
+    end
+}
+
+// The slot of block n: the first that its epoch has staged it in, else the next one.
+pub fn slot_for(k: Slots, n: usize) -> usize
+    requires { ⌜ (k .due ≤ k .staged) × (k .staged ≤ mostSlots) ⌝ }
+    ensures { λ r. ⌜ r ≡ slotFor k n ⌝ }
+{
+    let staged = k.staged;
+    let due = k.due;
+    let numbers = k.numbers;
+    place_from(numbers, due, staged, n)
+}
+
+// The slots with block n staged in its slot, which `slot_for` gave.
+pub fn with_block(k: Slots, n: usize, slot: usize) -> Slots
+    requires { ⌜ StageFits k n × (slot ≡ slotFor k n) ⌝ }
     ensures { λ r. ⌜ r ≡ withBlock k n ⌝ }
 {
     let staged = k.staged;
     let mut next = k;
+    if slot < staged {
+        return next;
+    }
     next.numbers[staged] = n;
     next.staged = staged + 1;
     next
 }
 
-// Copies a block's bytes into the next slot.
-pub fn stage_block(slots: &mut [u8], k: Slots, u: usize, block: &[u8])
-    requires { ⌜ (length (now block) ≡ u) × (k .staged * u + u ≤ length (now slots)) ⌝ }
-    ensures { λ _. ⌜ now (slots .exit) ≡ withBlockBytes u k (now (slots .entry)) (now (block .entry)) ⌝ }
+// Copies a block's bytes into its slot.
+pub fn stage_block(slots: &mut [u8], u: usize, slot: usize, block: &[u8])
+    requires { ⌜ (length (now block) ≡ u) × (slot * u + u ≤ length (now slots)) ⌝ }
+    ensures { λ _. ⌜ now (slots .exit) ≡ withPage u (now (slots .entry)) slot (now (block .entry)) ⌝ }
 {
-    let staged = k.staged;
-    lists::copy_into(slots, staged * u, block);
+    lists::copy_into(slots, slot * u, block);
 }
 
 // The slots with all staged blocks due.

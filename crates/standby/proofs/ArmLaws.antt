@@ -13,6 +13,7 @@ use Rattle.records.proofs.Record.{the-type}
 use Rattle.rules.specs.declared.Standby.{Standby}
 use Rattle.rules.specs.Judge.{recordRefusal}
 use Rattle.rules.specs.Read.{readState, memoryAfter, stagedPagesAfter, stagedMarksAfter, stagedBlocksAfter, replyAfter}
+use Rattle.standby.specs.Fits.{slotOf}
 
 -- behind PAGE, BLOCK, STATE and COMMIT
 other-arm : {A : Type 0} (page block : ℕ → ℕ → Cursor → A) (state : ℕ → Cursor → A) (commit : ℕ → ℕ → ℕ → Cursor → A) (rest : A) (r : Record)
@@ -30,6 +31,16 @@ refusal-arm s reply r = other-arm _ _ _ _ (otherRefusal r) r
 
 pub state-arm : (s : Standby) (bytes : List ℕ) (r : Record) → OneOf (4 ∷ 5 ∷ 6 ∷ []) (tagOf the-type r) → readState s bytes r ≡ s
 state-arm s bytes r = other-arm _ _ _ _ s r
+
+-- behind BLOCK
+pub slot-arm : (s : Standby) (r : Record) → OneOf (0 ∷ 2 ∷ 3 ∷ 4 ∷ 5 ∷ 6 ∷ []) (tagOf the-type r) → slotOf s r ≡ 0
+slot-arm s (Page w e p c) k = refl
+slot-arm s (Block e n c) k = absurd (miss (0 ∷ 2 ∷ 3 ∷ 4 ∷ 5 ∷ 6 ∷ []) 1 tt k)
+slot-arm s (State e c) k = refl
+slot-arm s (Commit w e p b c) k = refl
+slot-arm s (Ack e c) k = refl
+slot-arm s (Short n) k = refl
+slot-arm s (Refused n) k = refl
 
 -- behind PAGE, BLOCK and COMMIT
 module _ (s : Standby) (bytes memory pages marks blocks reply : List ℕ) where

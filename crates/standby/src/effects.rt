@@ -6,14 +6,15 @@ ghost use Rattle.lists.specs.Part.{put};
 ghost use Rattle.lists.specs.Page.{withPage};
 ghost use Rattle.records.specs.Kind.{processorBytes};
 ghost use Rattle.records.specs.Write.{ackRecord};
-ghost use Rattle.settings.specs.Range.{mostSlots};
 ghost use Rattle.marks.specs.Mark.{withMark, cleared};
 ghost use Rattle.pages.specs.Dirty.{installed};
-ghost use Rattle.staging.specs.Slot.{withBlock, withBlockBytes};
-ghost use Rattle.rules.specs.StandbyState.{withPagesNext, withSlotsBlocks};
+ghost use Rattle.staging.specs.Slot.{slotFor};
+ghost use Rattle.staging.specs.Fits.{StageFits};
+ghost use Rattle.rules.specs.Blocks.{blocksWith};
+ghost use Rattle.rules.specs.StandbyState.{withPagesNext};
 ghost use Rattle.rules.specs.Reply.{answerOf};
-ghost use Rattle.rules.specs.Read.{bytesAt, installedState, readState, memoryAfter, stagedPagesAfter, stagedMarksAfter, stagedBlocksAfter, replyAfter, readLent};
-ghost use Rattle.standby.specs.Fits.{FieldFits, StateFits, BuffersFit};
+ghost use Rattle.rules.specs.Read.{bytesAt, installedState, stagedState, readState, memoryAfter, stagedPagesAfter, stagedMarksAfter, stagedBlocksAfter, replyAfter, readLent};
+ghost use Rattle.standby.specs.Fits.{FieldFits, slotOf, SlotFits, StateFits, BuffersFit};
 use crate::parts;
 use records::Cursor;
 use records::Record;
@@ -21,7 +22,6 @@ use records::reading::used_of;
 use records::reading::value_of;
 use rules::Answer;
 use rules::Standby;
-use staging::Slots;
 
 // The field of bytes of a record.
 fn field(bytes: &[u8], at: Cursor) -> &[u8]
@@ -52,15 +52,44 @@ fn with_page(s: Standby, page: usize) -> Standby
     parts::with_pages_next(s, pages + 1, page + 1)
 }
 
-// One block more of the epoch, staged and not due.
-fn with_block(s: Standby, block: usize) -> Standby
-    requires { ⌜ (s .slots .staged < mostSlots) × (s .blocks + 1 < 2 ^ 64) ⌝ }
-    ensures { λ r. ⌜ r ≡ withSlotsBlocks s (withBlock (s .slots) block) (s .blocks + 1) ⌝ }
+// The different blocks of the epoch with one more, unless it has that one already.
+fn blocks_with(again: bool, blocks: usize) -> usize
+    requires { ⌜ blocks + 1 < 2 ^ 64 ⌝ }
+    ensures { λ r. ⌜ r ≡ blocksWith again blocks ⌝ }
+{
+    if again {
+        return blocks;
+    }
+    blocks + 1
+}
+
+// One BLOCK more of the epoch, staged in its slot and not due.
+fn with_block(s: Standby, block: usize, slot: usize) -> Standby
+    requires { ⌜ StageFits (s .slots) block × (s .blocks + 1 < 2 ^ 64) × (s .records + 1 < 2 ^ 64) × (slot ≡ slotFor (s .slots) block) ⌝ }
+    ensures { λ r. ⌜ r ≡ stagedState s block ⌝ }
 {
     let k = s.slots;
+    let staged = k.staged;
     let blocks = s.blocks;
-    let slots = staging::with_block(k, block);
-    parts::with_slots_blocks(s, slots, blocks + 1)
+    let records = s.records;
+    let slots = staging::with_block(k, block, slot);
+    parts::with_slots_blocks(s, slots, blocks_with(slot < staged, blocks), records + 1)
+}
+
+// The slot of a judged BLOCK; 0 for all others, which need none.
+pub(crate) fn slot_of(s: Standby, r: Record) -> usize
+    requires { ⌜ SlotFits s r ⌝ }
+    ensures { λ n. ⌜ n ≡ slotOf s r ⌝ }
+{
+    let k = s.slots;
+    match r {
+        Record::Block {
+            epoch: _,
+            block,
+            at: _,
+        } => staging::slot_for(k, block),
+        _ => 0,
+    }
 }
 
 // A checkpoint is installed: "keeps the processor state, makes the epoch's staged blocks due"; its epoch is the last received.
@@ -76,8 +105,8 @@ fn installed_state(s: Standby, epoch: u32) -> Standby
 // The state after a record: the count "returns to 0 at each accepted record of kinds 1 to 4", and of 8 and 9. The
 // detector is replaced in each arm: where it was replaced before the match, a read of a PAGE of 64 bytes took a third
 // longer (docs/BENCHMARKS.md).
-pub(crate) fn read_state(s: Standby, bytes: &[u8], r: Record) -> Standby
-    requires { ⌜ StateFits s (length (now bytes)) r ⌝ }
+pub(crate) fn read_state(s: Standby, bytes: &[u8], r: Record, slot: usize) -> Standby
+    requires { ⌜ StateFits s (length (now bytes)) r × (slot ≡ slotOf s r) ⌝ }
     ensures { λ n. ⌜ n ≡ readState s (now (bytes .entry)) r ⌝ }
 {
     let detector = s.detector;
@@ -93,7 +122,7 @@ pub(crate) fn read_state(s: Standby, bytes: &[u8], r: Record) -> Standby
             epoch: _,
             block,
             at: _,
-        } => with_block(parts::with_detector(s, reset), block),
+        } => with_block(parts::with_detector(s, reset), block, slot),
         Record::State { epoch: _, at } => {
             parts::with_pending_seen(parts::with_detector(s, reset), processor(bytes, at))
         }
@@ -135,12 +164,12 @@ fn stage_page(pages: &mut [u8], marks: &mut [u64], bytes: &[u8], u: usize, page:
     marks::mark(marks, page);
 }
 
-// BLOCK: the block is staged in the next slot.
-fn stage_block(blocks: &mut [u8], bytes: &[u8], k: Slots, u: usize, at: Cursor)
-    requires { ⌜ (k .staged * u + u ≤ length (now blocks)) × FieldFits (length (now bytes)) u at ⌝ }
-    ensures { λ _. ⌜ now (blocks .exit) ≡ withBlockBytes u k (now (blocks .entry)) (bytesAt at (now (bytes .entry))) ⌝ }
+// BLOCK: the block is staged in its slot.
+fn stage_block(blocks: &mut [u8], bytes: &[u8], u: usize, slot: usize, at: Cursor)
+    requires { ⌜ (slot * u + u ≤ length (now blocks)) × FieldFits (length (now bytes)) u at ⌝ }
+    ensures { λ _. ⌜ now (blocks .exit) ≡ withPage u (now (blocks .entry)) slot (bytesAt at (now (bytes .entry))) ⌝ }
 {
-    staging::stage_block(blocks, k, u, field(bytes, at));
+    staging::stage_block(blocks, u, slot, field(bytes, at));
 }
 
 // COMMIT: "copies the staged pages into memory, clears their marks", "writes the ACK into the first 8 bytes of the reply buffer".
@@ -173,8 +202,9 @@ pub(crate) fn apply(
     blocks: &mut [u8],
     reply: &mut [u8],
     r: Record,
+    slot: usize,
 )
-    requires { ⌜ BuffersFit s (readLent (now memory) (now pages) (now marks) (now blocks) (now reply)) (length (now bytes)) r ⌝ }
+    requires { ⌜ BuffersFit s (readLent (now memory) (now pages) (now marks) (now blocks) (now reply)) (length (now bytes)) r × (slot ≡ slotOf s r) ⌝ }
     ensures { λ _. ⌜ now (memory .exit) ≡ memoryAfter s (now (memory .entry)) (now (pages .entry)) (now (marks .entry)) r ⌝ }
     ensures { λ _. ⌜ now (pages .exit) ≡ stagedPagesAfter s (now (bytes .entry)) (now (pages .entry)) r ⌝ }
     ensures { λ _. ⌜ now (marks .exit) ≡ stagedMarksAfter s (now (marks .entry)) r ⌝ }
@@ -182,7 +212,6 @@ pub(crate) fn apply(
     ensures { λ _. ⌜ now (reply .exit) ≡ replyAfter (now (reply .entry)) r ⌝ }
 {
     let g = s.settings;
-    let k = s.slots;
     let u = g.u;
     let m = g.m;
     match r {
@@ -196,7 +225,7 @@ pub(crate) fn apply(
             epoch: _,
             block: _,
             at,
-        } => stage_block(blocks, bytes, k, u, at),
+        } => stage_block(blocks, bytes, u, slot, at),
         Record::Commit {
             wide: _,
             epoch,

@@ -38,6 +38,7 @@ pub fn flush(s: Standby, slots: &mut [u8], disk: &mut [u8], n: usize) -> Standby
     let u = g.u;
     let k = s.slots;
     let blocks = s.blocks;
+    let records = s.records;
     let number = flush_refusal(s, slots.len(), disk.len());
     if number != 0 {
         return StandbyReply {
@@ -47,7 +48,7 @@ pub fn flush(s: Standby, slots: &mut [u8], disk: &mut [u8], n: usize) -> Standby
         };
     }
     let count = staging::flush(slots, disk, k, u, n);
-    let state = with_slots_blocks(s, staging::flushed(k, count), blocks);
+    let state = with_slots_blocks(s, staging::flushed(k, count), blocks, records);
     StandbyReply {
         state: state,
         number: 0,

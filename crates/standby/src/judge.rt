@@ -1,8 +1,11 @@
 // What a record is refused with: the record that an accepted read finds, else cut short or the number.
 ghost use mathlib.Core.Path.{_≡_};
 ghost use mathlib.Core.Bool.{true};
+ghost use Prim.Native.Nat.{_≤_};
+ghost use Rattle.settings.specs.Range.{mostSlots};
+ghost use Rattle.staging.specs.Slot.{isStaged};
 ghost use Rattle.rules.specs.StandbyState.{standbyOk};
-ghost use Rattle.rules.specs.Judge.{readLentOk, pageRefusal, blockRefusal, stateRefusal, commitRefusal, recordRefusal, judged};
+ghost use Rattle.rules.specs.Judge.{readLentOk, freeFor, pageRefusal, blockRefusal, stateRefusal, commitRefusal, recordRefusal, judged};
 use crate::ranges;
 use records::EPOCH_RECORD;
 use records::Reader;
@@ -12,6 +15,8 @@ use records::number;
 use records::reading::other_refusal;
 use rules::ReadLent;
 use rules::Standby;
+use settings::MOST_RECORDS;
+use staging::Slots;
 
 // PAGE: 2 8 9. The epoch is compared in 64 bits, so that the last received epoch may be the last that there is.
 fn page_refusal(s: Standby, epoch: u32, page: usize) -> u64
@@ -41,9 +46,19 @@ fn page_refusal(s: Standby, epoch: u32, page: usize) -> u64
     0
 }
 
+// Whether the epoch that is being received has this block already.
+fn is_staged(k: Slots, block: usize) -> bool
+    requires { ⌜ (k .due ≤ k .staged) × (k .staged ≤ mostSlots) ⌝ }
+    ensures { λ r. ⌜ r ≡ isStaged k block ⌝ }
+{
+    let staged = k.staged;
+    staging::slot_for(k, block) < staged
+}
+
 // BLOCK: 2 8 9 14 17.
 fn block_refusal(s: Standby, epoch: u32, block: usize) -> u64
-    ensures { λ r. ⌜ r ≡ blockRefusal s epoch block ⌝ }
+    requires { ⌜ standbyOk s ≡ true ⌝ }
+    ensures { λ r. ⌜ r ≡ blockRefusal s (freeFor s) epoch block ⌝ }
 {
     let g = s.settings;
     let d = g.d;
@@ -55,6 +70,7 @@ fn block_refusal(s: Standby, epoch: u32, block: usize) -> u64
     let pages = s.pages;
     let seen = s.seen;
     let blocks = s.blocks;
+    let records = s.records;
     let free = staging::free_slots(slots, room);
     if d <= block {
         return number::NO_SUCH_UNIT;
@@ -71,13 +87,20 @@ fn block_refusal(s: Standby, epoch: u32, block: usize) -> u64
     if seen {
         return number::OUT_OF_ORDER;
     }
+    if MOST_RECORDS <= records {
+        return number::ALLOWANCE_USED;
+    }
+    // the slots are looked at only where another block would be refused
+    if (blocks < most) & (free != 0) {
+        return 0;
+    }
+    if is_staged(slots, block) {
+        return 0;
+    }
     if most <= blocks {
         return number::ALLOWANCE_USED;
     }
-    if free == 0 {
-        return number::SLOTS_FULL;
-    }
-    0
+    number::SLOTS_FULL
 }
 
 // STATE: 8 9.
@@ -102,7 +125,7 @@ fn commit_refusal(s: Standby, reply: usize, epoch: u32, pages: usize, blocks: us
     let received = s.received as u64;
     let seen = s.seen;
     let had_pages = s.pages;
-    let had_blocks = s.blocks;
+    let had_records = s.records;
     if reply < EPOCH_RECORD {
         return number::NO_ROOM;
     }
@@ -115,7 +138,7 @@ fn commit_refusal(s: Standby, reply: usize, epoch: u32, pages: usize, blocks: us
     if pages != had_pages {
         return number::BAD_COUNTS;
     }
-    if blocks != had_blocks {
+    if blocks != had_records {
         return number::BAD_COUNTS;
     }
     0
@@ -123,6 +146,7 @@ fn commit_refusal(s: Standby, reply: usize, epoch: u32, pages: usize, blocks: us
 
 // What a record that was read is refused with, by its kind: 6 for other kinds, or its own number.
 fn record_refusal(s: Standby, reply: usize, r: Record) -> u64
+    requires { ⌜ standbyOk s ≡ true ⌝ }
     ensures { λ n. ⌜ n ≡ recordRefusal s reply r ⌝ }
 {
     match r {

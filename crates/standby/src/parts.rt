@@ -15,12 +15,13 @@ pub fn with_pages_next(s: Standby, pages: usize, next: usize) -> Standby
     t
 }
 
-pub fn with_slots_blocks(s: Standby, slots: Slots, blocks: usize) -> Standby
-    ensures { λ r. ⌜ r ≡ withSlotsBlocks s slots blocks ⌝ }
+pub fn with_slots_blocks(s: Standby, slots: Slots, blocks: usize, records: usize) -> Standby
+    ensures { λ r. ⌜ r ≡ withSlotsBlocks s slots blocks records ⌝ }
 {
     let mut t = s;
     t.slots = slots;
     t.blocks = blocks;
+    t.records = records;
     t
 }
 
@@ -39,6 +40,7 @@ pub fn with_no_records(s: Standby) -> Standby
 {
     let mut t = s;
     t.blocks = 0;
+    t.records = 0;
     t.pages = 0;
     t.next = 0;
     t.seen = false;
@@ -84,6 +86,7 @@ pub fn with_mode(s: Standby, mode: Mode) -> Standby
         received: s.received,
         slots: slots,
         blocks: s.blocks,
+        records: s.records,
         pages: s.pages,
         next: s.next,
         seen: s.seen,

@@ -4,6 +4,7 @@ ghost use Rattle.rules.specs.StandbyState.{isReceiving, isTakingOver, isActive,
 use detector::Detector;
 use rules::Mode;
 use rules::Standby;
+use settings::MOST_RECORDS;
 
 pub fn is_receiving(mode: Mode) -> bool
     ensures { λ r. ⌜ r ≡ isReceiving mode ⌝ }
@@ -48,6 +49,7 @@ pub fn standby_ok(s: Standby) -> bool
     }
     staging::slots_ok(k, g.s, g.d)
         & (s.blocks <= g.b)
+        & (s.records <= MOST_RECORDS)
         & (s.pages <= g.m)
         & detector::detector_ok(d, is_receiving(mode))
 }

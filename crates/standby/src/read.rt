@@ -35,8 +35,9 @@ pub fn read(
         reply: reply.len(),
     };
     let r = judge::judged(s, lent, bytes);
-    let state = effects::read_state(s, bytes, r);
+    let slot = effects::slot_of(s, r);
+    let state = effects::read_state(s, bytes, r, slot);
     let answer = effects::answer_of(r);
-    effects::apply(s, bytes, memory, pages, marks, blocks, reply, r);
+    effects::apply(s, bytes, memory, pages, marks, blocks, reply, r, slot);
     StandbyAnswer { state, answer }
 }

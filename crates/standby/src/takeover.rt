@@ -46,7 +46,7 @@ fn drop_staged(s: Standby) -> Standby
     ensures { λ r. ⌜ r ≡ dropped s ⌝ }
 {
     let k = s.slots;
-    with_no_records(with_slots_blocks(s, staging::only_due(k), 0))
+    with_no_records(with_slots_blocks(s, staging::only_due(k), 0, 0))
 }
 
 // The same for the staged marks, where the standby takes over.

@@ -1,7 +1,6 @@
 -- `staging::stage_block` meets its contract. Assumes nothing.
 use borrow.Author.Needs.{needs}
 use Rattle.lists.specs.Page.{withPage}
-use Rattle.staging.specs.Slot.{withBlockBytes}
 use Rattle.staging.proofs.stage_block.Statement.{statement}
 use Rattle.staging.proofs.stage_block.Tie as tie
 
@@ -15,7 +14,7 @@ same-length : tie.Need-same-length
 same-length c = search needs
 
 returns : tie.Need-returns
-unfolding withBlockBytes withPage
+unfolding withPage
 returns c = c .before .before .copy-into .ensures
 
 pub stage-block-spec : {M : Type 1} → statement M

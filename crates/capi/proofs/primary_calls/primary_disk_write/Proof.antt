@@ -1,12 +1,10 @@
 -- `primary_calls::primary_disk_write` meets its contract. Assumes nothing.
-use mathlib.Core.Path.{_≡_, sym, ap, _∙_}
+use mathlib.Core.Path.{_≡_, sym, _∙_}
 use mathlib.Core.Bool.{true, false}
-use native.Mathlib.Omega.{arith}
 use borrow.Author.Tests.{not-true, not-false}
-use Rattle.rules.specs.declared.Primary.{Primary}
 use Rattle.capi.specs.PrimaryWords.{primaryWordsOk}
-use Rattle.capi.proofs.PrimaryWordLaws.{primary-many}
-use Rattle.capi.proofs.KeptLaws.{same-differs, disk-write-kept}
+use Rattle.capi.proofs.PrimaryWordLaws.{primary-many, numbers-many}
+use Rattle.capi.proofs.KeptLaws.{disk-write-stores}
 use Rattle.capi.proofs.DoneLaws.{leaves-old, primary-old, leaves-new, primary-new}
 use borrow.Author.Needs.{needs}
 use Rattle.capi.proofs.primary_calls.primary_disk_write.Statement.{statement}
@@ -33,10 +31,14 @@ primary-of-requires c κs = good (c .before)
 disk-write-requires : tie.Need-disk-write-requires
 disk-write-requires c κs = search needs
 
+if-below-requires : tie.Need-if-below-requires
+if-below-requires c κs = search needs
+
 store-one-requires : tie.Need-store-one-requires
 store-one-requires c κs =
-    let g = good (c .before .before .before .before .before .before .before .before .before .before .before) in
-    (primary-many _ g, g, omega arith, same-differs _ _ 0 (ap (λ x. x .state .queue) (c .before .before .before .before .before .before .disk-write .ensures .0) ∙ disk-write-kept _ _ _ _ _ ∙ ap (λ (x : Primary). x .queue) (c .before .before .before .before .before .before .before .before .before .primary-of .ensures)))
+    let g = good (c .before .before .before .before .before .before .before .before .before .before .before .before) in
+    let one = disk-write-stores _ _ _ _ _ _ _ _ (c .before .before .before .before .before .before .before .before .before .before .primary-of .ensures) (numbers-many _ g) (c .before .before .before .before .before .before .before .disk-write .ensures .0) (c .before .if-below .ensures) in
+    (primary-many _ g, g, one .0, one .1, one .2, one .3)
 
 reply-word-requires : tie.Need-reply-word-requires
 reply-word-requires c κs = search needs
@@ -52,9 +54,10 @@ same-length-4 c = search needs
 
 returns-2 : tie.Need-returns-2
 returns-2 c =
-    let r = c .before .before .before .before .before .before .before .before .before .before .disk-write .ensures in
-    rw (sym (c .before .before .before .before .before .before .before .before .before .before .before .before .before .primary-of .ensures), sym (r .0))
-    (primary-new (good (c .before .before .before .before .before .before .before .before .before .before .before .before .before .before .before)) (c .reply-word .ensures) (c .before .before .before .store-one .ensures), leaves-new (good (c .before .before .before .before .before .before .before .before .before .before .before .before .before .before .before)) _ (r .1 .0), leaves-new (good (c .before .before .before .before .before .before .before .before .before .before .before .before .before .before .before)) _ (r .1 .1))
+    let g = good (c .before .before .before .before .before .before .before .before .before .before .before .before .before .before .before .before) in
+    let r = c .before .before .before .before .before .before .before .before .before .before .before .disk-write .ensures in
+    rw (sym (c .before .before .before .before .before .before .before .before .before .before .before .before .before .before .primary-of .ensures), sym (r .0))
+    (primary-new g (c .reply-word .ensures) (c .before .before .before .store-one .ensures), leaves-new g _ (r .1 .0), leaves-new g _ (r .1 .1))
 
 pub primary-disk-write-spec : {M : Type 1} → statement M
 primary-disk-write-spec =
@@ -65,6 +68,7 @@ primary-disk-write-spec =
     returns
     primary-of-requires
     disk-write-requires
+    if-below-requires
     store-one-requires
     reply-word-requires
     same-length-2

@@ -1,12 +1,10 @@
 -- `primary_calls::primary_memory_write` meets its contract. Assumes nothing.
 use mathlib.Core.Path.{_≡_, sym, ap, _∙_}
 use mathlib.Core.Bool.{true, false}
-use native.Mathlib.Omega.{arith}
 use borrow.Author.Tests.{not-true, not-false}
-use Rattle.rules.specs.declared.Primary.{Primary}
 use Rattle.capi.specs.PrimaryWords.{primaryWordsOk}
 use Rattle.capi.proofs.PrimaryWordLaws.{primary-many}
-use Rattle.capi.proofs.KeptLaws.{same-differs, memory-write-kept}
+use Rattle.capi.proofs.KeptLaws.{kept-stores, memory-write-kept}
 use Rattle.capi.proofs.DoneLaws.{leaves-old, primary-old, leaves-new, primary-new}
 use borrow.Author.Needs.{needs}
 use Rattle.capi.proofs.primary_calls.primary_memory_write.Statement.{statement}
@@ -36,7 +34,8 @@ memory-write-requires c κs = search needs
 store-one-requires : tie.Need-store-one-requires
 store-one-requires c κs =
     let g = good (c .before .before .before .before .before .before .before .before .before .before .before) in
-    (primary-many _ g, g, omega arith, same-differs _ _ 0 (ap (λ x. x .state .queue) (c .before .before .before .before .before .before .memory-write .ensures .0) ∙ memory-write-kept _ _ _ _ _ _ ∙ ap (λ (x : Primary). x .queue) (c .before .before .before .before .before .before .before .before .before .primary-of .ensures)))
+    let one = kept-stores _ _ _ _ (c .before .before .before .before .before .before .before .before .before .primary-of .ensures) (memory-write-kept _ _ _ _ _ _) (ap (λ x. x .state) (c .before .before .before .before .before .before .memory-write .ensures .0)) in
+    (primary-many _ g, g, one .0, one .1, one .2, one .3)
 
 reply-word-requires : tie.Need-reply-word-requires
 reply-word-requires c κs = search needs

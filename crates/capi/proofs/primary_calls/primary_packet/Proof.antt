@@ -35,7 +35,7 @@ store-one-requires : tie.Need-store-one-requires
 store-one-requires c κs =
     let g = good (c .before .before .before .before .before .before .before .before .before .before) in
     let one = packet-stores _ _ _ _ _ _ _ (c .before .before .before .before .before .before .before .before .primary-of .ensures) (packets-many _ g) (c .before .before .before .before .before .packet .ensures .0) (c .before .if-accepted .ensures) in
-    (primary-many _ g, g, one .0, one .1)
+    (primary-many _ g, g, one .0, one .1, one .2, one .3)
 
 if-accepted-requires : tie.Need-if-accepted-requires
 if-accepted-requires c κs = search needs

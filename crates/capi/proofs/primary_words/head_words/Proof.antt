@@ -2,7 +2,7 @@
 use Prim.Native.Nat.{_<_}
 use mathlib.Core.Path.{_≡_}
 use mathlib.Core.Bool.{true}
-use Rattle.capi.specs.Word.{allFit32, between}
+use Rattle.capi.specs.Word.{most32, allFit32, between}
 use Rattle.capi.specs.PrimaryWords.{headWords}
 use Rattle.capi.proofs.WordLaws.{fits-none, fits-cons}
 use borrow.Author.Needs.{needs}
@@ -17,7 +17,7 @@ low c =
     let count : p .detector .count < 4294967296 = search needs in
     let epoch : p .epoch < 4294967296 = search needs in
     let acknowledged : p .acknowledged < 4294967296 = search needs in
-    fits-cons _ _ patience (fits-cons _ _ count (fits-cons _ _ epoch (fits-cons _ _ acknowledged fits-none)))
+    fits-cons most32 _ _ patience (fits-cons most32 _ _ count (fits-cons most32 _ _ epoch (fits-cons most32 _ _ acknowledged (fits-none most32))))
 
 flag-word-requires : tie.Need-flag-word-requires
 flag-word-requires c κs = search needs

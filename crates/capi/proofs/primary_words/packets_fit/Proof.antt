@@ -5,9 +5,9 @@ use mathlib.Core.Path.{_≡_, refl, sym, ap, _∙_}
 use mathlib.Core.List.{List}
 use mathlib.Core.Bool.{Bool, true, false, _&&_}
 use native.Mathlib.Omega.{arith}
-use lib.ListN.{drop, getD}
-use Rattle.capi.specs.Word.{fits32, fits16, most32, most16}
-use Rattle.capi.specs.PrimaryWords.{packetsFit, packetsAt}
+use lib.ListN.{getD}
+use Rattle.capi.specs.Word.{fits32, fits16, most32, most16, between}
+use Rattle.capi.specs.PrimaryWords.{packetsFit, packetsAt, writtenAt, packetsIn}
 use Rattle.capi.proofs.WordLaws.{fits-or, test-end}
 use Rattle.capi.proofs.PrimaryWordLaws.{packets-fit-more, packets-fit-end}
 use borrow.Author.Needs.{needs}
@@ -27,7 +27,7 @@ one-more true true false false size port rest = refl
 
 abbrev Inv-loop : tie.InvT-loop
 Inv-loop w epochs₀ lengths₀ ports₀ i₀ epochs lengths ports i =
-    (i ≤ 64) × ((fits32 epochs && fits16 lengths && fits16 ports) && packetsFit (drop (packetsAt + 3 * i) w) ≡ packetsFit (drop packetsAt w))
+    (i ≤ 64) × ((fits32 epochs && fits16 lengths && fits16 ports) && packetsFit (between (packetsAt + 3 * i) writtenAt w) ≡ packetsFit (packetsIn w))
 
 abbrev μ-loop : tie.MeasureT-loop
 μ-loop w epochs₀ lengths₀ ports₀ i₀ epochs lengths ports i = 64 - i
@@ -82,8 +82,8 @@ loop-again c =
     let e : packetsAt + 3 * (l .i + 1) ≡ at + 3 = omega arith in (
       omega arith,
       rw (e, fits-or 32 most32 (l .epochs) a refl, fits-or 16 most16 (l .lengths) b refl, fits-or 16 most16 (l .ports) d refl)
-          (one-more (fits32 (l .epochs)) (fits16 (l .lengths)) (fits16 (l .ports)) (fits32 a) (fits16 b) (fits16 d) (packetsFit (drop (at + 3) w))
-          ∙ ap (λ (x : Bool). (fits32 (l .epochs) && fits16 (l .lengths) && fits16 (l .ports)) && x) (sym (packets-fit-more w at (omega arith))) ∙ l .inv .1),
+          (one-more (fits32 (l .epochs)) (fits16 (l .lengths)) (fits16 (l .ports)) (fits32 a) (fits16 b) (fits16 d) (packetsFit (between (at + 3) writtenAt w))
+          ∙ ap (λ (x : Bool). (fits32 (l .epochs) && fits16 (l .lengths) && fits16 (l .ports)) && x) (sym (packets-fit-more w at writtenAt (omega arith) (omega arith))) ∙ l .inv .1),
     )
 
 returns : tie.Need-returns Inv-loop μ-loop
@@ -91,7 +91,7 @@ returns c =
     let w : List ℕ = c .before .before .args .w .now in
     let l = c .before .loop in
     let at : ℕ = packetsAt + 3 * l .i in
-    sym (test-end (fits32 (l .epochs) && fits16 (l .lengths) && fits16 (l .ports)) (packetsFit (drop at w)) (packets-fit-end w at (omega arith))) ∙ l .inv .1
+    sym (test-end (fits32 (l .epochs) && fits16 (l .lengths) && fits16 (l .ports)) (packetsFit (between at writtenAt w)) (packets-fit-end w at writtenAt (omega arith) (omega arith))) ∙ l .inv .1
 
 pub packets-fit-spec : {M : Type 1} → statement M
 packets-fit-spec =

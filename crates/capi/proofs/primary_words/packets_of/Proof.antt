@@ -5,8 +5,9 @@ use mathlib.Core.Path.{_≡_, refl, sym}
 use mathlib.Core.List.{List, _++_}
 use mathlib.Core.Bool.{true}
 use native.Mathlib.Omega.{arith}
-use lib.ListN.{length, take, drop}
-use Rattle.capi.specs.PrimaryWords.{primaryLength, packetsAt, packetsFit, packetsOf}
+use lib.ListN.{length, take}
+use Rattle.capi.specs.Word.{between}
+use Rattle.capi.specs.PrimaryWords.{primaryLength, packetsAt, writtenAt, packetsIn, packetsFit, packetsOf}
 use Rattle.capi.proofs.PrimaryWordLaws.{primary-word-facts, packet-fields, packet-cons, read-more, read-all}
 use borrow.Author.Needs.{needs}
 use Rattle.capi.proofs.primary_words.packets_of.Statement.{statement}
@@ -14,8 +15,8 @@ use Rattle.capi.proofs.primary_words.packets_of.Tie as tie
 
 abbrev Inv-loop : tie.InvT-loop
 Inv-loop w packets₀ i₀ packets i =
-    let rest = drop (packetsAt + 3 * i) w in
-    (i ≤ 64) × (length w ≡ primaryLength) × (length packets ≡ 64) × (packetsFit rest ≡ true) × (packetsOf (drop packetsAt w) ≡ take i packets ++ packetsOf rest)
+    let rest = between (packetsAt + 3 * i) writtenAt w in
+    (i ≤ 64) × (length w ≡ primaryLength) × (length packets ≡ 64) × (packetsFit rest ≡ true) × (packetsOf (packetsIn w) ≡ take i packets ++ packetsOf rest)
 
 abbrev μ-loop : tie.MeasureT-loop
 μ-loop w packets₀ i₀ packets i = 64 - i
@@ -36,7 +37,7 @@ shared-slice-read-field : tie.Need-shared-slice-read-field Inv-loop μ-loop
 shared-slice-read-field c = search needs
 
 field-requires : tie.Need-field-requires Inv-loop μ-loop
-field-requires c κs = let l = c .before .before .loop in packet-fields _ (packetsAt + 3 * l .i) (omega arith) (l .inv .3) .0
+field-requires c κs = let l = c .before .before .loop in packet-fields (c .before .before .before .before .args .w .now) (packetsAt + 3 * l .i) writtenAt (omega arith) (omega arith) (l .inv .3) .0
 
 add-field16 : tie.Need-add-field16 Inv-loop μ-loop
 add-field16 c = search needs
@@ -48,7 +49,7 @@ shared-slice-read-field16 : tie.Need-shared-slice-read-field16 Inv-loop μ-loop
 shared-slice-read-field16 c = search needs
 
 field16-requires : tie.Need-field16-requires Inv-loop μ-loop
-field16-requires c κs = let l = c .before .before .before .before .loop in packet-fields _ (packetsAt + 3 * l .i) (omega arith) (l .inv .3) .1
+field16-requires c κs = let l = c .before .before .before .before .loop in packet-fields (c .before .before .before .before .before .before .args .w .now) (packetsAt + 3 * l .i) writtenAt (omega arith) (omega arith) (l .inv .3) .1
 
 add-field16-2 : tie.Need-add-field16-2 Inv-loop μ-loop
 add-field16-2 c = search needs
@@ -60,7 +61,7 @@ shared-slice-read-field16-2 : tie.Need-shared-slice-read-field16-2 Inv-loop μ-l
 shared-slice-read-field16-2 c = search needs
 
 field16-requires-2 : tie.Need-field16-requires-2 Inv-loop μ-loop
-field16-requires-2 c κs = let l = c .before .before .before .before .before .before .loop in packet-fields _ (packetsAt + 3 * l .i) (omega arith) (l .inv .3) .2
+field16-requires-2 c κs = let l = c .before .before .before .before .before .before .loop in packet-fields (c .before .before .before .before .before .before .before .before .args .w .now) (packetsAt + 3 * l .i) writtenAt (omega arith) (omega arith) (l .inv .3) .2
 
 mul-packets : tie.Need-mul-packets Inv-loop μ-loop
 mul-packets c = search needs
@@ -83,9 +84,9 @@ loop-again c =
       omega arith,
       l .inv .1,
       search needs,
-      rw e (packet-fields w at (omega arith) (l .inv .3) .3),
+      rw e (packet-fields w at writtenAt (omega arith) (omega arith) (l .inv .3) .3),
       rw (c .before .before .before .before .field .ensures, c .before .before .field16 .ensures, c .field162 .ensures, e)
-          (read-more w (l .packets) _ (l .i) at (omega arith) (packet-cons w at (omega arith)) (l .inv .4)),
+          (read-more w (l .packets) _ (l .i) at writtenAt (omega arith) (packet-cons w at writtenAt (omega arith) (omega arith)) (l .inv .4)),
     )
 
 returns : tie.Need-returns Inv-loop μ-loop
@@ -93,7 +94,7 @@ returns c =
     let w : List ℕ = c .before .before .before .args .w .now in
     let l = c .before .loop in
     let e : l .i ≡ 64 = omega arith in
-    sym (read-all w (l .packets) 64 (packetsAt + 3 * 64) (l .inv .2) (omega arith) (rw e at (l .inv .4)))
+    sym (read-all w (l .packets) 64 writtenAt (l .inv .2) (omega arith) (rw e at (l .inv .4)))
 
 pub packets-of-spec : {M : Type 1} → statement M
 packets-of-spec =

@@ -20,7 +20,7 @@ low c =
     let patience : s .detector .patience < 4294967296 = search needs in
     let count : s .detector .count < 4294967296 = search needs in
     let received : s .received < 4294967296 = search needs in
-    join _ _ (fits-cons _ _ patience (fits-cons _ _ count fits-none)) (le-leb (s .received) most32 (omega arith))
+    join _ _ (fits-cons most32 _ _ patience (fits-cons most32 _ _ count (fits-none most32))) (le-leb (s .received) most32 (omega arith))
 
 mode-word-requires : tie.Need-mode-word-requires
 mode-word-requires c κs = search needs

@@ -1,10 +1,11 @@
--- `word::all_fit32` meets its contract. The loop's invariant: the words passed and the test of the rest. Assumes nothing.
+-- `word::all_fit32` meets its contract. The loop's invariant: the words passed and the test of the rest.
+-- Assumes nothing.
 use Prim.Native.Nat.{_+_, _-_, _≤_}
 use mathlib.Core.Path.{_≡_, refl, sym, ap, _∙_}
 use mathlib.Core.Bool.{Bool, _&&_, and-assoc}
 use native.Mathlib.Omega.{arith}
 use lib.ListN.{getD}
-use Rattle.capi.specs.Word.{fits32, allFit32, between}
+use Rattle.capi.specs.Word.{most32, fits32, allFit32, between}
 use Rattle.capi.proofs.WordLaws.{fits-more, fits-end, test-end}
 use borrow.Author.Needs.{needs}
 use Rattle.capi.proofs.word.all_fit32.Statement.{statement}
@@ -38,14 +39,14 @@ loop-again c =
       omega arith,
       omega arith,
       and-assoc (l .low) (fits32 (getD (a .w .now) (l .i) 0)) (allFit32 (between (l .i + 1) (a .to) (a .w .now)))
-          ∙ ap (λ (x : Bool). l .low && x) (sym (fits-more (a .w .now) (l .i) (a .to) (omega arith) (omega arith))) ∙ l .inv .2,
+          ∙ ap (λ (x : Bool). l .low && x) (sym (fits-more most32 (a .w .now) (l .i) (a .to) (omega arith) (omega arith))) ∙ l .inv .2,
     )
 
 returns : tie.Need-returns Inv-loop μ-loop
 returns c =
     let a = c .before .before .args in
     let l = c .before .loop in
-    sym (test-end (l .low) (allFit32 (between (l .i) (a .to) (a .w .now))) (fits-end (a .w .now) (l .i) (a .to) (omega arith) (omega arith))) ∙ l .inv .2
+    sym (test-end (l .low) (allFit32 (between (l .i) (a .to) (a .w .now))) (fits-end most32 (a .w .now) (l .i) (a .to) (omega arith) (omega arith))) ∙ l .inv .2
 
 pub all-fit32-spec : {M : Type 1} → statement M
 all-fit32-spec =

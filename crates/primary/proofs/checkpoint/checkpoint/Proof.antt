@@ -63,11 +63,11 @@ append-checkpoint-requires c κs = (accepted (c .before .before), c .before .bef
 clear-requires : tie.Need-clear-requires
 clear-requires c κs = search needs
 
-add-with-epoch-blocks-waiting : tie.Need-add-with-epoch-blocks-waiting
-add-with-epoch-blocks-waiting c = omega (arith, facts (c .before .before .before .before .before .before .before .before .before) .next)
+add-with-epoch-waiting : tie.Need-add-with-epoch-waiting
+add-with-epoch-waiting c = omega (arith, facts (c .before .before .before .before .before .before .before .before .before) .next)
 
-with-epoch-blocks-waiting-requires : tie.Need-with-epoch-blocks-waiting-requires
-with-epoch-blocks-waiting-requires c κs = search needs
+with-epoch-waiting-requires : tie.Need-with-epoch-waiting-requires
+with-epoch-waiting-requires c κs = search needs
 
 same-length-2 : tie.Need-same-length-2
 same-length-2 c = search needs
@@ -83,7 +83,7 @@ returns-2 c =
     let done = c .before .before .before .before .before .before .before .append-checkpoint in
     let w : done .result ≡ a .p .waiting + checkpointLength (a .p .settings .u) (isWide (a .p .settings .m)) (dirtyCount (a .p) (now (a .dirty))) =
     done .ensures .position ∙ ap (λ n. a .p .waiting + n) (length-checkpoint (a .p) (now (a .memory)) (now (a .dirty)) (a .processor) (facts (c .before .before .before .before .before .before .before .before .before .before) .memory-is) (size (c .before .before .before .before .before .before .before .before .before .before .before .before .before .before .before .before .before .before))) in (
-      rw (c .with-epoch-blocks-waiting .ensures, w) (primary-accepts _ _ _ _ _ (number (c .before .before .before .before .before .before .before .before .before .before .before)) (c .before .before .before .before .before .before .before .before .before .before .if1 .left)),
+      rw (c .with-epoch-waiting .ensures, w) (primary-accepts _ _ _ _ _ (number (c .before .before .before .before .before .before .before .before .before .before .before)) (c .before .before .before .before .before .before .before .before .before .before .if1 .left)),
       (marks-left (c .before .before .before), done .ensures .bytes ∙ sym (pick-accepted _ _ _ z)),
     )
 
@@ -98,8 +98,8 @@ checkpoint-spec =
     returns
     append-checkpoint-requires
     clear-requires
-    add-with-epoch-blocks-waiting
-    with-epoch-blocks-waiting-requires
+    add-with-epoch-waiting
+    with-epoch-waiting-requires
     same-length-2
     same-length-3
     returns-2)

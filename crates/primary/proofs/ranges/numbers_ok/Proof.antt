@@ -26,16 +26,20 @@ returns-3 c = simp (ok (c .before .before), lt-ltb _ _ (c .before .if2 .left), l
 returns-4 : tie.Need-returns-4
 returns-4 c = simp (ok (c .before .before .before), lt-ltb _ _ (c .before .before .if2 .left), le-leb _ _ (c .before .if3 .left), lt-leb _ _ (c .if4 .taken))
 
+returns-5 : tie.Need-returns-5
+returns-5 c =
+    simp (ok (c .before .before .before .before), lt-ltb _ _ (c .before .before .before .if2 .left), le-leb _ _ (c .before .before .if3 .left), le-leb _ _ (c .before .if4 .left), lt-leb _ _ (c .if5 .taken))
+
 detector-ok-requires : tie.Need-detector-ok-requires
 detector-ok-requires c κs = search needs
 
-returns-5 : tie.Need-returns-5
-returns-5 c =
-    simp (ok (c .before .before .before .before .before), lt-ltb _ _ (c .before .before .before .before .if2 .left), le-leb _ _ (c .before .before .before .if3 .left), le-leb _ _ (c .before .before .if4 .left), sym (c .before .detector-ok .ensures) ∙ not-true (c .before .detector-ok .result) (c .if5 .taken))
-
 returns-6 : tie.Need-returns-6
 returns-6 c =
-    simp (ok (c .before .before .before .before .before), lt-ltb _ _ (c .before .before .before .before .if2 .left), le-leb _ _ (c .before .before .before .if3 .left), le-leb _ _ (c .before .before .if4 .left), sym (c .before .detector-ok .ensures) ∙ not-false (c .before .detector-ok .result) (c .if5 .left))
+    simp (ok (c .before .before .before .before .before .before), lt-ltb _ _ (c .before .before .before .before .before .if2 .left), le-leb _ _ (c .before .before .before .before .if3 .left), le-leb _ _ (c .before .before .before .if4 .left), le-leb _ _ (c .before .before .if5 .left), sym (c .before .detector-ok .ensures) ∙ not-true (c .before .detector-ok .result) (c .if6 .taken))
+
+returns-7 : tie.Need-returns-7
+returns-7 c =
+    simp (ok (c .before .before .before .before .before .before), lt-ltb _ _ (c .before .before .before .before .before .if2 .left), le-leb _ _ (c .before .before .before .before .if3 .left), le-leb _ _ (c .before .before .before .if4 .left), le-leb _ _ (c .before .before .if5 .left), sym (c .before .detector-ok .ensures) ∙ not-false (c .before .detector-ok .result) (c .if6 .left))
 
 pub numbers-ok-spec : {M : Type 1} → statement M
-numbers-ok-spec = tie.close (tie.spec primary-settings-ok-requires returns returns-2 returns-3 returns-4 detector-ok-requires returns-5 returns-6)
+numbers-ok-spec = tie.close (tie.spec primary-settings-ok-requires returns returns-2 returns-3 returns-4 returns-5 detector-ok-requires returns-6 returns-7)

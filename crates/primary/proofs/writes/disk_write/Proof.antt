@@ -7,6 +7,7 @@ use denote.Ref.{now}
 use Rattle.lists.proofs.TestLaws.{pick-accepted, pick-refused}
 use Rattle.settings.proofs.RangeLaws.{block-record}
 use Rattle.rules.specs.PrimaryWrites.{diskWriteRefusal, diskWriteReply, diskWriteDisk, diskWriteStream}
+use Rattle.rules.proofs.BlocksLaws.{block-allowed}
 use Rattle.rules.proofs.PrimaryFacts.{primary-facts}
 use Rattle.rules.proofs.ReplyLaws.{primary-accepts, primary-refuses}
 use Rattle.rules.proofs.WriteLaws.{DiskWriteRoom, disk-write-accepted, disk-write-end}
@@ -43,7 +44,10 @@ append-block-requires c κs =
     (omega arith, omega arith, λ a. omega (arith, f .room a, block-record (c .before .before .before .before .before .before .before .before .before .before .before .args .p .settings .u)))
 
 disk-write-state-requires : tie.Need-disk-write-state-requires
-disk-write-state-requires c κs = facts (c .before .before .before .before .before .before .before .before) .ok
+disk-write-state-requires c κs =
+    let f = facts (c .before .before .before .before .before .before .before .before) in
+    let g = primary-facts _ (f .ok) in
+    (f .ok, omega arith, λ a. block-allowed _ _ _ _ (f .allowance a))
 
 cast-t22 : tie.Need-cast-t22
 cast-t22 c = let g = c .before .before .before .before .before .before .before .before .before .before .before .before .before .before .before .good .0 in omega arith

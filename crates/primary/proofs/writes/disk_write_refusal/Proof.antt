@@ -7,7 +7,8 @@ use native.Mathlib.Omega.{arith}
 use borrow.Author.Tests.{not-true, not-false, lt-ltb, le-ltb, le-leb, lt-leb, eq-eqb, ne-eqb}
 use Rattle.records.specs.Kind.{BLOCK, recordLength}
 use Rattle.settings.proofs.RangeLaws.{disk-bytes, block-record}
-use Rattle.rules.specs.PrimaryState.{primaryOk}
+use Rattle.rules.specs.Blocks.{blockAllowed}
+use Rattle.rules.specs.PrimaryState.{primaryOk, isWritten}
 use Rattle.rules.specs.PrimaryWrites.{diskWriteRefusal}
 use Rattle.rules.proofs.PrimaryFacts.{primary-facts}
 use Rattle.primary.proofs.writes.disk_write_refusal.Statement.{statement}
@@ -50,30 +51,37 @@ unfolding diskWriteRefusal
 returns-6 c =
     simp (ok (c .before .before .before .before .before), eq-eqb _ _ (c .before .before .before .before .if2 .left), eq-eqb _ _ (c .before .before .before .if3 .left), lt-ltb _ _ (c .before .before .if4 .left), eq-eqb _ _ (c .before .if5 .left), c .if6 .taken)
 
+-- past the test of the allowance the block is allowed
+allowed : (c : tie.Else7) → let p = c .before .before .before .before .before .before .before .before .before .before .args .p in blockAllowed (isWritten p (c .before .before .before .before .before .before .before .before .before .before .args .block)) (p .settings .b) (p .blocks) (p .records) ≡ true
+allowed c = sym (c .before .block-allowed .ensures) ∙ not-false (c .before .block-allowed .result) (c .if7 .left)
+
+block-allowed-requires : tie.Need-block-allowed-requires
+block-allowed-requires c κs = ok (c .before .before .before .before .before)
+
 returns-7 : tie.Need-returns-7
 unfolding diskWriteRefusal
 returns-7 c =
-    simp (ok (c .before .before .before .before .before .before), eq-eqb _ _ (c .before .before .before .before .before .if2 .left), eq-eqb _ _ (c .before .before .before .before .if3 .left), lt-ltb _ _ (c .before .before .before .if4 .left), eq-eqb _ _ (c .before .before .if5 .left), c .before .if6 .left, le-ltb _ _ (c .if7 .taken))
+    simp (ok (c .before .before .before .before .before .before .before), eq-eqb _ _ (c .before .before .before .before .before .before .if2 .left), eq-eqb _ _ (c .before .before .before .before .before .if3 .left), lt-ltb _ _ (c .before .before .before .before .if4 .left), eq-eqb _ _ (c .before .before .before .if5 .left), c .before .before .if6 .left, sym (c .before .block-allowed .ensures) ∙ not-true (c .before .block-allowed .result) (c .if7 .taken))
 
 add-if8 : tie.Need-add-if8
-add-if8 c = let f = primary-facts _ (ok (c .before .before .before .before .before .before)) in omega arith
+add-if8 c = let f = primary-facts _ (ok (c .before .before .before .before .before .before .before)) in omega arith
 
 add-if8-2 : tie.Need-add-if8-2
-add-if8-2 c = let f = primary-facts _ (ok (c .before .before .before .before .before .before)) in omega arith
+add-if8-2 c = let f = primary-facts _ (ok (c .before .before .before .before .before .before .before)) in omega arith
 
 returns-8 : tie.Need-returns-8
 unfolding diskWriteRefusal
 returns-8 c =
-    let p = c .before .before .before .before .before .before .before .before .before .before .args .p in
+    let p = c .before .before .before .before .before .before .before .before .before .before .before .args .p in
     let h : p .settings .l < p .waiting + recordLength (p .settings .u) BLOCK = omega (arith, block-record (p .settings .u)) in
-    simp (ok (c .before .before .before .before .before .before .before), eq-eqb _ _ (c .before .before .before .before .before .before .if2 .left), eq-eqb _ _ (c .before .before .before .before .before .if3 .left), lt-ltb _ _ (c .before .before .before .before .if4 .left), eq-eqb _ _ (c .before .before .before .if5 .left), c .before .before .if6 .left, lt-ltb _ _ (c .before .if7 .left), lt-leb _ _ h)
+    simp (ok (c .before .before .before .before .before .before .before .before), eq-eqb _ _ (c .before .before .before .before .before .before .before .if2 .left), eq-eqb _ _ (c .before .before .before .before .before .before .if3 .left), lt-ltb _ _ (c .before .before .before .before .before .if4 .left), eq-eqb _ _ (c .before .before .before .before .if5 .left), c .before .before .before .if6 .left, allowed (c .before), lt-leb _ _ h)
 
 returns-9 : tie.Need-returns-9
 unfolding diskWriteRefusal
 returns-9 c =
-    let p = c .before .before .before .before .before .before .before .before .before .before .args .p in
+    let p = c .before .before .before .before .before .before .before .before .before .before .before .args .p in
     let h : p .waiting + recordLength (p .settings .u) BLOCK ≤ p .settings .l = omega (arith, block-record (p .settings .u)) in
-    simp (ok (c .before .before .before .before .before .before .before), eq-eqb _ _ (c .before .before .before .before .before .before .if2 .left), eq-eqb _ _ (c .before .before .before .before .before .if3 .left), lt-ltb _ _ (c .before .before .before .before .if4 .left), eq-eqb _ _ (c .before .before .before .if5 .left), c .before .before .if6 .left, lt-ltb _ _ (c .before .if7 .left), le-leb _ _ h)
+    simp (ok (c .before .before .before .before .before .before .before .before), eq-eqb _ _ (c .before .before .before .before .before .before .before .if2 .left), eq-eqb _ _ (c .before .before .before .before .before .before .if3 .left), lt-ltb _ _ (c .before .before .before .before .before .if4 .left), eq-eqb _ _ (c .before .before .before .before .if5 .left), c .before .before .before .if6 .left, allowed (c .before), le-leb _ _ h)
 
 pub disk-write-refusal-spec : {M : Type 1} → statement M
 disk-write-refusal-spec =
@@ -87,6 +95,7 @@ disk-write-refusal-spec =
     returns-4
     returns-5
     returns-6
+    block-allowed-requires
     returns-7
     add-if8
     add-if8-2

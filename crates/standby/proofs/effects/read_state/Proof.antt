@@ -1,6 +1,7 @@
 use Prim.Native.Nat.{_+_, _^_, _<_}
-use mathlib.Core.Path.{sym, ap, _∙_, subst}
-use Rattle.settings.specs.Range.{mostSlots}
+use mathlib.Core.Path.{_≡_, sym, ap, _∙_, subst}
+use Rattle.staging.specs.Slot.{slotFor}
+use Rattle.staging.specs.Fits.{StageFits}
 use Rattle.rules.specs.declared.Standby.{Standby}
 use Rattle.rules.specs.StandbyState.{withDetector}
 use Rattle.standby.proofs.ArmLaws.{state-arm}
@@ -20,7 +21,7 @@ with-detector-requires c κs = search needs
 with-page-requires : tie.Need-with-page-requires
 with-page-requires c κs =
     subst (λ (x : Standby). (x .pages + 1 < 2 ^ 64) × (c .before .before .r .given .0 .1 .1 .0 + 1 < 2 ^ 64)) (sym (c .with-detector .ensures))
-    (rw (c .before .before .r .given .1) at (c .before .before .before .before .before .before .before .pre))
+    (rw (c .before .before .r .given .1) at (c .before .before .before .before .before .before .before .pre .0))
 
 enum-known-r-2 : tie.Need-enum-known-r-2
 enum-known-r-2 c = search needs
@@ -30,8 +31,12 @@ with-detector-requires-2 c κs = search needs
 
 with-block-requires : tie.Need-with-block-requires
 with-block-requires c κs =
-    subst (λ (x : Standby). (x .slots .staged < mostSlots) × (x .blocks + 1 < 2 ^ 64)) (sym (c .with-detector2 .ensures))
-    (rw (c .before .before .r2 .given .1) at (c .before .before .before .before .before .before .before .pre))
+    let slot = c .before .before .before .before .before .before .before .args .slot in
+    let n = c .before .before .r2 .given .0 .1 .0 in
+    let f = rw (c .before .before .r2 .given .1) at (c .before .before .before .before .before .before .before .pre .0) in
+    let k = rw (c .before .before .r2 .given .1) at (c .before .before .before .before .before .before .before .pre .1) in
+    subst (λ (x : Standby). StageFits (x .slots) n × (x .blocks + 1 < 2 ^ 64) × (x .records + 1 < 2 ^ 64) × (slot ≡ slotFor (x .slots) n)) (sym (c .with-detector2 .ensures))
+    (f .0, f .1, f .2, k)
 
 enum-known-r-3 : tie.Need-enum-known-r-3
 enum-known-r-3 c = search needs
@@ -40,7 +45,7 @@ with-detector-requires-3 : tie.Need-with-detector-requires-3
 with-detector-requires-3 c κs = search needs
 
 processor-requires : tie.Need-processor-requires
-processor-requires c κs = rw (c .before .before .r3 .given .1) at (c .before .before .before .before .before .before .before .pre)
+processor-requires c κs = rw (c .before .before .r3 .given .1) at (c .before .before .before .before .before .before .before .pre .0)
 
 with-pending-seen-requires : tie.Need-with-pending-seen-requires
 with-pending-seen-requires c κs = search needs

@@ -49,7 +49,7 @@ read-requires : tie.Need-read-requires
 read-requires c κs = search needs
 
 record-refusal-requires : tie.Need-record-refusal-requires
-record-refusal-requires c κs = search needs
+record-refusal-requires c κs = ok (c .before .before .before .before .before .before)
 
 returns-4 : tie.Need-returns-4
 returns-4 c = sym (judged-number _ _ _ (ok (c .before .before .before .before .before .before .before .before)) (lent (c .before .before .before .before .before .before)) (on (c .before .before .before .before)) (c .before .before .read .result) (found (c .before .before)) (c .before .record-refusal .result) (c .before .record-refusal .ensures) ∙ unless-refused _ _ (c .if4 .taken))

@@ -24,7 +24,7 @@ detector-ok-requires c κs = search needs
 
 returns-2 : tie.Need-returns-2
 unfolding standbyOk
-returns-2 c = rw (sym (c .before .before .before .before .before .before .before .before .standby-settings-ok .ensures) ∙ not-false _ (c .before .before .before .before .before .before .before .if1 .left)) (cc)
+returns-2 c = rw (sym (c .before .before .before .before .before .before .before .before .before .standby-settings-ok .ensures) ∙ not-false _ (c .before .before .before .before .before .before .before .before .if1 .left)) (cc)
 
 pub standby-ok-spec : {M : Type 1} → statement M
 standby-ok-spec =

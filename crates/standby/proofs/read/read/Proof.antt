@@ -1,4 +1,5 @@
-use mathlib.Core.Path.{ap, _∙_}
+use mathlib.Core.Path.{_≡_, ap, _∙_}
+use lib.ListN.{length}
 use Rattle.records.specs.declared.Record.{Record}
 use Rattle.rules.specs.Reply.{answerOf}
 use Rattle.rules.proofs.ReplyLaws.{answered}
@@ -8,17 +9,24 @@ use borrow.Author.Needs.{needs}
 use Rattle.standby.proofs.read.read.Statement.{statement}
 use Rattle.standby.proofs.read.read.Tie as tie
 
+-- the array has an entry for each slot
+array : (c : tie.Start) → length (c .args .s .slots .numbers) ≡ 64
+array c = search needs
+
 judged-requires : tie.Need-judged-requires
 judged-requires c κs = search needs
 
+slot-of-requires : tie.Need-slot-of-requires
+slot-of-requires c κs = rw (c .judged .ensures) (judged-fits _ _ _ (array (c .before .before .before .before .before .before .before)) .0)
+
 read-state-requires : tie.Need-read-state-requires
-read-state-requires c κs = rw (c .judged .ensures) (judged-fits _ _ _ .0)
+read-state-requires c κs = (rw (c .before .judged .ensures) (judged-fits _ _ _ (array (c .before .before .before .before .before .before .before .before)) .1), c .slot-of .ensures)
 
 answer-of-requires : tie.Need-answer-of-requires
 answer-of-requires c κs = search needs
 
 apply-requires : tie.Need-apply-requires
-apply-requires c κs = rw (c .before .before .before .before .before .before .before .judged .ensures) (judged-fits _ _ _ .1)
+apply-requires c κs = (rw (c .before .before .before .before .before .before .before .before .judged .ensures) (judged-fits _ _ _ (array (c .before .before .before .before .before .before .before .before .before .before .before .before .before .before .before)) .2), c .before .before .before .before .before .before .before .slot-of .ensures)
 
 same-length : tie.Need-same-length
 same-length c = search needs
@@ -38,8 +46,8 @@ same-length-5 c = search needs
 returns : tie.Need-returns
 unfolding readReply readMemory readStagedPages readStagedMarks readStagedBlocks readReplyBytes
 returns c =
-    let a = c .before .before .before .before .before .before .before .before .before .before .before .before .before .before .before .before .before .before .before .before .before .before .before .before .before .args in
-    let j = c .before .before .before .before .before .before .before .before .before .before .before .before .before .before .before .before .before .before .judged .ensures in
+    let a = c .before .before .before .before .before .before .before .before .before .before .before .before .before .before .before .before .before .before .before .before .before .before .before .before .before .before .args in
+    let j = c .before .before .before .before .before .before .before .before .before .before .before .before .before .before .before .before .before .before .before .judged .ensures in
     let w = c .before .before .before .before .before .before .before .before .before .before .apply .ensures in (
       rw (c .before .before .before .before .before .before .before .before .before .before .before .before .before .before .before .before .before .read-state .ensures, c .before .before .before .before .before .before .before .before .before .before .before .before .before .before .before .before .answer-of .ensures)
           (ap (λ (r : Record). record { state = readState (a .s) (a .bytes .now) r; answer = answerOf r }) j),
@@ -51,6 +59,7 @@ read-spec =
     tie.close
     (tie.spec
     judged-requires
+    slot-of-requires
     read-state-requires
     answer-of-requires
     apply-requires
