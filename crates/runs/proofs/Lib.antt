@@ -67,6 +67,7 @@ pub mod ExchangeLaws
 pub mod Rounds
 pub mod CatchUpProved
 pub mod ProgressRefutes
+pub mod BlockRefutations
 pub mod PortRefutations
 pub mod SilenceLaws
 pub mod SilenceProved
