@@ -49,7 +49,9 @@ fn output_of(program: &str, script: &[u8], piece: usize, most: u64) -> Result<Ve
         match output {
             Err(_) => Err("the program does not end".into()),
             Ok(Err(error)) => Err(error.to_string()),
-            Ok(Ok(bytes)) if (bytes.len() as u64) < most && !status.success() => Err(format!("the program ended with {status}")),
+            Ok(Ok(bytes)) if (bytes.len() as u64) < most && !status.success() => {
+                Err(format!("the program ended with {status}"))
+            }
             Ok(Ok(bytes)) => Ok(bytes),
         }
     })
@@ -78,10 +80,10 @@ fn first_difference(one: &[u8], other: &[u8]) -> (usize, String, String) {
 }
 
 /// Nothing where the outputs agree, else the report.
-fn compare(program: &str, name: &str, script: &[u8], piece: usize, told: Option<&str>) -> Option<String> {
+fn compare(program: &str, name: &str, script: &[u8], piece: usize, told: &Option<String>) -> Option<String> {
     let wanted = model::run(script);
-    if told.is_some_and(|told| told.as_bytes() != wanted) {
-        return Some(format!("{name}: the model itself differs from document 01"));
+    if told.as_ref().is_some_and(|told| told.as_bytes() != wanted) {
+        return Some(format!("{name}: the model itself differs from the output written by hand"));
     }
     let output = match output_of(program, script, piece, wanted.len() as u64 + 4096) {
         Ok(output) if output == wanted => return None,
@@ -92,7 +94,9 @@ fn compare(program: &str, name: &str, script: &[u8], piece: usize, told: Option<
     // Each line of input prints one line, so what comes after the differing line is not needed.
     let lines = model::lines(script);
     let needed: Vec<u8> = lines[..lines.len().min(at + 1)].join(&b'\n');
-    Some(format!("{name}: outputs differ\nscript up to the difference: {}\nline {}: model {ours}, program {theirs}", shown(&needed), at + 1))
+    let (script, line) = (shown(&needed), at + 1);
+    let differing = format!("line {line}: model {ours}, program {theirs}");
+    Some(format!("{name}: outputs differ\nscript up to the difference: {script}\n{differing}"))
 }
 
 /// Sizes of the pieces that a script is written in: mostly the whole at once.
@@ -146,8 +150,8 @@ fn all(program: &str, count: u64, first: u64) -> bool {
                     }
                     let seed = first.wrapping_add(at.wrapping_sub(fixed.len() as u64));
                     let (name, script, told) = match fixed.get(at as usize) {
-                        Some((name, script, told)) => (format!("fixed script, {name}"), script.clone(), *told),
-                        None => (format!("seed {seed}"), script_of(seed), None),
+                        Some((name, script, told)) => (format!("fixed script, {name}"), script.clone(), told),
+                        None => (format!("seed {seed}"), script_of(seed), &None),
                     };
                     let piece = piece_of(seed, script.len());
                     if let Some(report) = compare(program, &name, &script, piece, told) {

@@ -13,12 +13,13 @@ use std::collections::VecDeque;
 pub const U: usize = 64; // bytes in a page and in a block
 pub const M: usize = 4; // memory pages
 pub const D: usize = 4; // disk blocks
-pub const B: usize = 2; // block writes allowed per epoch
+pub const B: usize = 2; // different blocks that may be written in an epoch
 pub const S: usize = 4; // block slots staged at the standby
 pub const Q: usize = 256; // bytes of held packets
 pub const L: usize = 1024; // bytes of outgoing stream
 pub const T: u32 = 3; // ticks of patience
 pub const PACKETS: usize = 64; // packets held at most
+pub const RECORDS: usize = 65_535; // BLOCK records in an epoch at most
 const LONGEST_PACKET: u64 = 1514;
 
 const PAGE: u16 = 1;
@@ -143,12 +144,19 @@ impl Pair {
                 if let Some(bytes) = ack {
                     self.acks.push_back(bytes);
                     self.checkpoints.pop_front();
+                    self.check_disk();
                 }
                 Ok(kind as u64)
             }
             Reading::CutShort => panic!("the link holds a whole record"),
             Reading::Refused(number) => Err(number),
         }
+    }
+
+    /// Document 02, Job 9: "the disk at each checkpoint, all due flushed, is what it was", that is
+    /// the primary's at that checkpoint.
+    fn check_disk(&self) {
+        assert!(self.standby.flushed_disk() == self.checkpoints[0].1, "the disk is not the checkpoint's");
     }
 
     fn next_ack(&mut self) -> Answer {
@@ -184,7 +192,7 @@ impl Pair {
 
 /// "`w p v`, `d b v`, `s n`, `c v`, `m`, `a`, `t`, `f`, `k`": the letter, single spaces, decimal
 /// numbers, nothing else; v is 0 to 255, other numbers at most 4,294,967,295.
-fn parse(line: &[u8]) -> Option<(char, Vec<u64>)> {
+pub fn parse(line: &[u8]) -> Option<(char, Vec<u64>)> {
     const BYTE: u64 = 255;
     const WORD: u64 = 4_294_967_295;
     let words: Vec<&[u8]> = line.split(|byte| *byte == b' ').collect();

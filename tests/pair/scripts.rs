@@ -1,5 +1,9 @@
 //! The scripts: random ones, each from its seed, and fixed ones.
 
+mod fixed;
+
+pub use fixed::fixed_scripts;
+
 /// Splitmix64.
 pub struct Random(pub u64);
 
@@ -39,6 +43,8 @@ struct Writer {
     script: Vec<u8>,
     /// One line in so many is malformed; 0 is none.
     malformed: u64,
+    /// The block of the last `d`.
+    block: String,
 }
 
 impl Writer {
@@ -65,9 +71,14 @@ impl Writer {
         }
     }
 
+    /// A command of a letter; `r` stands for a `d` to the block of the last one.
     fn command(&mut self, letter: char) -> String {
+        if letter == 'd' {
+            self.block = self.number(4);
+        }
         match letter {
-            'w' | 'd' => format!("{letter} {} {}", self.number(4), self.number(256)),
+            'w' => format!("w {} {}", self.number(4), self.number(256)),
+            'd' | 'r' => format!("d {} {}", self.block.clone(), self.number(256)),
             's' => {
                 let usual = *self.random.pick(&[&2, &5, &12, &60, &300]);
                 format!("s {}", self.number(usual))
@@ -129,8 +140,14 @@ impl Writer {
                 let byte = random.pick(&[&128, &0]) + random.below(128) as u8;
                 inside(&good, random, &[byte])
             }
-            16 => format!("{}{}", random.pick(&["?", "x", "b", "0", "7", "#", "ww", "mk", "kk", "é"]), &good[1..]).into_bytes(),
-            17 => last(random.pick(&["0x1", "1.0", "1e1", "1_0", "1/", ":", "1:", "/", "a", "", "1,000", "١"])).into_bytes(),
+            16 => {
+                let other = random.pick(&["?", "x", "b", "0", "7", "#", "ww", "mk", "kk", "é"]);
+                format!("{other}{}", &good[1..]).into_bytes()
+            }
+            17 => {
+                let other = ["0x1", "1.0", "1e1", "1_0", "1/", ":", "1:", "/", "a", "", "1,000", "١"];
+                last(random.pick(&other)).into_bytes()
+            }
             18 => format!("{letter}{letter}").into_bytes(),
             19 => letter.as_bytes().to_vec(),
             20 => vec![*random.pick(&[&b'm', &b' ', &b'1', &b'k', &0, &255]); random.below(5000) as usize],
@@ -148,16 +165,42 @@ impl Writer {
         }
     }
 
+    /// Document 02, Job 9: blocks written again and again, with others between them, so that an
+    /// epoch has far more writes than blocks.
+    fn repeats(&mut self) {
+        for _ in 0..1 + self.random.below(5) {
+            self.some("rrrd", 20);
+            self.some("rrdmmf", 16);
+            self.any_of("c", 1);
+            self.some("mmf", 20);
+        }
+    }
+
+    /// Four slots due and up to two of them flushed, then blocks of the next epoch, new or again.
+    fn repeats_at_full_slots(&mut self) {
+        self.move_all();
+        self.put("c 1");
+        self.move_all();
+        for line in ["d 0 1", "d 1 1", "c 1", "d 2 2", "d 3 2", "c 2"] {
+            self.put(line);
+        }
+        self.any_of("m", 8);
+        self.some("f", 3);
+        self.any_of("dm", 4);
+        self.some("rm", 12);
+        self.some("drmmf", 20);
+    }
+
     /// A stretch of one character.
     fn stretch(&mut self) {
-        match self.random.below(13) {
+        match self.random.below(16) {
             // all commands alike
-            0 => self.some("wdscmatf", 80),
+            0 => self.some("wdrscmatf", 80),
             // epochs of random size, more or less moved
             1 | 2 => {
                 for _ in 0..1 + self.random.below(12) {
                     self.some("wwwd", 6);
-                    self.some("d", 4);
+                    self.some("dr", 5);
                     self.some("s", 3);
                     self.any_of("c", 1);
                     self.some("m", 12);
@@ -169,7 +212,7 @@ impl Writer {
             // many epochs, wholly moved
             3 => {
                 for _ in 0..1 + self.random.below(40) {
-                    self.any_of("wdds", 4);
+                    self.any_of("wddrs", 4);
                     self.any_of("c", 1);
                     self.any_of("m", 6);
                     self.any_of("atff", 5);
@@ -188,8 +231,8 @@ impl Writer {
             }
             // the stream filled, little or nothing moved
             6 => {
-                self.some("wwwwddcc", 40);
-                self.some("wwwwddccm", 20);
+                self.some("wwwwddrcc", 40);
+                self.some("wwwwddrccm", 20);
             }
             // the stream filled to its last byte: a COMMIT of 12 left at the head, then 5
             // checkpoints of 84 and 8 pages or blocks of 74, together 1,024
@@ -243,6 +286,8 @@ impl Writer {
             }
             // what is under way comes through
             11 => self.some("mmfat", 70),
+            12 | 13 => self.repeats(),
+            14 => self.repeats_at_full_slots(),
             // malformed lines
             _ => {
                 for _ in 0..self.random.below(20) {
@@ -278,14 +323,14 @@ impl Writer {
 pub fn script_of(seed: u64) -> Vec<u8> {
     let mut random = Random(seed.wrapping_mul(0xd134_2543_de82_ef95));
     let malformed = *random.pick(&[&0, &0, &60, &8]);
-    let mut writer = Writer { random, script: Vec::new(), malformed };
+    let mut writer = Writer { random, script: Vec::new(), malformed, block: "0".into() };
     match writer.random.below(300) {
         // longer than 65,536 bytes: thousands of epochs
         0 => {
             let length = 66_000 + writer.random.below(120_000) as usize;
             let unread = writer.random.one_in(2);
             while writer.script.len() < length {
-                writer.any_of("wds", 2);
+                writer.any_of("wdrs", 2);
                 writer.any_of("c", 1);
                 writer.any_of("mmmmff", 8);
                 if !unread {
@@ -323,7 +368,8 @@ pub fn script_of(seed: u64) -> Vec<u8> {
         }
         // bytes from a small alphabet
         3..=22 => {
-            let alphabet = writer.random.pick(&["wdscmatfk 0123456789\n\n\n  ", "wdscmatf  0011234\n\n\n\n\n\n\n"]).as_bytes();
+            let alphabets = ["wdscmatfk 0123456789\n\n\n  ", "wdscmatf  0011234\n\n\n\n\n\n\n"];
+            let alphabet = writer.random.pick(&alphabets).as_bytes();
             for _ in 0..writer.random.below(600) {
                 let at = writer.random.below(alphabet.len() as u64) as usize;
                 writer.script.push(alphabet[at]);
@@ -350,49 +396,4 @@ pub fn script_of(seed: u64) -> Vec<u8> {
     }
     writer.end();
     writer.script
-}
-
-// ---- Fixed scripts ----
-
-const E1: &str = "w 1 7\ns 10\nc 5\nt\nm\nm\nm\na\nt\nk\n";
-const E1_OUT: &str = "w 0 1\ns 0 1\nc 0 1\nt 18 0\nm 0 1\nm 0 3\nm 0 4\na 0 1\nt 0 10\nk 0 1\n";
-const E2: &str = "w 1 7\ns 10\nc 5\nt\nm\nm\nk\n";
-const E2_OUT: &str = "w 0 1\ns 0 1\nc 0 1\nt 18 0\nm 0 1\nm 0 3\nk 0 0\n";
-const E8: &str = "d 0 1\nd 1 1\nd 2 1\n";
-const E8_OUT: &str = "d 0 1\nd 0 1\nd 14 0\n";
-
-/// Name, script, and the output where document 01 gives it.
-pub fn fixed_scripts() -> Vec<(String, Vec<u8>, Option<&'static str>)> {
-    let mut list: Vec<(String, Vec<u8>, Option<&str>)> = vec![
-        ("E1".into(), E1.into(), Some(E1_OUT)),
-        ("E2".into(), E2.into(), Some(E2_OUT)),
-        ("E8".into(), E8.into(), Some(E8_OUT)),
-    ];
-    for text in ["", "\n", "\n\n", "k", "k\n", "k\nk\n", "k \n", "K\n", "m", " ", "\r\n", "m\r\nk\r\n", "k\0\n", "\0", "w 0 1 ", "w 0", "w"] {
-        list.push((format!("short {}", text.escape_default()), text.into(), None));
-    }
-    // Epochs past 16 bits, and as many unread ACKs.
-    let long = "c 0\nm\nm\n".repeat(70_000) + "s 9\n" + &"a\n".repeat(70_001) + "t\nc 0\nm\nm\na\nt\nk\n";
-    list.push(("70000 epochs".into(), long.into(), None));
-    // Lines far longer than any buffer.
-    let zeros = "0".repeat(200_000);
-    let long = format!("w {zeros}1 {zeros}7\nc {zeros}1{zeros}\n{zeros}\nc {zeros}5\nm\nm\nm\na\nk{zeros}\nk");
-    list.push(("long lines".into(), long.into(), None));
-    // A line that lies across, or ends at, a likely size of a piece read at once; and inputs
-    // that end there, with and without a last newline, with `k` and with a line after it.
-    for size in [512, 1024, 4096, 8192, 16384, 32768, 65536, 131_072] {
-        for shift in 0..7 {
-            let mut script = Vec::new();
-            let front = size - shift;
-            while script.len() + 64 <= front {
-                script.extend(format!("w 0 {:059}\n", script.len() % 256).bytes());
-            }
-            script.resize(front, b'\n');
-            for (name, rest) in [("run", "w 1 7\ns 10\nc 5\nm\nm\nm\nk\n"), ("end", "w 1 7"), ("k end", "k"), ("k", "k\nm\n")] {
-                let whole = [&script, rest.as_bytes()].concat();
-                list.push((format!("{name} at {front}"), whole, None));
-            }
-        }
-    }
-    list
 }

@@ -1,7 +1,10 @@
 //! What the scripts reached: every (letter, number) that was printed, and the situations that must come.
 
 use crate::model::{self, Pair};
+use repeats::Repeats;
 use std::collections::BTreeMap;
+
+mod repeats;
 
 /// Every (letter, number) that `pair` can print. Why no other one can come, at these settings:
 /// - 1 only for a line that is no command: start is accepted, every lent length is right and no
@@ -14,8 +17,9 @@ use std::collections::BTreeMap;
 /// - 12 never: the disk choice is not a command.
 /// - 13 never: no command ticks the primary, so it is not alone; the standby stops receiving at
 ///   `k` only, which is the end, and activation comes after the three ticks that take over.
-/// - 14 only at `d`: the standby's count of an epoch never passes the primary's. 15 at `d` and
-///   `c`, 16 at `s`, 17 at `m` (S is 4, B is 2: a BLOCK of the third epoch unflushed).
+/// - 14 only at `d`: the standby's counts of an epoch's different blocks and of its records never
+///   pass the primary's. 15 at `d` and `c`, 16 at `s`, 17 at `m` (S is 4, B is 2: a BLOCK of the
+///   third epoch unflushed).
 /// - 18 at `m`, `a` and `t`: nothing there. 19 would take 4,294,967,294 checkpoints. 20 never:
 ///   `k` flushes all that is due.
 /// - `f` and `k` are always accepted.
@@ -26,9 +30,9 @@ pub const CAN_COME: [(char, u64); 21] = [
 ];
 
 /// Situations that the scripts must reach, counted in `observe`.
-pub const REACHED: [&str; 47] = [
+pub const REACHED: [&str; 63] = [
     "m moved a PAGE", "m moved a BLOCK", "m moved a STATE", "m moved a COMMIT",
-    "17 again by the next m", "the refused BLOCK accepted after a flush", "a slot used again",
+    "17 again by the next m", "the refused BLOCK accepted after a flush", "a freed slot used again",
     "f with nothing due", "f stored a block", "f with staged blocks, none due",
     "stream filled to its last byte", "15 at d with an empty epoch", "c accepted after 15 at c",
     "2 before 14", "2 before 15", "14 before 15",
@@ -40,6 +44,12 @@ pub const REACHED: [&str; 47] = [
     "last line k without newline", "input over 65536 bytes", "line over 65536 bytes",
     "? empty line", "? space first, last or doubled", "? carriage return", "? plus or minus", "? capital letter",
     "? byte above 127", "? NUL", "? number too large",
+    "d again beyond B writes", "d again with B blocks written", "15 for a block again with B blocks written",
+    "14 for another block after repeats", "14 for a block of the epoch before", "14 for a block refused with 15 before",
+    "14 at 65535 records for a block again", "14 at 65535 records for another block below B",
+    "m read a block again", "m read a block again with S staged", "m read a block again after a flush in its epoch",
+    "m read a block first that is due too", "17 after repeats in the epoch", "17 for a block that is due",
+    "COMMIT of more records than blocks", "k after repeats in the epoch",
 ];
 
 type Counts = BTreeMap<(char, u64), u64>;
@@ -74,7 +84,8 @@ impl Tally {
 pub fn observe(script: &[u8], tally: &mut Tally) {
     let mut pair = Pair::start();
     let mut last = BTreeMap::new(); // each letter's last number
-    let (mut blocks_read, mut most_acks) = (0, 0);
+    let (mut slots_taken, mut most_acks) = (0, 0);
+    let mut repeats = Repeats::default();
     let lines = model::lines(script);
     tally.scripts += 1;
     tally.reach("no input", script.is_empty());
@@ -84,8 +95,10 @@ pub fn observe(script: &[u8], tally: &mut Tally) {
         let (stream, link) = (pair.primary.stream.len(), pair.link.len());
         let (staged, due) = (pair.standby.blocks.len(), pair.standby.due);
         let (packets, bytes) = (pair.primary.held.len(), pair.primary.held_bytes());
-        let (epoch_blocks, acks) = (pair.primary.epoch_blocks, pair.acks.len());
+        let (epoch_blocks, acks) = (pair.primary.epoch_blocks.len(), pair.acks.len());
+        repeats.before(&pair, line);
         let (letter, number, value) = pair.line(line);
+        repeats.after((letter, number, value), tally);
         let before = last.insert(letter, number);
         tally.lines += 1;
         *tally.printed.entry((letter, number)).or_default() += 1;
@@ -94,8 +107,9 @@ pub fn observe(script: &[u8], tally: &mut Tally) {
             ('m', 0) => {
                 let names = ["m moved a PAGE", "m moved a BLOCK", "m moved a STATE", "m moved a COMMIT"];
                 tally.reach(names[value as usize - 1], true);
-                blocks_read += (value == 2) as usize;
-                tally.reach("a slot used again", blocks_read > model::S && value == 2);
+                let new_slot = pair.standby.blocks.len() > staged;
+                slots_taken += new_slot as usize;
+                tally.reach("a freed slot used again", new_slot && slots_taken > model::S);
                 tally.reach("the refused BLOCK accepted after a flush", before == Some(17));
                 most_acks = most_acks.max(pair.acks.len());
                 tally.reach("100 unread ACKs", pair.acks.len() == 100 && value == 4);
@@ -143,7 +157,8 @@ pub fn observe(script: &[u8], tally: &mut Tally) {
                 let has = |wanted: fn(&u8) -> bool| line.iter().any(wanted);
                 let doubled = line.windows(2).any(|two| two == b"  ");
                 tally.reach("? empty line", line.is_empty());
-                tally.reach("? space first, last or doubled", doubled || line.first() == Some(&b' ') || line.last() == Some(&b' '));
+                let at_an_end = line.first() == Some(&b' ') || line.last() == Some(&b' ');
+                tally.reach("? space first, last or doubled", doubled || at_an_end);
                 tally.reach("? carriage return", line.last() == Some(&b'\r'));
                 tally.reach("? plus or minus", has(|byte| *byte == b'+' || *byte == b'-'));
                 tally.reach("? capital letter", line.first().is_some_and(u8::is_ascii_uppercase));

@@ -1,6 +1,7 @@
 //! The primary.
 
 use super::*;
+use std::collections::BTreeSet;
 
 pub struct Primary {
     pub memory: Vec<u8>,
@@ -8,7 +9,10 @@ pub struct Primary {
     pub dirty: [bool; M],
     pub open: u32,
     pub acknowledged: u32,
-    pub epoch_blocks: usize,
+    /// The different blocks written in the open epoch.
+    pub epoch_blocks: BTreeSet<u64>,
+    /// BLOCK records of the open epoch, one for each disk write.
+    pub records: usize,
     pub stream: VecDeque<u8>,
     pub held: VecDeque<(u32, Vec<u8>)>,
 }
@@ -21,7 +25,8 @@ impl Primary {
             dirty: [false; M],
             open: 1,
             acknowledged: 0,
-            epoch_blocks: 0,
+            epoch_blocks: BTreeSet::new(),
+            records: 0,
             stream: VecDeque::new(),
             held: VecDeque::new(),
         }
@@ -37,12 +42,14 @@ impl Primary {
         Ok(self.open as u64)
     }
 
-    /// Disk write: 2, then 14, then 15.
+    /// Disk write: 2, then 14, then 15. Document 02, Job 9: the allowance counts different blocks,
+    /// while each write appends a BLOCK.
     pub fn write_block(&mut self, block: u64, bytes: &[u8; U]) -> Answer {
         if block >= D as u64 {
             return Err(2);
         }
-        if self.epoch_blocks == B {
+        let again = self.epoch_blocks.contains(&block);
+        if self.records == RECORDS || !again && self.epoch_blocks.len() == B {
             return Err(14);
         }
         let sent = record(BLOCK, self.open, &[&(block as u16).to_le_bytes(), bytes]);
@@ -50,7 +57,8 @@ impl Primary {
             return Err(15);
         }
         self.disk[block as usize * U..][..U].copy_from_slice(bytes);
-        self.epoch_blocks += 1;
+        self.epoch_blocks.insert(block);
+        self.records += 1;
         self.stream.extend(sent);
         Ok(self.open as u64)
     }
@@ -83,7 +91,8 @@ impl Primary {
             }
         }
         sent.extend(record(STATE, self.open, &[processor]));
-        let blocks = self.epoch_blocks as u16;
+        // document 02, Job 9: "COMMIT's count is still of records"
+        let blocks = self.records as u16;
         sent.extend(record(COMMIT, self.open, &[&pages.to_le_bytes(), &blocks.to_le_bytes()]));
         if self.stream.len() + sent.len() > L {
             return Err(15);
@@ -93,7 +102,8 @@ impl Primary {
         }
         self.stream.extend(sent);
         self.dirty = [false; M];
-        self.epoch_blocks = 0;
+        self.epoch_blocks.clear();
+        self.records = 0;
         self.open += 1;
         Ok(self.open as u64 - 1)
     }

@@ -22,6 +22,8 @@ pub struct Standby {
     /// Staged blocks in order of arrival; the first `due` of them are due.
     pub blocks: VecDeque<(u16, Vec<u8>)>,
     pub due: usize,
+    /// BLOCK records of the epoch under way, those that reused a slot too.
+    pub records: usize,
     pub count: u32,
     pub area: [u8; 8],
 }
@@ -45,6 +47,7 @@ impl Standby {
             staged_processor: None,
             blocks: VecDeque::new(),
             due: 0,
+            records: 0,
             count: 0,
             area: [0; 8],
         }
@@ -80,15 +83,31 @@ impl Standby {
             PAGE => {
                 self.pages.insert(two(body, 4), body[6..].to_vec());
             }
-            BLOCK => self.blocks.push_back((two(body, 4), body[6..].to_vec())),
+            BLOCK => self.stage(two(body, 4), body[6..].to_vec()),
             STATE => self.staged_processor = Some(body[4..].try_into().unwrap()),
             _ => ack = Some(self.commit(four(body, 0))),
         }
         Reading::Accepted(kind, 4 + length, ack)
     }
 
+    /// The different blocks of the epoch under way: each has one slot, which is not yet due.
     pub fn epoch_blocks(&self) -> usize {
         self.blocks.len() - self.due
+    }
+
+    /// The first slot of a block staged in the epoch under way. Due slots are of earlier epochs.
+    pub fn slot_of(&self, block: u16) -> Option<usize> {
+        (self.due..self.blocks.len()).find(|slot| self.blocks[*slot].0 == block)
+    }
+
+    /// Document 02, Job 9: "reuses the first such slot, with the later bytes and the earlier place";
+    /// else the next slot.
+    fn stage(&mut self, block: u16, bytes: Vec<u8>) {
+        match self.slot_of(block) {
+            Some(slot) => self.blocks[slot].1 = bytes,
+            None => self.blocks.push_back((block, bytes)),
+        }
+        self.records += 1;
     }
 
     pub fn refusal(&self, kind: u16, body: &[u8]) -> Option<u64> {
@@ -99,7 +118,8 @@ impl Standby {
             STATE => state_seen,
             _ => !state_seen,
         };
-        let counts = (self.pages.len(), self.epoch_blocks());
+        let counts = (self.pages.len(), self.records);
+        let again = kind == BLOCK && self.slot_of(two(body, 4)).is_some();
         if kind == PAGE && two(body, 4) as usize >= M || kind == BLOCK && two(body, 4) as usize >= D {
             Some(2)
         } else if four(body, 0) as u64 != self.received as u64 + 1 {
@@ -108,9 +128,9 @@ impl Standby {
             Some(9)
         } else if kind == COMMIT && (two(body, 4) as usize, two(body, 6) as usize) != counts {
             Some(10)
-        } else if kind == BLOCK && self.epoch_blocks() == B {
+        } else if kind == BLOCK && (self.records == RECORDS || !again && self.epoch_blocks() == B) {
             Some(14)
-        } else if kind == BLOCK && self.blocks.len() == S {
+        } else if kind == BLOCK && !again && self.blocks.len() == S {
             Some(17)
         } else {
             None
@@ -124,6 +144,7 @@ impl Standby {
         }
         self.processor = self.staged_processor.take().unwrap();
         self.due = self.blocks.len();
+        self.records = 0;
         self.received = epoch;
         record(ACK, epoch, &[]).try_into().unwrap()
     }
@@ -138,6 +159,15 @@ impl Standby {
         stored as u64
     }
 
+    /// The disk that a flush of all due would give.
+    pub fn flushed_disk(&self) -> Vec<u8> {
+        let mut disk = self.disk.clone();
+        for (block, bytes) in self.blocks.range(..self.due) {
+            disk[*block as usize * U..][..U].copy_from_slice(bytes);
+        }
+        disk
+    }
+
     /// At T it takes over: staged pages and blocks not yet due are dropped.
     pub fn tick(&mut self) {
         if self.mode != Mode::Receiving {
@@ -149,6 +179,7 @@ impl Standby {
             self.pages.clear();
             self.staged_processor = None;
             self.blocks.truncate(self.due);
+            self.records = 0;
         }
     }
 
