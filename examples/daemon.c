@@ -84,6 +84,10 @@ static void run_guest(struct primary *p)
     }
 }
 
+/*
+ * Where the stream lacks the space, the guest waits until a later call finds it: else the guest
+ * could take it with a block that it writes again and again, to which B sets no limit.
+ */
 static void make_checkpoint(struct primary *p)
 {
     uint8_t processor[PROCESSOR_BYTES];
@@ -93,7 +97,8 @@ static void make_checkpoint(struct primary *p)
     trial_checkpoint(p->state[PRIMARY_EPOCH], p->steps);
     answer = primary_checkpoint(LENT(p->state), LENT(p->memory), LENT(p->dirty), LENT(p->stream),
                                 processor);
-    if (answer_number(answer) != NUMBER_STREAM_FULL) /* else the pages go with the next one */
+    p->guest_waits = answer_number(answer) == NUMBER_STREAM_FULL;
+    if (!p->guest_waits)
         accepted(answer, "checkpoint");
 }
 
@@ -160,7 +165,7 @@ void run_primary(struct primary *p)
             full[port] = release_packets(p, port);
         wait_until(guest + GUEST_MS, &p->link, LENT(full)); /* the guest's time comes first */
         read_acks(p);
-        if (is_due(&guest, GUEST_MS))
+        if (is_due(&guest, GUEST_MS) && !p->guest_waits)
             run_guest(p);
         if (is_due(&checkpoint, CHECKPOINT_MS))
             make_checkpoint(p);
@@ -175,8 +180,12 @@ void run_primary(struct primary *p)
 
 static uint32_t flush(struct standby *s, size_t blocks)
 {
-    return accepted(standby_flush(LENT(s->state), s->pending, s->processor,
-                                  LENT(s->staged_blocks), LENT(s->disk), blocks), "flush");
+    uint32_t stored = accepted(standby_flush(LENT(s->state), s->pending, s->processor,
+                                             LENT(s->staged_blocks), LENT(s->disk), blocks),
+                               "flush");
+
+    trial_flush(stored);
+    return stored;
 }
 
 /* receive does not ask whether what is missing fits: so the longest record of any pair must. */
@@ -217,8 +226,8 @@ static int has_ack_space(const struct connection *k)
 }
 
 /*
- * Reads up to a COMMIT at most, B + M + 2 records: then its ACK is sent, and flushes and ticks have
- * their turn, however fast records come.
+ * Reads up to a COMMIT at most, MOST_RECORDS + M + 2 records: then its ACK is sent, and flushes and
+ * ticks have their turn, however fast records come.
  */
 static void read_records(struct standby *s)
 {

@@ -36,7 +36,8 @@ struct primary {
     uint8_t memory[M * U], disk[D * U], held[Q], stream[L];
     struct connection link;
     struct card cards[PORTS]; /* by port */
-    uint64_t steps; /* that the guest has made */
+    uint64_t steps;  /* that the guest has made */
+    int guest_waits; /* for a checkpoint that the stream has no space for yet */
 };
 
 struct standby {

@@ -19,14 +19,23 @@ static void random_bytes(uint64_t *state, uint8_t *bytes, size_t length)
         bytes[i] = (uint8_t)next_random(state);
 }
 
+/* What a step does that does not write the header block. */
+static enum action other_action(unsigned choice)
+{
+    if (HEADER_ONLY)
+        return MEMORY_WRITE;
+    return choice == 0 ? DISK_WRITE : choice <= 3 ? PACKET : MEMORY_WRITE;
+}
+
 void make_step(uint64_t n, struct step *s)
 {
     static const size_t units[] = {[MEMORY_WRITE] = M, [DISK_WRITE] = D, [PACKET] = PORTS};
-    uint64_t random = (n + 40) << 32; /* 40: so that a block is among the first steps */
+    uint64_t random = (n + 40) << 32; /* 40: so that another block is among the first steps */
     unsigned choice = next_random(&random) % 16;
+    int is_header = n % HEADER_STEPS == 0;
 
-    s->action = choice == 0 ? DISK_WRITE : choice <= 3 ? PACKET : MEMORY_WRITE;
-    s->unit = next_random(&random) % units[s->action];
+    s->action = is_header ? DISK_WRITE : other_action(choice);
+    s->unit = is_header ? HEADER_BLOCK : next_random(&random) % units[s->action];
     s->offset = s->action == MEMORY_WRITE ? next_random(&random) % U : 0;
     s->length = s->action == DISK_WRITE ? U : 1 + next_random(&random) % (U - s->offset);
     random_bytes(&random, s->bytes, s->length);
@@ -90,6 +99,22 @@ int processor_equal(uint64_t n, const uint8_t processor[PROCESSOR_BYTES])
 
     processor_after(n, wanted);
     return equal("processor state", processor, wanted, PROCESSOR_BYTES);
+}
+
+unsigned different_blocks(uint64_t from, uint64_t to)
+{
+    int is_written[D] = {0};
+    unsigned count = 0;
+    struct step s;
+
+    for (uint64_t i = from; i < to; i++) {
+        make_step(i, &s);
+        if (s.action == DISK_WRITE && !is_written[s.unit]) {
+            is_written[s.unit] = 1;
+            count++;
+        }
+    }
+    return count;
 }
 
 int is_next_packet(uint64_t *steps, size_t port, const uint8_t *packet, size_t length)

@@ -7,6 +7,7 @@
  * checkpoint. Every packet that had left, by the cable of its port, must have been sent before that
  * checkpoint. No record may have been tested before the bytes had come that were missing at its
  * last test, and every PAGE and COMMIT must have been of the width that the guest's pages call for.
+ * A block that the guest wrote again and again in an epoch must have been stored once for it.
  *
  *     daemon N           kills the primary after the standby has read N records
  *     daemon N KIND      the same after N records of a KIND: page, block, state or commit
@@ -14,8 +15,8 @@
  *     daemon random      kills it after a random number of records
  *     daemon .. pieces   any of these, and both ends send a few bytes at a time
  *
- * Exit status: 0 all is equal, 1 something differs, was tested too early or is of the wrong width,
- * 2 the program could not do its work.
+ * Exit status: 0 all is equal, 1 something differs, was tested too early, is of the wrong width or
+ * was stored too often, 2 the program could not do its work.
  */
 
 #define _GNU_SOURCE
@@ -61,6 +62,13 @@ static unsigned other_width;                     /* those of a width that M does
 static struct tests tests;                       /* of these, and of the one not read yet */
 static int lost;                                 /* whether the place was reached */
 static pid_t primary_process, network_process;
+
+/* BLOCKs read: of the epoch under way, of all received epochs, and of the one that has most. */
+static struct {
+    unsigned now, received, most;
+    unsigned different; /* different blocks of each received epoch, by the guest's steps */
+    unsigned stored;    /* blocks that flush has stored */
+} blocks;
 
 /* What the children tell the parent. */
 static struct {
@@ -254,6 +262,21 @@ static int is_other_width(unsigned kind)
     return kind == RECORD_WIDE_PAGE || kind == RECORD_WIDE_COMMIT;
 }
 
+/* The guest's steps at a checkpoint: 0 at checkpoint 0. */
+static uint64_t steps_at(uint64_t epoch)
+{
+    return shared->steps_at[epoch % EPOCHS_KEPT];
+}
+
+static void count_received_blocks(uint64_t epoch)
+{
+    blocks.received += blocks.now;
+    if (blocks.now > blocks.most)
+        blocks.most = blocks.now;
+    blocks.now = 0;
+    blocks.different += different_blocks(steps_at(epoch - 1), steps_at(epoch));
+}
+
 void trial_record(struct standby *s, unsigned kind)
 {
     records[0]++;
@@ -261,8 +284,17 @@ void trial_record(struct standby *s, unsigned kind)
     if (is_other_width(kind))
         other_width++;
     tests.now = 0;
+    if (kind == RECORD_BLOCK)
+        blocks.now++;
+    if (record_is_commit(kind))
+        count_received_blocks(s->state[STANDBY_RECEIVED]);
     if (!lost && records[place_kind] == place)
         lose_primary(s);
+}
+
+void trial_flush(uint32_t stored)
+{
+    blocks.stored += stored;
 }
 
 void shut_off_primary(void)
@@ -279,7 +311,7 @@ void shut_off_primary(void)
 /* Whether what the standby has now is this checkpoint, the last that it received. */
 static int has_checkpoint(const struct primary *p, const struct standby *s, uint32_t epoch)
 {
-    uint64_t steps = shared->steps_at[epoch % EPOCHS_KEPT]; /* 0 at checkpoint 0 */
+    uint64_t steps = steps_at(epoch);
     uint64_t choice = pair_disk_choice(LENT(p->disk), LENT(s->disk), LENT(s->area));
     int good = images_equal(steps, s->memory, s->disk);
 
@@ -312,6 +344,23 @@ static int right_width(void)
         return 1;
     printf("%u records are of the width that %d pages do not call for\n", other_width, M);
     return 0;
+}
+
+/*
+ * Whether each different block of a received epoch was stored once for it; and whether some epoch
+ * had more BLOCKs than B, so that a slot was reused: the first has them in the guest's first run.
+ */
+static int slots_reused(void)
+{
+    if (blocks.stored != blocks.different) {
+        printf("%u blocks stored, and not %u\n", blocks.stored, blocks.different);
+        return 0;
+    }
+    if (records[RECORD_COMMIT] > 0 && blocks.most <= B) {
+        printf("no received checkpoint has more than %d blocks\n", B);
+        return 0;
+    }
+    return 1;
 }
 
 /* The guest goes on from the processor state taken over; nothing holds its packets any more. */
@@ -352,8 +401,11 @@ int main(int argc, char **argv)
     printf("%u records read in %u tests: %u blocks, %u pages, %u states, %u commits\n",
            records[0], tests.all, records[RECORD_BLOCK], records[RECORD_PAGE],
            records[RECORD_STATE], records[RECORD_COMMIT]);
+    printf("received checkpoints have %u blocks, up to %u in one; %u blocks stored\n",
+           blocks.received, blocks.most, blocks.stored);
     if (end_of(network_process) != 0 || !has_checkpoint(&primary, &standby, epoch) ||
         !few_tests("record", &tests) || !few_tests("ACK", &shared->ack_tests) || !right_width() ||
+        !slots_reused() ||
         !images_equal(run_guest_at_standby(&standby), standby.memory, standby.disk))
         return 1;
     printf("took over checkpoint %u: memory, disk and processor state equal; "

@@ -22,6 +22,9 @@ void trial_test(void);
 /* The standby has read a record of this kind. Where this is the place, the primary is lost now. */
 void trial_record(struct standby *s, unsigned kind);
 
+/* The standby has stored so many blocks. */
+void trial_flush(uint32_t stored);
+
 /* Returns once the primary does not run any more. */
 void shut_off_primary(void);
 

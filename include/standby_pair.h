@@ -55,9 +55,9 @@
  * A state is words (and, for the standby, pending and processor). Words that are no state are
  * refused with 1, and nothing is changed: their count is not exact; T, the count of ticks or an
  * epoch (open, acknowledged, received, of any of the 64 packets) is not below 2^32; the length or
- * the port of any of the 64 packets is not below 2^16; alone or STATE seen is above 1; the mode is
- * above 2. All other words are taken as they are, and the ranges of a state in documents 01 and 02
- * are then judged, with 1 too.
+ * the port of any of the 64 packets, or any of a primary's 64 block numbers, is not below 2^16;
+ * alone or STATE seen is above 1; the mode is above 2. All other words are taken as they are, and
+ * the ranges of a state in documents 01 and 02 are then judged, with 1 too.
  */
 
 #ifndef STANDBY_PAIR_H
@@ -94,10 +94,10 @@ enum {
     NUMBER_BAD_ACK = 11,        /* the ACK is old, or of an epoch not yet closed */
     NUMBER_BAD_AREA = 12,       /* the record area is neither zero nor an activation */
     NUMBER_WRONG_MODE = 13,     /* alone, not receiving, not taking over, or not active */
-    NUMBER_ALLOWANCE_USED = 14, /* the epoch already has B blocks */
+    NUMBER_ALLOWANCE_USED = 14, /* the epoch has B other blocks already, or MOST_RECORDS BLOCKs */
     NUMBER_STREAM_FULL = 15,    /* the stream lacks the bytes needed */
     NUMBER_QUEUE_FULL = 16,     /* 64 packets are held, or Q would be passed */
-    NUMBER_SLOTS_FULL = 17,     /* S blocks are staged */
+    NUMBER_SLOTS_FULL = 17,     /* S blocks are staged, and this epoch has not staged this one */
     NUMBER_NOTHING_FREE = 18,   /* no packet of the port may be handed out */
     NUMBER_LAST_EPOCH = 19,     /* the open epoch is 4294967295 */
     NUMBER_BLOCKS_DUE = 20,     /* blocks are still due at activation */
@@ -142,7 +142,7 @@ enum {
     SETTING_U = 0, /* bytes in a page and in a block: 64 to 4096, a multiple of 64 */
     SETTING_M = 1, /* memory pages: 1 to 65536 */
     SETTING_D = 2, /* disk blocks: 0 to 4096 */
-    SETTING_B = 3, /* block writes allowed per epoch: 0 to 64 */
+    SETTING_B = 3, /* different blocks allowed per epoch: 0 to 64 */
     SETTING_S = 4, /* block slots staged at the standby: B to 64 */
     SETTING_Q = 5, /* bytes of held packets: 0 to 32768 */
     SETTING_L = 6, /* bytes of outgoing stream: LEAST_STREAM(U, M, B) to 536870912 */
@@ -157,6 +157,8 @@ enum {
     MOST_PACKET_BYTES = 1514,
     MOST_PORT = 3, /* ports are 0 to 3: four network cards */
     MOST_SLOTS = 64,
+    MOST_BLOCKS = 64,     /* different blocks of an epoch: the largest B */
+    MOST_RECORDS = 65535, /* BLOCKs of an epoch, those of a block written again too */
 
     /*
      * Whole records: a BLOCK has U + UNIT_RECORD bytes, and so has a PAGE of kind 1. Above
@@ -182,13 +184,20 @@ enum {
 /* Words of dirty marks, and of staged marks, for m pages. */
 #define MARK_WORDS(m) (((m) + 63) / 64)
 
-/* The least L: a checkpoint of every page, with all the blocks of its epoch. */
+/*
+ * The least L: a checkpoint of every page, with B different blocks, each written once. An epoch in
+ * which blocks are written again may need more: 15 is then given until drain has made the space.
+ */
 #define LEAST_STREAM(u, m, b) \
     ((m) * PAGE_BYTES(u, m) + (b) * ((u) + +UNIT_RECORD) + STATE_RECORD + COMMIT_BYTES(m))
 
 /* ---- The states, word by word. ---- */
 
-/* A primary. Its packet i begins at word PRIMARY_PACKETS + i * PACKET_WORDS. */
+/*
+ * A primary. Its packet i begins at word PRIMARY_PACKETS + i * PACKET_WORDS. Its first
+ * PRIMARY_BLOCKS block numbers are those of the open epoch, in the order in which these blocks were
+ * first written; the others mean nothing.
+ */
 enum {
     PRIMARY_U = 0,
     PRIMARY_M = 1,
@@ -201,12 +210,14 @@ enum {
     PRIMARY_EPOCH = 8,        /* the open epoch */
     PRIMARY_ACKNOWLEDGED = 9, /* the last acknowledged epoch */
     PRIMARY_ALONE = 10,       /* 1 when alone, else 0 */
-    PRIMARY_BLOCKS = 11,      /* block writes of the open epoch */
-    PRIMARY_WAITING = 12,     /* bytes of the stream that wait for drain */
-    PRIMARY_HELD_PACKETS = 13,
-    PRIMARY_HELD_BYTES = 14,
-    PRIMARY_PACKETS = 15,     /* MOST_PACKETS packets of PACKET_WORDS words, oldest first */
-    PRIMARY_WORDS = 207,
+    PRIMARY_BLOCKS = 11,      /* different blocks written in the open epoch */
+    PRIMARY_RECORDS = 12,     /* BLOCKs of the open epoch, those of a block written again too */
+    PRIMARY_WAITING = 13,     /* bytes of the stream that wait for drain */
+    PRIMARY_HELD_PACKETS = 14,
+    PRIMARY_HELD_BYTES = 15,
+    PRIMARY_PACKETS = 16,     /* MOST_PACKETS packets of PACKET_WORDS words, oldest first */
+    PRIMARY_WRITTEN = 208,    /* MOST_BLOCKS numbers of blocks written */
+    PRIMARY_WORDS = 272,
 
     PACKET_EPOCH = 0,         /* the words of a packet */
     PACKET_LENGTH = 1,
@@ -228,11 +239,12 @@ enum {
     STANDBY_STAGED = 9,      /* blocks staged, those that are due among them */
     STANDBY_DUE = 10,        /* blocks that are due */
     STANDBY_SLOTS = 11,      /* MOST_SLOTS block numbers, oldest first */
-    STANDBY_BLOCKS = 75,     /* BLOCKs of the checkpoint under way */
-    STANDBY_PAGES = 76,      /* PAGEs of the checkpoint under way */
-    STANDBY_NEXT_PAGE = 77,  /* the least page number that may come next */
-    STANDBY_STATE_SEEN = 78, /* 1 once its STATE has come, else 0 */
-    STANDBY_WORDS = 79
+    STANDBY_BLOCKS = 75,     /* different blocks of the checkpoint under way */
+    STANDBY_RECORDS = 76,    /* its BLOCKs, those of a block that came again too */
+    STANDBY_PAGES = 77,      /* PAGEs of the checkpoint under way */
+    STANDBY_NEXT_PAGE = 78,  /* the least page number that may come next */
+    STANDBY_STATE_SEEN = 79, /* 1 once its STATE has come, else 0 */
+    STANDBY_WORDS = 80
 };
 
 enum {
@@ -283,9 +295,11 @@ uint64_t primary_memory_write(uint64_t *state, size_t state_len, uint8_t *memory
                               size_t offset, const uint8_t *bytes, size_t bytes_len);
 
 /*
- * Disk write: one block, U bytes, stored on the disk, and a BLOCK appended to the stream. When
- * alone nothing is appended or counted.
- * Gives 1 2 3 14 15, when alone no 14 and 15. After 14 the guest waits for the next checkpoint,
+ * Disk write: one block, U bytes, stored on the disk, and a BLOCK appended to the stream. A block
+ * written before in the open epoch takes no more of the allowance B, but a BLOCK is appended each
+ * time. When alone nothing is appended or counted.
+ * Gives 1 2 3 14 15, when alone no 14 and 15. 14: the epoch already has B different blocks and this
+ * is another one, or it has MOST_RECORDS BLOCKs. After 14 the guest waits for the next checkpoint,
  * after 15 for drain. Value: the open epoch. Changes: state, disk, stream.
  */
 uint64_t primary_disk_write(uint64_t *state, size_t state_len, uint8_t *disk, size_t disk_len,
@@ -303,10 +317,12 @@ uint64_t primary_packet(uint64_t *state, size_t state_len, uint8_t *held, size_t
 
 /*
  * Checkpoint: appends every dirty page, STATE with this processor state, and COMMIT to the stream;
- * clears the marks; opens the next epoch. The guest stands still from the moment of its processor
- * state until the call has returned.
- * Gives 1 13 15 19. After 15, drain and call again: the marks are kept, nothing is lost.
- * Value: the epoch closed. Changes: state, dirty, stream.
+ * clears the marks; opens the next epoch. COMMIT counts the epoch's PAGEs and BLOCKs, a block
+ * written again each time. The guest stands still from the moment of its processor state until the
+ * call has returned.
+ * Gives 1 13 15 19. After 15, drain and call again: the marks are kept, nothing is lost. Let the
+ * guest write no block before that: one that it writes again and again, to which B sets no limit,
+ * could take the space that drain makes. Value: the epoch closed. Changes: state, dirty, stream.
  */
 uint64_t primary_checkpoint(uint64_t *state, size_t state_len, const uint8_t *memory,
                             size_t memory_len, uint64_t *dirty, size_t dirty_len, uint8_t *stream,
@@ -358,15 +374,18 @@ uint64_t primary_tick(uint64_t *state, size_t state_len);
 
 /*
  * Read: reads one record at the head of bytes; bytes behind it are not looked at. A PAGE or BLOCK
- * is staged. A COMMIT copies the staged pages into memory, keeps the processor state, makes the
- * blocks due and writes the ACK into the first ACK_RECORD bytes of reply, for the host to send
- * back: only then is the checkpoint received. A COMMIT was accepted where the number is 0 and
- * record_is_commit (link.h) holds of the value: its kind is 4 or, with M above 4096, 9.
+ * is staged. A BLOCK of a block that is staged and not due, which is one of the same epoch, reuses
+ * the first such slot: the later bytes at the earlier place. A COMMIT copies the staged pages into
+ * memory, keeps the processor state, makes the blocks due and writes the ACK into the first
+ * ACK_RECORD bytes of reply, for the host to send back: only then is the checkpoint received. A
+ * COMMIT was accepted where the number is 0 and record_is_commit (link.h) holds of the value: its
+ * kind is 4 or, with M above 4096, 9.
  * Gives 1 13, cut short (of its header), 6 7, cut short (of its body), 2, 5 (COMMIT only), 8 9 10
- * 14 17. After 17, flush and give the same record again. 6 is given to PAGE and COMMIT of the width
- * that M does not call for (link.h). Value: the record's own kind, 1 to 4, or with M above 4096 8 2
- * 3 9; used: its bytes; missing: 1 to 4 bytes of a header, or 1 to U + 6 of a body, U + 8 with M
- * above 4096.
+ * 14 17. 10 compares COMMIT's count of blocks with the BLOCKs received. 14 is as in a disk write,
+ * of the epoch under way; where a slot is reused, 17 is not given. After 17, flush and give the
+ * same record again. 6 is given to PAGE and COMMIT of the width that M does not call for (link.h).
+ * Value: the record's own kind, 1 to 4, or with M above 4096 8 2 3 9; used: its bytes; missing: 1
+ * to 4 bytes of a header, or 1 to U + 6 of a body, U + 8 with M above 4096.
  * Changes: state; by a PAGE staged_pages and staged_marks, by a BLOCK staged_blocks, by a STATE
  * pending, by a COMMIT processor, memory, staged_marks and reply.
  */
@@ -378,7 +397,7 @@ uint64_t standby_read(uint64_t *state, size_t state_len, uint8_t *pending, uint8
 
 /*
  * Flush: stores min(n, due) due blocks on the disk, in order of arrival, and frees their slots. In
- * any mode.
+ * any mode. A block that came several times in an epoch is one of them, with its last bytes.
  * Gives 1. Value: blocks stored. Changes: state, staged_blocks, disk.
  */
 uint64_t standby_flush(uint64_t *state, size_t state_len, uint8_t *pending, uint8_t *processor,

@@ -2,7 +2,8 @@
  * Both headers in one program, which is C99 and C++ at once: the constants against what
  * tests/calls/FORM.md says, and every call once, at settings that are all different, with the words
  * of the states read by their names; the calls that read a record also with its first bytes only,
- * and with the kinds that are for other settings.
+ * and with the kinds that are for other settings; those that write or read a block also with the
+ * same block again, up to what an epoch may have of it.
  *
  * A failing check is printed; the last line is 'N passed, M failed'.
  */
@@ -17,21 +18,23 @@
 #define NAMED(line) JOINED(check_, line)
 #define STATIC_CHECK(condition) typedef char NAMED(__LINE__)[(condition) ? 1 : -1]
 
-/* FORM.md: "A primary is 207 numbers". */
+/* FORM.md: "A primary is 272 numbers". */
 STATIC_CHECK(PRIMARY_U == 0 && PRIMARY_M == 1 && PRIMARY_D == 2 && PRIMARY_B == 3);
 STATIC_CHECK(PRIMARY_Q == 4 && PRIMARY_L == 5 && PRIMARY_T == 6 && PRIMARY_TICKS == 7);
 STATIC_CHECK(PRIMARY_EPOCH == 8 && PRIMARY_ACKNOWLEDGED == 9 && PRIMARY_ALONE == 10);
-STATIC_CHECK(PRIMARY_BLOCKS == 11 && PRIMARY_WAITING == 12);
-STATIC_CHECK(PRIMARY_HELD_PACKETS == 13 && PRIMARY_HELD_BYTES == 14 && PRIMARY_PACKETS == 15);
+STATIC_CHECK(PRIMARY_BLOCKS == 11 && PRIMARY_RECORDS == 12 && PRIMARY_WAITING == 13);
+STATIC_CHECK(PRIMARY_HELD_PACKETS == 14 && PRIMARY_HELD_BYTES == 15 && PRIMARY_PACKETS == 16);
 STATIC_CHECK(PACKET_EPOCH == 0 && PACKET_LENGTH == 1 && PACKET_PORT == 2 && PACKET_WORDS == 3);
-STATIC_CHECK(PRIMARY_WORDS == 207 && PRIMARY_WORDS == 15 + 64 * 3);
+STATIC_CHECK(PRIMARY_WRITTEN == 208 && PRIMARY_WRITTEN == 16 + 64 * 3);
+STATIC_CHECK(PRIMARY_WORDS == 272 && PRIMARY_WORDS == 208 + 64);
 
-/* FORM.md: "A standby is 79 numbers and two processor states". */
+/* FORM.md: "A standby is 80 numbers and two processor states". */
 STATIC_CHECK(STANDBY_U == 0 && STANDBY_M == 1 && STANDBY_D == 2 && STANDBY_B == 3);
 STATIC_CHECK(STANDBY_S == 4 && STANDBY_T == 5 && STANDBY_TICKS == 6 && STANDBY_MODE == 7);
 STATIC_CHECK(STANDBY_RECEIVED == 8 && STANDBY_STAGED == 9 && STANDBY_DUE == 10);
-STATIC_CHECK(STANDBY_SLOTS == 11 && STANDBY_BLOCKS == 11 + 64 && STANDBY_PAGES == 76);
-STATIC_CHECK(STANDBY_NEXT_PAGE == 77 && STANDBY_STATE_SEEN == 78 && STANDBY_WORDS == 79);
+STATIC_CHECK(STANDBY_SLOTS == 11 && STANDBY_BLOCKS == 11 + 64 && STANDBY_RECORDS == 76);
+STATIC_CHECK(STANDBY_PAGES == 77 && STANDBY_NEXT_PAGE == 78 && STANDBY_STATE_SEEN == 79);
+STATIC_CHECK(STANDBY_WORDS == 80);
 STATIC_CHECK(MODE_RECEIVING == 0 && MODE_TAKING_OVER == 1 && MODE_ACTIVE == 2);
 
 /* FORM.md: start's "U M D B S Q L T". */
@@ -66,6 +69,9 @@ STATIC_CHECK(LEAST_STREAM(4096, 65536, 64) == 269484760);
 
 /* Document 02's Job 6: ports 0 to 3, and 23 above. */
 STATIC_CHECK(MOST_PORT == 3 && NUMBER_NO_SUCH_PORT == 23);
+
+/* Document 02's Job 9: an epoch has B different blocks, 64 at most, and 65,535 BLOCKs. */
+STATIC_CHECK(MOST_BLOCKS == 64 && MOST_RECORDS == 65535);
 
 /* The macros take expressions, and are parts of expressions. */
 STATIC_CHECK(2 * PAGE_BYTES(32 + 32, 4096 + 1) == 152 && 2 * COMMIT_BYTES(4096 + 1) == 32);
@@ -242,6 +248,7 @@ static void accepted_start(void)
     CHECK(p.state[PRIMARY_T], T);
     CHECK(p.state[PRIMARY_EPOCH], 1);
     CHECK(p.state[PRIMARY_ACKNOWLEDGED], 0);
+    CHECK(all_are(p.state + PRIMARY_ALONE, (PRIMARY_WORDS - PRIMARY_ALONE) * 8, 0), 1);
     CHECK(s.state[STANDBY_U], U);
     CHECK(s.state[STANDBY_M], M);
     CHECK(s.state[STANDBY_D], D);
@@ -250,6 +257,7 @@ static void accepted_start(void)
     CHECK(s.state[STANDBY_T], T);
     CHECK(s.state[STANDBY_MODE], MODE_RECEIVING);
     CHECK(s.state[STANDBY_RECEIVED], 0);
+    CHECK(all_are(s.state + STANDBY_RECEIVED, (STANDBY_WORDS - STANDBY_RECEIVED) * 8, 0), 1);
 }
 
 static uint64_t send_packet(size_t port, const uint8_t *packet, size_t length)
@@ -293,7 +301,25 @@ static void packets(void)
     CHECK(second[PACKET_PORT], 1);
 }
 
-/* Page 65, block 4, the two packets, and checkpoint 1. */
+/* The block of this number, all bytes this one. */
+static uint64_t write_block(size_t block, uint8_t byte)
+{
+    uint8_t block_bytes[U];
+
+    memset(block_bytes, byte, sizeof block_bytes);
+    return primary_disk_write(LENT(p.state), LENT(p.disk), LENT(p.stream), block,
+                              LENT(block_bytes));
+}
+
+/* The words about the blocks of the open epoch; nothing but its BLOCKs waits in the stream. */
+static void check_written(uint64_t blocks, uint64_t records)
+{
+    CHECK(p.state[PRIMARY_BLOCKS], blocks);
+    CHECK(p.state[PRIMARY_RECORDS], records);
+    CHECK(p.state[PRIMARY_WAITING], records * (U + 10));
+}
+
+/* Page 65, blocks 4, 2 and 4 again, the two packets, and checkpoint 1. */
 static void first_epoch(void)
 {
     memset(bytes, 7, sizeof bytes);
@@ -302,19 +328,26 @@ static void first_epoch(void)
                  LENT(p.dirty), 65, U - 5, bytes, 5), 0, 1);
     CHECK(p.dirty[1] & 63, 2);
     CHECK(p.dirty[1] >> 6, UINT64_C(0xeeeeeeeeeeeeeeee) >> 6); /* bits past M are kept */
-    check_answer("disk write", primary_disk_write(LENT(p.state), LENT(p.disk), LENT(p.stream), 4,
-                 bytes, U), 0, 1);
-    CHECK(p.state[PRIMARY_BLOCKS], 1);
-    CHECK(p.state[PRIMARY_WAITING], U + 10);
+    check_answer("disk write", write_block(4, 7), 0, 1);
+    check_written(1, 1);
+    check_answer("disk write", write_block(2, 7), 0, 1);
+    check_written(2, 2);
+    check_answer("disk write", write_block(4, 9), 0, 1);
+    check_written(2, 3);
+    CHECK(all_are(p.disk + 4 * U, U, 9) && all_are(p.disk + 2 * U, U, 7), 1);
     packets();
     check_answer("checkpoint", primary_checkpoint(LENT(p.state), LENT(p.memory), LENT(p.dirty),
                  LENT(p.stream), state_bytes), 0, 1);
     CHECK(p.state[PRIMARY_EPOCH], 2);
+    CHECK(p.state[PRIMARY_BLOCKS], 0);
+    CHECK(p.state[PRIMARY_RECORDS], 0);
+    CHECK(p.state[PRIMARY_WRITTEN], 4); /* a checkpoint changes the counts alone */
+    CHECK(p.state[PRIMARY_WRITTEN + 1], 2);
     check_answer("tick", primary_tick(LENT(p.state)), 0, 0);
     CHECK(p.state[PRIMARY_TICKS], 1);
     check_answer("take", take_packet(3), NUMBER_NOTHING_FREE, 0);
     check_answer("drain", primary_drain(LENT(p.state), LENT(p.stream), L, LENT(link_bytes)), 0,
-                 2 * (U + 10) + 84);
+                 4 * (U + 10) + 84);
     CHECK(p.state[PRIMARY_WAITING], 0);
 }
 
@@ -394,32 +427,68 @@ static void received_by_missing(void)
     size_t at = 0;
 
     memcpy(before, &s, sizeof s);
-    at = read_by_missing(at, U + 10);
-    at = read_by_missing(at, U + 10);
+    for (unsigned i = 1; i <= 4; i++) /* three BLOCKs and a PAGE */
+        at = read_by_missing(at, U + 10);
     at = read_by_missing(at, STATE_RECORD);
     read_by_missing(at, COMMIT_RECORD);
     CHECK(s.state[STANDBY_RECEIVED], 1);
     memcpy(&s, before, sizeof s);
 }
 
+/* The words about the blocks of the epoch under way, none of which is due. */
+static void check_staged(uint64_t blocks, uint64_t records)
+{
+    CHECK(s.state[STANDBY_STAGED], blocks);
+    CHECK(s.state[STANDBY_DUE], 0);
+    CHECK(s.state[STANDBY_BLOCKS], blocks);
+    CHECK(s.state[STANDBY_RECORDS], records);
+}
+
+/* Blocks 4, 2 and 4 again: the later bytes are in the first one's slot. */
+static size_t read_blocks(size_t at)
+{
+    at = read_one(at, RECORD_BLOCK, U + 10);
+    check_staged(1, 1);
+    at = read_one(at, RECORD_BLOCK, U + 10);
+    check_staged(2, 2);
+    CHECK(all_are(s.staged_blocks, 2 * U, 7), 1);
+    at = read_one(at, RECORD_BLOCK, U + 10);
+    check_staged(2, 3);
+    CHECK(s.state[STANDBY_SLOTS], 4);
+    CHECK(s.state[STANDBY_SLOTS + 1], 2);
+    CHECK(all_are(s.staged_blocks, U, 9) && all_are(s.staged_blocks + U, U, 7), 1);
+    return at;
+}
+
+/* A COMMIT counts the BLOCKs: with the count of different blocks it gives 10. */
+static void read_commit(size_t at)
+{
+    static const uint8_t commit1[] = {8, 0, 4, 0, 1, 0, 0, 0, 1, 0, 3, 0};
+    uint8_t other[sizeof commit1];
+
+    CHECK(memcmp(link_bytes + at, commit1, sizeof commit1) == 0, 1);
+    memcpy(other, commit1, sizeof other);
+    other[10] = 2;
+    check_answer("a COMMIT of 2 blocks", read_bytes(LENT(other)), NUMBER_BAD_COUNTS, 0);
+    read_one(at, RECORD_COMMIT, COMMIT_RECORD);
+    CHECK(s.state[STANDBY_BLOCKS], 0);
+    CHECK(s.state[STANDBY_RECORDS], 0);
+}
+
 static void records(void)
 {
     static const uint8_t ack1[] = {4, 0, 5, 0, 1, 0, 0, 0}; /* E3 */
-    size_t at = 0;
+    size_t at = read_blocks(0);
 
-    at = read_one(at, RECORD_BLOCK, U + 10);
-    CHECK(s.state[STANDBY_STAGED], 1);
-    CHECK(s.state[STANDBY_SLOTS], 4);
-    CHECK(s.state[STANDBY_BLOCKS], 1);
     at = read_one(at, RECORD_PAGE, U + 10);
     CHECK(s.state[STANDBY_PAGES], 1);
     CHECK(s.state[STANDBY_NEXT_PAGE], 66);
     at = read_one(at, RECORD_STATE, STATE_RECORD);
     CHECK(s.state[STANDBY_STATE_SEEN], 1);
     CHECK(all_are(s.pending, 64, 8) && all_are(s.processor, 64, 3), 1);
-    read_one(at, RECORD_COMMIT, COMMIT_RECORD);
+    read_commit(at);
     CHECK(s.state[STANDBY_RECEIVED], 1);
-    CHECK(s.state[STANDBY_DUE], 1);
+    CHECK(s.state[STANDBY_DUE], 2);
     CHECK(all_are(s.processor, 64, 8), 1);
     CHECK(memcmp(p.memory, s.memory, sizeof p.memory) == 0, 1);
     CHECK(memcmp(reply, ack1, sizeof ack1) == 0, 1);
@@ -533,6 +602,243 @@ static void taken_by_port(void)
     CHECK(all_are(bytes, 9, 8), 1);
 }
 
+/* ---- The same block again and again: each test leaves both ends as they were. ---- */
+
+static uint8_t primary_before[sizeof p], standby_before[sizeof s];
+
+static void keep_ends(void)
+{
+    memcpy(primary_before, &p, sizeof p);
+    memcpy(standby_before, &s, sizeof s);
+}
+
+static void put_ends_back(void)
+{
+    memcpy(&p, primary_before, sizeof p);
+    memcpy(&s, standby_before, sizeof s);
+}
+
+static uint64_t tick_standby(void)
+{
+    return standby_tick(LENT(s.state), s.pending, s.processor, LENT(s.staged_marks));
+}
+
+static uint64_t flush(size_t n)
+{
+    return standby_flush(LENT(s.state), s.pending, s.processor, LENT(s.staged_blocks),
+                         LENT(s.disk), n);
+}
+
+/* A BLOCK of epoch 1, all bytes of the block this one. */
+static uint64_t read_block(uint8_t block, uint8_t byte)
+{
+    uint8_t record[U + 10] = {U + 6, 0, RECORD_BLOCK, 0, 1, 0, 0, 0, block, 0};
+
+    memset(record + 10, byte, U);
+    return read_bytes(LENT(record));
+}
+
+static const uint8_t some_blocks[B] = {4, 0, 2}; /* B different ones */
+
+/* With B different blocks another one gives 14, and each of them may be written again. */
+static void written_at_the_allowance(void)
+{
+    keep_ends();
+    for (size_t i = 0; i < B; i++)
+        check_answer("a block", write_block(some_blocks[i], 5), 0, 1);
+    check_answer("a block above B", write_block(1, 5), NUMBER_ALLOWANCE_USED, 0);
+    for (size_t i = 0; i < B; i++)
+        check_answer("a block again", write_block(some_blocks[i], 6), 0, 1);
+    check_answer("a block above B", write_block(3, 5), NUMBER_ALLOWANCE_USED, 0);
+    check_written(B, 2 * B);
+    for (size_t i = 0; i < B; i++) {
+        CHECK(p.state[PRIMARY_WRITTEN + i], some_blocks[i]);
+        CHECK(all_are(p.disk + some_blocks[i] * U, U, 6), 1);
+    }
+    CHECK(all_are(p.state + PRIMARY_WRITTEN + B, (PRIMARY_WORDS - PRIMARY_WRITTEN - B) * 8, 0), 1);
+    CHECK(all_are(p.disk + U, U, 2) && all_are(p.disk + 3 * U, U, 2), 1);
+    put_ends_back();
+}
+
+/* A BLOCK is appended each time: without the space 15 is given, after 14; alone neither of them. */
+static void written_without_space(void)
+{
+    keep_ends();
+    for (size_t i = 0; i < B; i++)
+        check_answer("a block", write_block(some_blocks[i], 5), 0, 1);
+    p.state[PRIMARY_WAITING] = L - (U + 10) + 1;
+    check_answer("a block again", write_block(4, 6), NUMBER_STREAM_FULL, 0);
+    check_answer("a block above B", write_block(1, 6), NUMBER_ALLOWANCE_USED, 0);
+    p.state[PRIMARY_WAITING] = L - (U + 10);
+    check_answer("a block again", write_block(4, 6), 0, 1);
+    CHECK(p.state[PRIMARY_WAITING], L);
+    CHECK(p.state[PRIMARY_RECORDS], B + 1);
+    p.state[PRIMARY_ALONE] = 1;
+    check_answer("a block above B when alone", write_block(1, 6), 0, 1);
+    CHECK(p.state[PRIMARY_BLOCKS], B);
+    CHECK(p.state[PRIMARY_RECORDS], B + 1);
+    put_ends_back();
+}
+
+/* Words of a primary with so many BLOCKs: 14 at MOST_RECORDS, whatever the block, above it 1. */
+static void written_at_most_records(void)
+{
+    keep_ends();
+    check_answer("a block", write_block(4, 5), 0, 1);
+    p.state[PRIMARY_RECORDS] = MOST_RECORDS - 1;
+    check_answer("BLOCK 65535", write_block(4, 6), 0, 1);
+    CHECK(p.state[PRIMARY_RECORDS], MOST_RECORDS);
+    check_answer("BLOCK 65536, again", write_block(4, 7), NUMBER_ALLOWANCE_USED, 0);
+    check_answer("BLOCK 65536, another", write_block(0, 7), NUMBER_ALLOWANCE_USED, 0);
+    CHECK(all_are(p.disk + 4 * U, U, 6), 1);
+    check_answer("a tick at 65535 BLOCKs", primary_tick(LENT(p.state)), 0, 0);
+    p.state[PRIMARY_RECORDS] = MOST_RECORDS + 1;
+    check_answer("a tick at 65536 BLOCKs", primary_tick(LENT(p.state)), NUMBER_OUT_OF_RANGE, 0);
+    check_answer("a write at 65536", write_block(4, 7), NUMBER_OUT_OF_RANGE, 0);
+    CHECK(p.state[PRIMARY_RECORDS], 65536);
+    p.state[PRIMARY_RECORDS] = 0; /* below the blocks: no range is about that */
+    p.state[PRIMARY_BLOCKS] = B;
+    check_answer("a tick at B blocks", primary_tick(LENT(p.state)), 0, 0);
+    p.state[PRIMARY_BLOCKS] = B + 1;
+    check_answer("a tick above B blocks", primary_tick(LENT(p.state)), NUMBER_OUT_OF_RANGE, 0);
+    put_ends_back();
+}
+
+/* The same of the standby, and its slots; when it takes over, what is not due is dropped. */
+static void read_at_the_allowance(void)
+{
+    keep_ends();
+    for (size_t i = 0; i < B; i++)
+        check_answer("a BLOCK", read_block(some_blocks[i], 5), 0, RECORD_BLOCK);
+    check_answer("a BLOCK above B", read_block(1, 5), NUMBER_ALLOWANCE_USED, 0);
+    for (size_t i = 0; i < B; i++)
+        check_answer("a BLOCK again", read_block(some_blocks[i], 6), 0, RECORD_BLOCK);
+    check_answer("a BLOCK above B", read_block(3, 5), NUMBER_ALLOWANCE_USED, 0);
+    check_staged(B, 2 * B);
+    for (size_t i = 0; i < B; i++)
+        CHECK(s.state[STANDBY_SLOTS + i], some_blocks[i]);
+    CHECK(all_are(s.staged_blocks, B * U, 6), 1);
+    check_answer("flush before COMMIT", flush(S), 0, 0);
+    CHECK(all_are(s.disk, sizeof s.disk, 2), 1);
+    for (unsigned i = 1; i <= T; i++)
+        check_answer("tick", tick_standby(), 0, 0);
+    CHECK(s.state[STANDBY_MODE], MODE_TAKING_OVER);
+    check_staged(0, 0);
+    put_ends_back();
+}
+
+/* Words of a standby with S slots staged, the last two of them by the epoch under way. */
+static void stage_all_slots(void)
+{
+    static const uint64_t numbers[S] = {4, 0, 2, 1, 4, 0, 2};
+
+    memcpy(s.state + STANDBY_SLOTS, numbers, sizeof numbers);
+    s.state[STANDBY_STAGED] = S;
+    s.state[STANDBY_DUE] = S - 2;
+    s.state[STANDBY_BLOCKS] = s.state[STANDBY_RECORDS] = 2;
+    memset(s.staged_blocks, 5, sizeof s.staged_blocks);
+}
+
+/* 17 is given to a block that is only due, and not where a slot is reused: of two the first. */
+static void read_at_the_slots(void)
+{
+    const uint8_t *last = s.staged_blocks + (S - 1) * U;
+    uint64_t *numbers = s.state + STANDBY_SLOTS;
+
+    keep_ends();
+    stage_all_slots();
+    check_answer("a BLOCK without a slot", read_block(4, 6), NUMBER_SLOTS_FULL, 0);
+    check_answer("a BLOCK with one", read_block(2, 6), 0, RECORD_BLOCK);
+    CHECK(all_are(s.staged_blocks, (S - 1) * U, 5) && all_are(last, U, 6), 1);
+    numbers[S - 2] = 2;
+    check_answer("a BLOCK with two", read_block(2, 7), 0, RECORD_BLOCK);
+    CHECK(all_are(s.staged_blocks, (S - 2) * U, 5), 1);
+    CHECK(all_are(last - U, U, 7) && all_are(last, U, 6), 1);
+    CHECK(s.state[STANDBY_STAGED], S);
+    CHECK(s.state[STANDBY_DUE], S - 2);
+    CHECK(s.state[STANDBY_BLOCKS], 2);
+    CHECK(s.state[STANDBY_RECORDS], 4);
+    put_ends_back();
+}
+
+/* Words of a standby with so many BLOCKs. */
+static void read_at_most_records(void)
+{
+    keep_ends();
+    check_answer("a BLOCK", read_block(4, 5), 0, RECORD_BLOCK);
+    s.state[STANDBY_RECORDS] = MOST_RECORDS - 1;
+    check_answer("BLOCK 65535", read_block(4, 6), 0, RECORD_BLOCK);
+    check_staged(1, MOST_RECORDS);
+    check_answer("BLOCK 65536, again", read_block(4, 7), NUMBER_ALLOWANCE_USED, 0);
+    check_answer("BLOCK 65536, another", read_block(0, 7), NUMBER_ALLOWANCE_USED, 0);
+    CHECK(all_are(s.staged_blocks, U, 6), 1);
+    s.state[STANDBY_RECORDS] = MOST_RECORDS + 1;
+    check_answer("a tick at 65536 BLOCKs", tick_standby(), NUMBER_OUT_OF_RANGE, 0);
+    check_answer("a BLOCK at 65536", read_block(4, 7), NUMBER_OUT_OF_RANGE, 0);
+    CHECK(s.state[STANDBY_RECORDS], 65536);
+    s.state[STANDBY_RECORDS] = 0;
+    s.state[STANDBY_BLOCKS] = B + 1;
+    check_answer("a tick above B blocks", tick_standby(), NUMBER_OUT_OF_RANGE, 0);
+    put_ends_back();
+}
+
+/* Drains the stream, which has whole records only, and reads them all. Returns the bytes. */
+static size_t pass_on(void)
+{
+    size_t length = answer_value(primary_drain(LENT(p.state), LENT(p.stream), L,
+                                               LENT(link_bytes)));
+    size_t at = 0, used = 1;
+
+    while (used > 0 && at < length) {
+        used = answer_used(read_at(at, length - at));
+        at += used;
+    }
+    check("bytes read of those drained", at, length);
+    return length;
+}
+
+/* An epoch of 65,535 BLOCKs of blocks 3 and 1 by turns, and its checkpoint. */
+static void largest_epoch(void)
+{
+    static const uint8_t commit1[] = {8, 0, 4, 0, 1, 0, 0, 0, 0, 0, 255, 255};
+    unsigned accepted = 0;
+    size_t length;
+
+    keep_ends();
+    for (unsigned i = 0; i < MOST_RECORDS; i++) {
+        if (p.state[PRIMARY_WAITING] + U + 10 > L)
+            pass_on();
+        accepted += answer_number(write_block(i % 2 == 0 ? 3 : 1, (uint8_t)i)) == 0;
+    }
+    CHECK(accepted, MOST_RECORDS);
+    pass_on();
+    check_answer("BLOCK 65536", write_block(3, 5), NUMBER_ALLOWANCE_USED, 0);
+    check_answer("BLOCK 65536", write_block(4, 5), NUMBER_ALLOWANCE_USED, 0);
+    check_staged(2, MOST_RECORDS);
+    check_answer("checkpoint", primary_checkpoint(LENT(p.state), LENT(p.memory), LENT(p.dirty),
+                 LENT(p.stream), first), 0, 1);
+    length = pass_on();
+    CHECK(memcmp(link_bytes + length - sizeof commit1, commit1, sizeof commit1) == 0, 1);
+    CHECK(s.state[STANDBY_RECEIVED], 1);
+    check_answer("flush", flush(S), 0, 2);
+    CHECK(memcmp(p.disk, s.disk, sizeof p.disk) == 0, 1);
+    CHECK(all_are(s.disk + 3 * U, U, 254) && all_are(s.disk + U, U, 253), 1);
+    check_answer("a block of the next epoch", write_block(4, 5), 0, 2);
+    check_written(1, 1);
+    put_ends_back();
+}
+
+static void same_block_again(void)
+{
+    written_at_the_allowance();
+    written_without_space();
+    written_at_most_records();
+    read_at_the_allowance();
+    read_at_the_slots();
+    read_at_most_records();
+    largest_epoch();
+}
+
 static uint64_t activate(void)
 {
     return standby_activate(LENT(s.state), s.pending, s.processor, LENT(s.area));
@@ -544,14 +850,12 @@ static void takeover(void)
 
     for (unsigned i = 1; i <= T; i++) {
         check_answer("activation", activate(), NUMBER_WRONG_MODE, 0);
-        check_answer("tick", standby_tick(LENT(s.state), s.pending, s.processor,
-                     LENT(s.staged_marks)), 0, 0);
+        check_answer("tick", tick_standby(), 0, 0);
         CHECK(s.state[STANDBY_TICKS], i);
     }
     CHECK(s.state[STANDBY_MODE], MODE_TAKING_OVER);
     check_answer("activation", activate(), NUMBER_BLOCKS_DUE, 0);
-    check_answer("flush", standby_flush(LENT(s.state), s.pending, s.processor,
-                 LENT(s.staged_blocks), LENT(s.disk), S), 0, 1);
+    check_answer("flush", flush(S), 0, 2); /* of three BLOCKs */
     CHECK(memcmp(p.disk, s.disk, sizeof p.disk) == 0, 1);
     check_answer("choice", pair_disk_choice(LENT(p.disk), LENT(s.disk), LENT(s.area)), 0,
                  CHOICE_PRIMARY);
@@ -602,6 +906,18 @@ static void no_packet(size_t at)
     no_state(p.state, PRIMARY_WORDS, at + PACKET_PORT, 65536 + packet[PACKET_PORT]);
 }
 
+/* The numbers of the blocks written are fields of 16 bits; document 02 gives them no range. */
+static void no_block_number(size_t at)
+{
+    uint64_t before = p.state[at];
+
+    no_state(p.state, PRIMARY_WORDS, at, 65536 + before);
+    p.state[at] = 65535;
+    check_answer("a tick with block number 65535", primary_tick(LENT(p.state)), 0, 0);
+    CHECK(p.state[at], 65535);
+    p.state[at] = before;
+}
+
 /* A held packet of port 4, and one of port 3. */
 static void port_out_of_range(void)
 {
@@ -627,14 +943,16 @@ static void words_that_are_no_state(void)
         no_state(s.state, STANDBY_WORDS, standby_fields[i], large + s.state[standby_fields[i]]);
     for (size_t i = 0; i < MOST_PACKETS; i++)
         no_packet(PRIMARY_PACKETS + i * PACKET_WORDS);
+    for (size_t i = 0; i < MOST_BLOCKS; i++)
+        no_block_number(PRIMARY_WRITTEN + i);
     no_state(p.state, PRIMARY_WORDS, PRIMARY_ALONE, 2);
     no_state(s.state, STANDBY_WORDS, STANDBY_MODE, 3);
     no_state(s.state, STANDBY_WORDS, STANDBY_STATE_SEEN, 2);
-    check_answer("206 words", primary_tick(p.state, 206), NUMBER_OUT_OF_RANGE, 0);
-    check_answer("207 words", primary_tick(p.state, 207), 0, 0);
-    check_answer("78 words", standby_tick(s.state, 78, s.pending, s.processor,
-                 LENT(s.staged_marks)), NUMBER_OUT_OF_RANGE, 0);
+    check_answer("271 words", primary_tick(p.state, 271), NUMBER_OUT_OF_RANGE, 0);
+    check_answer("272 words", primary_tick(p.state, 272), 0, 0);
     check_answer("79 words", standby_tick(s.state, 79, s.pending, s.processor,
+                 LENT(s.staged_marks)), NUMBER_OUT_OF_RANGE, 0);
+    check_answer("80 words", standby_tick(s.state, 80, s.pending, s.processor,
                  LENT(s.staged_marks)), 0, 0);
 }
 
@@ -644,6 +962,7 @@ int main(void)
     kinds();
     refused_starts();
     accepted_start();
+    same_block_again();
     first_epoch();
     received_by_missing();
     records();
