@@ -1,5 +1,7 @@
 //! Settings, worlds with buffers, and the arguments of calls: mostly sensible, sometimes odd.
+use crate::block_numbers::block_to_write;
 use crate::items::code;
+use crate::made_up::{made_up_ack, made_up_record};
 use crate::model::*;
 use crate::random::Random;
 use crate::world::{Args, World};
@@ -60,6 +62,13 @@ pub fn limit_settings(r: &Random) -> Settings {
     s
 }
 
+/// The same with the most slots, or nearly so many, and any allowance.
+pub fn with_many_slots(r: &Random, s: Settings) -> Settings {
+    let slots = r.pick(&[64, 64, 64, 63]);
+    let b = r.pick(&[0, 1, 2, slots, slots, r.range(0, slots)]);
+    with_stream(r, Settings { b, s: slots, ..s })
+}
+
 /// Large pages, many pages or blocks, or much held. Some M are about the end of the narrow kinds; wide.rs has the
 /// largest.
 pub fn large_settings(r: &Random) -> Settings {
@@ -108,7 +117,10 @@ pub fn arguments(r: &Random, which: usize, w: &World, odd: u64) -> Args {
     match which {
         code::MEMORY_WRITE => memory_arguments(r, &mut a, p.u, p.m, odd),
         code::STANDBY_MEMORY_WRITE => memory_arguments(r, &mut a, s.u, s.m, odd),
-        code::DISK_WRITE => disk_arguments(r, &mut a, p.u, p.d, odd),
+        code::DISK_WRITE => {
+            disk_arguments(r, &mut a, p.u, p.d, odd);
+            a.place = block_to_write(r, p, a.place);
+        }
         code::STANDBY_DISK_WRITE => disk_arguments(r, &mut a, s.u, s.d, odd),
         code::PACKET => {
             a.port = some_port(r, odd);
@@ -149,7 +161,7 @@ fn same_bytes(which: usize, w: &World, a: &mut Args) {
 }
 
 /// A number below the limit, or an odd one: at the limit, past it, or one that is small when cut to 16 or 32 bits.
-fn number_below(r: &Random, limit: u64, odd: u64) -> u64 {
+pub fn number_below(r: &Random, limit: u64, odd: u64) -> u64 {
     if limit > 0 && !r.percent(odd) {
         return r.below(limit);
     }
@@ -157,7 +169,7 @@ fn number_below(r: &Random, limit: u64, odd: u64) -> u64 {
     r.pick(&[limit, limit, limit.wrapping_add(1), 65_535, 65_536, 65_537, 1 << 32, wide, 1 << 63, u64::MAX])
 }
 
-fn sane(u: u64) -> u64 {
+pub fn sane(u: u64) -> u64 {
     u.clamp(1, 4_160)
 }
 
@@ -232,102 +244,4 @@ fn take_destination(r: &Random, p: &Primary, port: u64, odd: u64) -> Vec<u8> {
 pub fn reply_buffer(r: &Random, odd: u64) -> Vec<u8> {
     let length = if r.percent(odd) { r.pick(&[0, 4, 7, 7]) } else { r.pick(&[8, 8, 9, 16]) };
     r.bytes(length)
-}
-
-pub fn record(length: u64, kind: u64, epoch: u32, body: &[u8]) -> Vec<u8> {
-    let mut bytes = (length as u16).to_le_bytes().to_vec();
-    bytes.extend_from_slice(&(kind as u16).to_le_bytes());
-    bytes.extend_from_slice(&epoch.to_le_bytes());
-    bytes.extend_from_slice(body);
-    bytes
-}
-
-/// A page or block number or a count, of 4 bytes in a wide record, else of 2; larger ones are cut.
-fn number(wide: bool, number: u64) -> Vec<u8> {
-    number.to_le_bytes()[..if wide { 4 } else { 2 }].to_vec()
-}
-
-/// Kinds to put in place of the right one: those of both widths, and some that no standby reads.
-const SOME_KINDS: [u64; 14] = [0, 1, 2, 3, 4, 5, 5, 6, 7, 8, 9, 10, 11, 65_535];
-
-/// A record for this standby, with field after field made wrong in `odd` of a hundred. In fewer of them PAGE and COMMIT
-/// are of the other width than M calls for, and right otherwise.
-pub fn made_up_record(r: &Random, s: &Standby, odd: u64) -> Vec<u8> {
-    if r.percent(odd / 4) {
-        let length = r.pick(&[0, 1, 3, 4, 8, 12, 16, 80]);
-        return r.bytes(length);
-    }
-    let wide = is_wide(s.m) != r.percent(odd / 2);
-    let (page, commit) = if wide { (8, 9) } else { (1, 4) };
-    let likely = [commit, commit, commit, commit, 3, page, 2];
-    let mut kind = if s.state_seen { r.pick(&likely) } else { r.pick(&[page, page, 2, 2, 3, 3, commit]) };
-    let body = match kind {
-        1 | 8 => [number(wide, page_number(r, s, odd)), r.bytes(sane(s.u))].concat(),
-        2 => [number(false, number_below(r, s.d.min(65_535), odd)), r.bytes(sane(s.u))].concat(),
-        3 => r.bytes(64),
-        _ => counts(r, s, wide, odd),
-    };
-    let mut epoch = s.received.wrapping_add(1);
-    if r.percent(odd) {
-        epoch = r.pick(&[s.received, s.received.wrapping_add(2), 0, 1, u32::MAX, epoch ^ (1 << 16), epoch ^ (1 << 24)]);
-    }
-    let mut length = body.len() as u64 + 4;
-    if r.percent(odd) {
-        let u = sane(s.u);
-        length = r.pick(&[0, 4, length - 1, length + 1, length ^ 256, 68, 8, 12, u + 6, u + 8, 65_535]);
-    }
-    if r.percent(odd) {
-        kind = if r.percent(10) { kind + 256 } else { r.pick(&SOME_KINDS) };
-    }
-    cut_or_extended(r, record(length, kind, epoch, &body), odd)
-}
-
-/// A page for this standby, or an odd one: at M, past it, not above the last, or small when cut to 16 or 24 bits.
-fn page_number(r: &Random, s: &Standby, odd: u64) -> u64 {
-    let right = if s.next_page < s.m { r.range(s.next_page, s.m - 1) } else { r.below(s.m) };
-    if !r.percent(odd) {
-        return right;
-    }
-    r.pick(&[
-        s.m, s.m.wrapping_add(1), 65_535, 65_536, 65_537, u32::MAX as u64, right.wrapping_add(65_536),
-        right.wrapping_add(1 << 24), s.next_page.saturating_sub(1), s.m.saturating_sub(1), 256,
-    ])
-}
-
-fn counts(r: &Random, s: &Standby, wide: bool, odd: u64) -> Vec<u8> {
-    let (mut pages, mut blocks) = (s.pages, s.blocks);
-    if r.percent(odd) {
-        let above = pages.wrapping_add(65_536);
-        pages = r.pick(&[pages.wrapping_add(1), pages.wrapping_sub(1), 0, pages ^ 256, s.blocks, above]);
-    }
-    if r.percent(odd) {
-        let above = blocks.wrapping_add(65_536);
-        blocks = r.pick(&[blocks.wrapping_add(1), blocks.wrapping_sub(1), 0, blocks ^ 256, s.pages, above]);
-    }
-    [number(wide, pages), number(wide, blocks)].concat()
-}
-
-/// An ACK for this primary, with field after field made wrong in `odd` of a hundred.
-pub fn made_up_ack(r: &Random, p: &Primary, odd: u64) -> Vec<u8> {
-    let outstanding = (p.open as u64).saturating_sub(p.acknowledged as u64 + 1);
-    let mut epoch = p.acknowledged.wrapping_add(1 + r.below(outstanding) as u32);
-    if r.percent(odd) {
-        let before = p.open.wrapping_sub(1);
-        epoch = r.pick(&[p.acknowledged, p.open, before, p.open.wrapping_add(1), 0, u32::MAX, r.next() as u32]);
-    }
-    let length = if r.percent(odd) { r.pick(&[0, 3, 5, 8, 260, 65_535]) } else { 4 };
-    let kind = if r.percent(odd) { r.pick(&[0, 1, 3, 4, 6, 7, 8, 9, 10, 261, 65_535]) } else { 5 };
-    cut_or_extended(r, record(length, kind, epoch, &[]), odd)
-}
-
-fn cut_or_extended(r: &Random, mut bytes: Vec<u8>, odd: u64) -> Vec<u8> {
-    if r.percent(odd) {
-        let length = bytes.len() as u64;
-        let keep = r.pick(&[0, 1, 3, 4, 5, 7, 8, 9, 10, 11, 12, length - 1, r.below(length)]);
-        bytes.truncate(keep as usize);
-    } else if r.percent(25) {
-        let more = r.range(1, 20);
-        bytes.extend(r.bytes(more));
-    }
-    bytes
 }

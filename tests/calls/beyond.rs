@@ -3,8 +3,8 @@ use crate::arguments::{arguments, fresh_world, start_args};
 use crate::items::code;
 use crate::model::{least_stream, Settings};
 use crate::random::Random;
-use crate::singles::{any_primary, any_standby};
 use crate::sink::Sink;
+use crate::states::{any_primary, any_standby};
 
 pub fn run(r: &Random, sink: &mut Sink) {
     settings().into_iter().for_each(|settings| every_call(r, sink, settings));

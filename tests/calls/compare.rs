@@ -5,12 +5,14 @@
 //! that FORM.md describes. The last line is `N passed, 0 failed`.
 mod arguments;
 mod beyond;
+mod block_numbers;
 mod both;
 mod call;
 mod capi;
 mod changed_lines;
 mod checker;
 mod cuts;
+mod epoch_blocks;
 mod four_ports;
 mod generate;
 mod guarded;
@@ -19,6 +21,7 @@ mod kinds;
 mod large;
 mod lent;
 mod lines;
+mod made_up;
 mod marks;
 mod missing;
 mod missing_cases;
@@ -34,10 +37,16 @@ mod print_form;
 mod random;
 mod recognise;
 mod refused_records;
+mod repeat_words;
+mod repeats;
 mod report;
+mod same_block;
+mod same_block_runs;
+mod same_slot;
 mod silence;
 mod singles;
 mod sink;
+mod states;
 mod ticks;
 mod view;
 mod wide;
@@ -82,7 +91,8 @@ const MARKS: &str = "marks about the ends of words";
 const SILENCE: &str = "records that come slower than T ticks";
 const PARTS: &str = "records that come in parts";
 const FOUR_PORTS: &str = "packets of four ports";
-const ON_TOP: [&str; 8] = [LARGE, WIDE, CUTS, LINES, MARKS, SILENCE, PARTS, FOUR_PORTS];
+const SAME_BLOCK: &str = "the same block again";
+const ON_TOP: [&str; 9] = [LARGE, WIDE, CUTS, LINES, MARKS, SILENCE, PARTS, FOUR_PORTS, SAME_BLOCK];
 
 fn until(sink: &mut Sink, end: u64, mut one: impl FnMut(&mut Sink)) {
     while sink.calls < end {
@@ -176,7 +186,9 @@ fn cut_runs(r: &Random, sink: &mut Sink, calls: u64, seed: u64) {
     let [first, second] = tally.after_checkpoint;
     println!("  takeovers after checkpoint 1 or later {first}, 2 or later {second}, at most {}", tally.highest);
     println!("  runs with a checkpoint longer than T ticks {}", tally.long_checkpoints);
+    println!("  runs in which a slot was reused {}", tally.reusing);
     demanded(demand(tally.long_checkpoints > 0, "no checkpoint was longer than T ticks"));
+    demanded(demand(tally.reusing > 0, "no slot was reused"));
     demanded(demand(tally.protected_takes.iter().all(|&takes| takes > 0), "a port had no take under protection"));
 }
 
@@ -233,7 +245,8 @@ fn main() {
             MARKS => demanded(marks::run(&r, sink)),
             SILENCE => demanded(silence::run(&r, sink)),
             PARTS => demanded(missing::run(&r, sink)),
-            _ => demanded(four_ports::run(&r, sink)),
+            FOUR_PORTS => demanded(four_ports::run(&r, sink)),
+            _ => demanded(same_block::run(&r, sink)),
         });
     }
     // that every number comes is a test of all kinds together

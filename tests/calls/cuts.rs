@@ -1,7 +1,7 @@
 //! The cut, by running: lists of calls with the plain pair and the ticks beside them, cut at every place.
 use crate::both::Both;
 use crate::checker::{demand, Check};
-use crate::generate::{ending_mood, lively_mood, next_step, Step, PUT_OFF};
+use crate::generate::{blocks_mood, ending_mood, lively_mood, next_step, Step, PUT_OFF};
 use crate::items::code;
 use crate::model::*;
 use crate::random::Random;
@@ -22,6 +22,8 @@ pub struct Tally {
     pub highest: u64,
     /// Runs with a checkpoint wholly received although more than T ticks came between its records.
     pub long_checkpoints: u64,
+    /// Runs in which a slot was reused.
+    pub reusing: u64,
 }
 
 fn is_primary_call(which: usize) -> bool {
@@ -35,25 +37,33 @@ fn is_standby_call(which: usize) -> bool {
 /// One list of calls at small settings, and every cut of it.
 pub fn run(r: &Random, sink: &mut Sink, tally: &mut Tally) -> Check {
     let settings = some_settings(r);
-    run_at(r, sink, tally, settings)
+    run_at(r, sink, tally, settings, r.percent(25))
 }
 
-/// One list of calls at these settings, and every cut of it.
-pub fn run_at(r: &Random, sink: &mut Sink, tally: &mut Tally, settings: Settings) -> Check {
+/// One list of calls at these settings, in which most calls may be disk writes, and every cut of it.
+pub fn run_at(r: &Random, sink: &mut Sink, tally: &mut Tally, settings: Settings, disk_writes: bool) -> Check {
     tally.runs += 1;
+    let reused = sink.repeats.reused;
     let mut both = Both::start(r, sink, settings);
     let (length, haste, put_off) = (r.range(16, 40), r.pick(&[40, 85, 85]), r.pick(&PUT_OFF));
     let ending_from = if r.percent(40) { r.range(length / 2, length) } else { length };
     let mut places = vec![both.clone()];
     let mut steps: Vec<Step> = Vec::new();
     for at in 0..length {
-        let mood = if at < ending_from { lively_mood(3, haste, put_off) } else { ending_mood(r, 3) };
+        let mood = if at >= ending_from {
+            ending_mood(r, 3)
+        } else if disk_writes {
+            blocks_mood(3, haste, 12)
+        } else {
+            lively_mood(3, haste, put_off)
+        };
         let mut step = next_step(r, &both.world, &mood);
         advance(sink, tally, &mut both, &mut step)?;
         steps.push(step);
         places.push(both.clone());
     }
     tally.long_checkpoints += (both.ticks.long_checkpoints > 0) as u64;
+    tally.reusing += (sink.repeats.reused > reused) as u64;
     for at in 0..places.len() {
         cut_at(r, sink, tally, &places, &steps, at).map_err(|what| format!("{what}, cut at place {at}"))?;
     }

@@ -1,6 +1,7 @@
 //! Lists of calls from an accepted start. The model carries the world from call to call.
 use crate::arguments::*;
 use crate::items::code;
+use crate::made_up::{made_up_ack, made_up_record};
 use crate::model::*;
 use crate::random::Random;
 use crate::sink::Sink;
@@ -31,9 +32,10 @@ pub struct Mood {
 
 // Weights by code: start, memory write, disk write, packet, checkpoint, drain, ACK, take, tick of the primary,
 // read, flush, tick of the standby, activation, memory and disk write at the standby, disk choice.
-const PROTECTED: [u64; 16] = [0, 16, 8, 7, 6, 10, 4, 8, 4, 8, 5, 4, 1, 1, 1, 1];
+const PROTECTED: [u64; 16] = [0, 16, 16, 7, 6, 12, 4, 8, 4, 8, 5, 4, 1, 1, 1, 1];
 const LIVELY: [u64; 16] = [0, 8, 6, 6, 9, 6, 2, 4, 2, 4, 4, 1, 0, 0, 0, 0];
 const PACKETS: [u64; 16] = [0, 3, 1, 24, 9, 6, 4, 14, 1, 4, 4, 1, 0, 0, 0, 0];
+const BLOCKS: [u64; 16] = [0, 4, 40, 3, 0, 9, 3, 4, 2, 8, 6, 2, 0, 0, 0, 0];
 const ALONE: [u64; 16] = [0, 10, 10, 9, 6, 3, 2, 14, 14, 6, 4, 1, 1, 1, 1, 2];
 const TAKEOVER: [u64; 16] = [0, 2, 2, 2, 2, 3, 2, 2, 1, 3, 10, 14, 8, 2, 2, 2];
 const ACTIVE: [u64; 16] = [0, 3, 3, 3, 2, 2, 2, 5, 3, 2, 4, 3, 3, 14, 14, 5];
@@ -75,12 +77,14 @@ impl Course {
     }
 }
 
-/// One list of calls at these settings.
+/// One list of calls at these settings; some near the last epoch and near the most BLOCK records of an epoch.
 pub fn list(r: &Random, sink: &mut Sink, settings: Settings, length: u64, near_the_end: bool) {
     let mut w = started(r, sink, settings);
     if near_the_end {
         let epoch = u32::MAX - r.range(1, 6) as u32;
         (w.primary.open, w.primary.acknowledged, w.standby.received) = (epoch + 1, epoch, epoch);
+        let records = r.pick(&[0, MOST_RECORDS - r.range(0, 4)]);
+        (w.primary.records, w.standby.records) = (records, records);
     }
     let course = Course::new(r, length);
     let damage = if r.percent(50) { 0 } else { 5 };
@@ -148,6 +152,13 @@ pub fn packets_mood(odd: u64, haste: u64) -> Mood {
     Mood { weights: PACKETS, odd, damage: 0, last_ticks: false, haste, put_off: 0 }
 }
 
+/// A mood in which most calls are disk writes; `checkpoints` is the weight of a checkpoint.
+pub fn blocks_mood(odd: u64, haste: u64, checkpoints: u64) -> Mood {
+    let mut weights = BLOCKS;
+    weights[code::CHECKPOINT] = checkpoints;
+    Mood { weights, odd, damage: 0, last_ticks: false, haste, put_off: 0 }
+}
+
 /// A mood in which every sort of ending may come.
 pub fn ending_mood(r: &Random, odd: u64) -> Mood {
     let weights = r.pick(&[ALONE, TAKEOVER, TAKEOVER, ACTIVE]);
@@ -208,7 +219,8 @@ fn is_idle(w: &World, which: usize) -> bool {
         code::TAKE => (0..=MOST_PORT).all(|port| p.free_of(port).is_none()),
         code::DRAIN => p.waiting == 0,
         code::FLUSH => s.due == 0,
-        code::DISK_WRITE => p.d == 0 || !p.alone && p.blocks >= p.b,
+        // where B different blocks are written, one of them may come again
+        code::DISK_WRITE => p.d == 0 || !p.alone && (p.b == 0 || p.records == MOST_RECORDS),
         _ => false,
     }
 }

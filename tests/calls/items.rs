@@ -23,12 +23,16 @@ pub mod code {
 }
 
 /// The words of the settings, of a primary and of a standby. A primary's first words are followed by its 64 packets, of
-/// three words each: epoch, length and port.
+/// three words each: epoch, length and port; these by the 64 block numbers of its open epoch.
 pub const SETTINGS_WORDS: usize = 8;
-pub const PRIMARY_FIRST_WORDS: usize = 15;
+pub const PRIMARY_FIRST_WORDS: usize = 16;
 pub const PACKET_WORDS: usize = 3;
-pub const PRIMARY_WORDS: usize = 207;
-pub const STANDBY_WORDS: usize = 79;
+pub const WRITTEN_AT: usize = 208;
+pub const PRIMARY_WORDS: usize = 272;
+/// A standby's first words are followed by its 64 slots' block numbers, these by its last words.
+pub const SLOTS_AT: usize = 11;
+pub const STANDBY_LAST_AT: usize = 75;
+pub const STANDBY_WORDS: usize = 80;
 
 /// A part of a call. First the words, then the bytes, then the numbers given, then what is answered. `Cpu` is the
 /// processor state given, `Pending` and `Kept` are the standby's; `Out` is the destination or the reply buffer.

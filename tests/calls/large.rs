@@ -58,10 +58,12 @@ fn one(r: &Random, sink: &mut Sink, settings: Settings) -> Check {
     let mut pair = Pair::started(r, sink, settings, fresh_world(r, &settings))?;
     pair.write_all_pages()?;
     pair.write_blocks(settings.b + 1)?;
+    pair.write_blocks_again()?;
     pair.send_packets()?;
     pair.checkpoint_to_ack()?;
     demand(pair.w.standby_memory == pair.w.memory, "the standby has not received the primary's memory")?;
     pair.write_blocks(settings.b / 2)?;
+    pair.write_blocks_again()?;
     pair.write_some_pages()?;
     let mut link = pair.checkpoint_and_drain(&[usize::MAX])?;
     link.truncate(link.len() - commit_record(settings.m) as usize);
@@ -181,13 +183,26 @@ impl<'a> Pair<'a> {
         Ok(())
     }
 
+    /// So many different blocks, where there are as many: the first, then the others from the last down.
     fn write_blocks(&mut self, count: u64) -> Check {
         for turn in 0..count {
             let mut a = arguments(self.r, code::DISK_WRITE, &self.w, 0);
-            a.place = if turn < 2 && self.w.primary.d > 0 { turn * (self.w.primary.d - 1) } else { a.place };
+            a.place = turn * (self.w.primary.d - 1) % self.w.primary.d;
             self.step(code::DISK_WRITE, &mut a)?;
         }
         Ok(())
+    }
+
+    /// The open epoch's blocks again, as often as the stream has more bytes than its least, but not without end.
+    fn write_blocks_again(&mut self) -> Check {
+        let Primary { u, m, b, l, blocks, written, .. } = self.w.primary;
+        let room = if blocks == 0 { 0 } else { (l - least_stream(u, m, b)) / (u + 10) };
+        for turn in 0..room.min(200) {
+            let mut a = arguments(self.r, code::DISK_WRITE, &self.w, 0);
+            a.place = written[(turn * 7 % blocks) as usize];
+            demand(self.step(code::DISK_WRITE, &mut a)?.number == 0, "a block is refused that comes again")?;
+        }
+        demand(self.w.primary.blocks == blocks, "a block that comes again is counted")
     }
 
     fn send_packets(&mut self) -> Check {

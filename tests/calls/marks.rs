@@ -2,9 +2,10 @@
 //! one, with two and with bits set past M, where M fills its words, passes them by one page or falls short by one; at
 //! large M of both widths with some of these. What they make of the marks is worked out here page by page, beside the
 //! model.
-use crate::arguments::{fresh_world, record};
+use crate::arguments::fresh_world;
 use crate::checker::{demand, Check};
 use crate::items::code;
+use crate::made_up::record;
 use crate::model::*;
 use crate::random::Random;
 use crate::sink::Sink;

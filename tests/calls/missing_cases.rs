@@ -1,6 +1,7 @@
 //! The ends and the records of missing.rs. What an end gives to the whole of a record is written beside it.
-use crate::arguments::{fresh_world, record};
+use crate::arguments::fresh_world;
 use crate::items::code;
+use crate::made_up::record;
 use crate::model::*;
 use crate::random::Random;
 use crate::refused_records::{by_header, next, whole, with, Bad};
@@ -54,12 +55,13 @@ fn standby(u: u64, m: u64) -> Standby {
     Standby { u, m, d: 2, b: 1, s: 2, t: 3, received: 6, ..Standby::zero() }
 }
 
-/// It as it is, after the only BLOCK allowed, with every slot taken, after a PAGE, and after a PAGE and STATE.
+/// It as it is, after three BLOCKs of the only block allowed, with every slot taken, after a PAGE, and after a PAGE and
+/// STATE.
 fn standbys(u: u64, m: u64) -> [Standby; 5] {
     let first = standby(u, m);
     [
         first.clone(),
-        Standby { blocks: 1, staged: 1, ..first.clone() },
+        Standby { blocks: 1, records: 3, staged: 1, ..first.clone() },
         Standby { staged: 2, due: 2, ..first.clone() },
         Standby { pages: 1, next_page: 1, ..first.clone() },
         Standby { pages: 1, next_page: 1, state_seen: true, ..first },
@@ -82,12 +84,13 @@ fn world(r: &Random, standby: Standby, primary: Primary) -> World {
     World { primary, standby, memory: Vec::new(), ..fresh_world(r, &settings) }
 }
 
-/// A record of each kind that its end accepts.
+/// A record of each kind that its end accepts, and a BLOCK for which a slot is reused.
 pub fn accepted(r: &Random, u: u64, m: u64) -> Vec<Case> {
-    let [first, .., last] = standbys(u, m);
-    let ends = [(&first, page_kind(m)), (&first, BLOCK), (&first, STATE), (&last, commit_kind(m))];
+    let [first, again, .., last] = standbys(u, m);
+    let kinds = [(&first, BLOCK), (&again, BLOCK), (&first, STATE), (&last, commit_kind(m))];
+    let ends = [(&first, page_kind(m))].into_iter().chain(kinds);
     let reads = ends.map(|(s, kind)| Case::read(r, s, 0, next(s, kind)));
-    reads.into_iter().chain([Case::ack(r, &primary(u, m), 0, ack(7))]).collect()
+    reads.chain([Case::ack(r, &primary(u, m), 0, ack(7))]).collect()
 }
 
 /// Records with a right header that their end refuses once they are whole.

@@ -4,7 +4,7 @@
 //! Every call works in place on the state and on the lent buffers and answers with a number, a value, the
 //! bytes used and the bytes missing. A refused call changes nothing, nor does one that is cut short. Nothing
 //! here is shared with the verified program.
-#![allow(dead_code)] // a program may use only some of the calls
+#![allow(dead_code, unused_imports)] // a program may use only some of the calls
 
 /// The number that stands for a record cut short.
 pub const CUT_SHORT: u64 = 256;
@@ -15,8 +15,8 @@ pub const MOST_STREAM: u64 = 536_870_912;
 /// A packet's ports are 0 to this one (document 02, Job 6).
 pub const MOST_PORT: u64 = 3;
 pub const PORTS: usize = MOST_PORT as usize + 1;
-/// "Up to M 4,096 the writer uses kinds 1 and 4 as before, above that only 8 and 9".
-const MOST_NARROW_PAGES: u64 = 4_096;
+/// "14 is also given at 65,535 BLOCK records in an epoch; more in a state gives 1" (document 02, Job 9).
+pub const MOST_RECORDS: u64 = 65_535;
 
 #[derive(Clone, Copy, PartialEq, Eq, Debug, Default)]
 pub struct Settings {
@@ -50,11 +50,15 @@ pub struct Primary {
     pub open: u32,
     pub acknowledged: u32,
     pub alone: bool,
+    /// The different blocks of the open epoch, and its BLOCK records.
     pub blocks: u64,
+    pub records: u64,
     pub waiting: u64,
     pub packets: u64,
     pub held: u64,
     pub queue: [Packet; 64],
+    /// The numbers of the open epoch's different blocks: the first `blocks` of these.
+    pub written: [u64; 64],
 }
 
 #[derive(Clone, Copy, PartialEq, Eq, Debug)]
@@ -78,7 +82,9 @@ pub struct Standby {
     pub staged: u64,
     pub due: u64,
     pub slots: [u64; 64],
+    /// The different blocks of the epoch under way, and its BLOCK records.
     pub blocks: u64,
+    pub records: u64,
     pub pages: u64,
     pub next_page: u64,
     pub state_seen: bool,
@@ -93,21 +99,6 @@ pub struct Reply {
     pub used: u64,
     /// How many more bytes would complete the header or the record that is cut short; 0 in every other answer.
     pub missing: u64,
-}
-
-/// Every buffer of both ends, as start takes them.
-pub struct Lent<'a> {
-    pub memory: &'a mut [u8],
-    pub disk: &'a mut [u8],
-    pub marks: &'a mut [u64],
-    pub held: &'a mut [u8],
-    pub stream: &'a mut [u8],
-    pub standby_memory: &'a mut [u8],
-    pub standby_disk: &'a mut [u8],
-    pub pages: &'a mut [u8],
-    pub standby_marks: &'a mut [u64],
-    pub blocks: &'a mut [u8],
-    pub area: &'a mut [u8],
 }
 
 fn accepted(value: u64) -> Reply {
@@ -127,7 +118,7 @@ impl Primary {
     pub fn zero() -> Primary {
         Primary {
             u: 0, m: 0, d: 0, b: 0, q: 0, l: 0, t: 0, count: 0, open: 0, acknowledged: 0, alone: false,
-            blocks: 0, waiting: 0, packets: 0, held: 0, queue: [Packet::default(); 64],
+            blocks: 0, records: 0, waiting: 0, packets: 0, held: 0, queue: [Packet::default(); 64], written: [0; 64],
         }
     }
 
@@ -140,6 +131,7 @@ impl Primary {
             && self.acknowledged < self.open
             && self.waiting <= self.l
             && self.blocks <= self.b
+            && self.records <= MOST_RECORDS
             && count_in_range(self.count, self.t, !self.alone)
     }
 
@@ -192,7 +184,7 @@ impl Standby {
     pub fn zero() -> Standby {
         Standby {
             u: 0, m: 0, d: 0, b: 0, s: 0, t: 0, count: 0, mode: Mode::Receiving, received: 0, staged: 0, due: 0,
-            slots: [0; 64], blocks: 0, pages: 0, next_page: 0, state_seen: false,
+            slots: [0; 64], blocks: 0, records: 0, pages: 0, next_page: 0, state_seen: false,
             staged_cpu: [0; 64], kept_cpu: [0; 64],
         }
     }
@@ -205,6 +197,7 @@ impl Standby {
             && self.due <= self.staged
             && self.slots[..self.staged as usize].iter().all(|&number| number < self.d)
             && self.blocks <= self.b
+            && self.records <= MOST_RECORDS
             && self.pages <= self.m
             && count_in_range(self.count, self.t, self.mode == Mode::Receiving)
     }
@@ -212,6 +205,7 @@ impl Standby {
     /// What is known of the epoch under way is forgotten.
     fn forget_epoch(&mut self) {
         self.blocks = 0;
+        self.records = 0;
         self.pages = 0;
         self.next_page = 0;
         self.state_seen = false;
@@ -229,59 +223,6 @@ fn sizes_in_range(u: u64, m: u64, d: u64, b: u64, t: u64) -> bool {
 
 fn count_in_range(count: u64, patience: u64, counting: bool) -> bool {
     count <= patience && !(counting && count == patience)
-}
-
-/// Whether M calls for the kinds 8 and 9 in place of 1 and 4.
-pub fn is_wide(m: u64) -> bool {
-    m > MOST_NARROW_PAGES
-}
-
-/// The bytes of a whole PAGE record at this M.
-pub fn page_record(u: u64, m: u64) -> u64 {
-    if is_wide(m) { u + 12 } else { u + 10 }
-}
-
-/// The bytes of a whole COMMIT record at this M.
-pub fn commit_record(m: u64) -> u64 {
-    if is_wide(m) { 16 } else { 12 }
-}
-
-/// The bytes of STATE and COMMIT together at this M: 84 or 88.
-pub fn state_and_commit(m: u64) -> u64 {
-    72 + commit_record(m)
-}
-
-/// The kind of a PAGE at this M.
-pub fn page_kind(m: u64) -> u64 {
-    if is_wide(m) { records::WIDE_PAGE } else { records::PAGE }
-}
-
-/// The kind of a COMMIT at this M.
-pub fn commit_kind(m: u64) -> u64 {
-    if is_wide(m) { records::WIDE_COMMIT } else { records::COMMIT }
-}
-
-/// PAGE, BLOCK, STATE and COMMIT at this M.
-pub fn kinds_of(m: u64) -> [u64; 4] {
-    [page_kind(m), records::BLOCK, records::STATE, commit_kind(m)]
-}
-
-/// "A standby reads only the kinds that its M calls for; the others give 6."
-pub fn is_read(kind: u64, m: u64) -> bool {
-    if is_wide(m) {
-        matches!(kind, records::BLOCK | records::STATE | records::WIDE_PAGE | records::WIDE_COMMIT)
-    } else {
-        (records::PAGE..=records::COMMIT).contains(&kind)
-    }
-}
-
-/// Whether a record of this kind is a COMMIT, of either width.
-pub fn is_commit(kind: u64) -> bool {
-    kind == records::COMMIT || kind == records::WIDE_COMMIT
-}
-
-pub fn least_stream(u: u64, m: u64, b: u64) -> u64 {
-    m * page_record(u, m) + b * (u + 10) + state_and_commit(m)
 }
 
 /// Whether a lent length is the exact one.
@@ -325,63 +266,17 @@ fn part(number: u64, u: u64) -> std::ops::Range<usize> {
     number * u..number * u + u
 }
 
-/// Start: the states of both ends, and 0 or 1.
-pub fn start(s: &Settings, cpu: &[u8; 64], lent: &mut Lent) -> (u64, Primary, Standby) {
-    if !start_in_range(s, lent) {
-        return (1, Primary::zero(), Standby::zero());
-    }
-    lent.standby_memory.copy_from_slice(lent.memory);
-    lent.standby_disk.copy_from_slice(lent.disk);
-    clear_marks(lent.marks, s.m);
-    clear_marks(lent.standby_marks, s.m);
-    lent.area.fill(0);
-    let primary = Primary {
-        u: s.u, m: s.m, d: s.d, b: s.b, q: s.q, l: s.l, t: s.t, open: 1, ..Primary::zero()
-    };
-    // The processor state goes to the kept one; 01 leaves the staged one open, and nothing is staged yet.
-    let standby = Standby { u: s.u, m: s.m, d: s.d, b: s.b, s: s.s, t: s.t, kept_cpu: *cpu, ..Standby::zero() };
-    (0, primary, standby)
-}
-
-fn start_in_range(s: &Settings, lent: &Lent) -> bool {
-    sizes_in_range(s.u, s.m, s.d, s.b, s.t)
-        && s.s >= s.b
-        && s.s <= 64
-        && s.q <= 32_768
-        && s.l >= least_stream(s.u, s.m, s.b)
-        && s.l <= MOST_STREAM
-        && exact(lent.memory.len(), s.m * s.u)
-        && exact(lent.disk.len(), s.d * s.u)
-        && exact(lent.marks.len(), mark_words(s.m))
-        && exact(lent.held.len(), s.q)
-        && exact(lent.stream.len(), s.l)
-        && exact(lent.standby_memory.len(), s.m * s.u)
-        && exact(lent.standby_disk.len(), s.d * s.u)
-        && exact(lent.pages.len(), s.m * s.u)
-        && exact(lent.standby_marks.len(), mark_words(s.m))
-        && exact(lent.blocks.len(), s.s * s.u)
-        && exact(lent.area.len(), 8)
-}
-
-/// The disk choice: 0, 1 or 12, and the chosen disk itself.
-pub fn disk_choice<'a>(primary: &'a [u8], standby: &'a [u8], area: &[u8]) -> (u64, &'a [u8]) {
-    if primary.len() != standby.len() || area.len() != 8 {
-        return (1, &primary[..0]);
-    }
-    if area.iter().all(|&byte| byte == 0) {
-        (0, primary)
-    } else if area[..4] == [4, 0, 6, 0] {
-        (0, standby)
-    } else {
-        (12, &primary[..0])
-    }
-}
-
 #[path = "model_primary.rs"]
 mod primary;
 #[path = "model_records.rs"]
 mod records;
+#[path = "model_sizes.rs"]
+mod sizes;
 #[path = "model_standby.rs"]
 mod standby;
+#[path = "model_start.rs"]
+mod start;
 pub use primary::*;
+pub use sizes::*;
 pub use standby::*;
+pub use start::*;

@@ -29,6 +29,22 @@ pub fn memory_write(
     accepted(p.open as u64)
 }
 
+impl Primary {
+    /// Whether a state in range has this block written in the open epoch; what stands behind the count does not say so.
+    fn has_written(&self, block: u64) -> bool {
+        self.written[..self.blocks as usize].contains(&block)
+    }
+
+    /// Counts a BLOCK record of the open epoch, and its block where that is not written in it before.
+    fn note_written(&mut self, block: u64, again: bool) {
+        self.records += 1;
+        if !again {
+            self.written[self.blocks as usize] = block;
+            self.blocks += 1;
+        }
+    }
+}
+
 pub fn disk_write(p: &mut Primary, disk: &mut [u8], stream: &mut [u8], block: u64, data: &[u8]) -> Reply {
     if !p.in_range() || !exact(disk.len(), p.d * p.u) || !exact(stream.len(), p.l) {
         return refused(1);
@@ -40,14 +56,16 @@ pub fn disk_write(p: &mut Primary, disk: &mut [u8], stream: &mut [u8], block: u6
         return refused(3);
     }
     if !p.alone {
-        if p.blocks >= p.b {
+        let again = p.has_written(block);
+        // document 02, Job 9: the allowance counts different blocks, "and 14 is also given at 65,535 BLOCK records"
+        if p.records == MOST_RECORDS || p.blocks >= p.b && !again {
             return refused(14);
         }
         if p.u + 10 > p.l - p.waiting {
             return refused(15);
         }
         p.waiting += put_data(&mut stream[p.waiting as usize..], BLOCK, p.open, block, data) as u64;
-        p.blocks += 1;
+        p.note_written(block, again);
     }
     disk[part(block, p.u)].copy_from_slice(data);
     accepted(p.open as u64)
@@ -98,10 +116,11 @@ pub fn checkpoint(p: &mut Primary, memory: &[u8], marks: &mut [u64], stream: &mu
         at += put_data(&mut stream[at..], page_kind(p.m), p.open, page as u64, &memory[part(page as u64, p.u)]);
     });
     at += put_state(&mut stream[at..], p.open, cpu);
-    at += put_commit(&mut stream[at..], commit_kind(p.m), p.open, dirty, p.blocks);
+    // "COMMIT's count is still of records"
+    at += put_commit(&mut stream[at..], commit_kind(p.m), p.open, dirty, p.records);
     clear_marks(marks, p.m);
     p.waiting = at as u64;
-    p.blocks = 0;
+    (p.blocks, p.records) = (0, 0);
     p.open += 1;
     accepted(p.open as u64 - 1)
 }

@@ -17,7 +17,7 @@ pub enum Record<'a> {
     Page { epoch: u32, page: u64, bytes: &'a [u8] },
     Block { epoch: u32, block: u64, bytes: &'a [u8] },
     State { epoch: u32, cpu: &'a [u8] },
-    Commit { epoch: u32, pages: u64, blocks: u64 },
+    Commit { epoch: u32, pages: u64, records: u64 },
     Ack { epoch: u32 },
 }
 
@@ -64,10 +64,10 @@ pub fn read_record(bytes: &[u8], u: u64, is_for_it: impl Fn(u64) -> bool) -> Rec
         PAGE => Record::Page { epoch, page: get_16(bytes, 8), bytes: &bytes[10..end] },
         BLOCK => Record::Block { epoch, block: get_16(bytes, 8), bytes: &bytes[10..end] },
         STATE => Record::State { epoch, cpu: &bytes[8..end] },
-        COMMIT => Record::Commit { epoch, pages: get_16(bytes, 8), blocks: get_16(bytes, 10) },
+        COMMIT => Record::Commit { epoch, pages: get_16(bytes, 8), records: get_16(bytes, 10) },
         WIDE_PAGE => Record::Page { epoch, page: get_32(bytes, 8) as u64, bytes: &bytes[12..end] },
         WIDE_COMMIT => {
-            Record::Commit { epoch, pages: get_32(bytes, 8) as u64, blocks: get_32(bytes, 12) as u64 }
+            Record::Commit { epoch, pages: get_32(bytes, 8) as u64, records: get_32(bytes, 12) as u64 }
         }
         _ => Record::Ack { epoch },
     }
@@ -104,11 +104,11 @@ pub fn put_state(out: &mut [u8], epoch: u32, cpu: &[u8; 64]) -> usize {
     72
 }
 
-/// A COMMIT of either width; the bytes written.
-pub fn put_commit(out: &mut [u8], kind: u64, epoch: u32, pages: u64, blocks: u64) -> usize {
+/// A COMMIT of either width with the counts of pages and of BLOCK records; the bytes written.
+pub fn put_commit(out: &mut [u8], kind: u64, epoch: u32, pages: u64, records: u64) -> usize {
     put_head(out, body_length(kind, 0), kind, epoch);
     let at = put_number(out, 8, kind == WIDE_COMMIT, pages);
-    put_number(out, at, kind == WIDE_COMMIT, blocks)
+    put_number(out, at, kind == WIDE_COMMIT, records)
 }
 
 /// An ACK or an activation record: 8 bytes.

@@ -29,7 +29,7 @@ pub fn read(s: &mut Standby, lent: &mut Staging, data: &[u8], reply: &mut [u8]) 
         Record::Page { epoch, page, bytes } => read_page(s, lent, epoch, page, bytes),
         Record::Block { epoch, block, bytes } => read_block(s, lent, epoch, block, bytes),
         Record::State { epoch, cpu } => read_state(s, epoch, cpu),
-        Record::Commit { epoch, pages, blocks } => read_commit(s, lent, epoch, (pages, blocks), reply),
+        Record::Commit { epoch, pages, records } => read_commit(s, lent, epoch, (pages, records), reply),
         Record::Ack { .. } => Err(6),
     };
     match answer {
@@ -73,6 +73,23 @@ fn read_page(s: &mut Standby, lent: &mut Staging, epoch: u32, page: u64, bytes: 
     Ok((page_kind(s.m), page_record(s.u, s.m)))
 }
 
+impl Standby {
+    /// The first slot of a state in range that has this block of the epoch under way: staged and not due.
+    fn slot_of(&self, block: u64) -> Option<u64> {
+        (self.due..self.staged).find(|&slot| self.slots[slot as usize] == block)
+    }
+
+    /// Counts a BLOCK record of the epoch under way, and its block where that takes the next slot.
+    fn note_block(&mut self, block: u64, reused: bool) {
+        self.records += 1;
+        if !reused {
+            self.slots[self.staged as usize] = block;
+            self.staged += 1;
+            self.blocks += 1;
+        }
+    }
+}
+
 fn read_block(s: &mut Standby, lent: &mut Staging, epoch: u32, block: u64, bytes: &[u8]) -> Read {
     if block >= s.d {
         return Err(2);
@@ -83,16 +100,17 @@ fn read_block(s: &mut Standby, lent: &mut Staging, epoch: u32, block: u64, bytes
     if s.state_seen || lowest_page(s) > 0 {
         return Err(9);
     }
-    if s.blocks >= s.b {
+    // document 02, Job 9: "reuses the first such slot, with the later bytes and the earlier place"
+    let reused = s.slot_of(block);
+    if s.records == MOST_RECORDS || s.blocks >= s.b && reused.is_none() {
         return Err(14);
     }
-    if s.staged >= s.s {
+    // "17 isn't given where a slot is reused"
+    if s.staged >= s.s && reused.is_none() {
         return Err(17);
     }
-    lent.blocks[part(s.staged, s.u)].copy_from_slice(bytes);
-    s.slots[s.staged as usize] = block;
-    s.staged += 1;
-    s.blocks += 1;
+    lent.blocks[part(reused.unwrap_or(s.staged), s.u)].copy_from_slice(bytes);
+    s.note_block(block, reused.is_some());
     Ok((BLOCK, s.u + 10))
 }
 
@@ -118,7 +136,8 @@ fn read_commit(s: &mut Standby, lent: &mut Staging, epoch: u32, counts: (u64, u6
     if !s.state_seen {
         return Err(9);
     }
-    if counts != (s.pages, s.blocks) {
+    // "COMMIT's count is still of records"
+    if counts != (s.pages, s.records) {
         return Err(10);
     }
     for_marked(lent.marks, s.m, |page| {

@@ -1,15 +1,18 @@
 //! The names of the parts of a call, for telling a difference.
-use crate::items::{Item, PACKET_WORDS, PRIMARY_FIRST_WORDS};
+use crate::items::{
+    Item, PACKET_WORDS, PRIMARY_FIRST_WORDS, PRIMARY_WORDS, SLOTS_AT, STANDBY_LAST_AT, STANDBY_WORDS, WRITTEN_AT,
+};
 
 const SETTINGS: [&str; 8] = ["U", "M", "D", "B", "S", "Q", "L", "T"];
 const PRIMARY: [&str; PRIMARY_FIRST_WORDS] = [
     "U", "M", "D", "B", "Q", "L", "T", "count of ticks", "open epoch", "acknowledged", "alone",
-    "blocks of the open epoch", "waiting bytes", "packets held", "bytes held",
+    "blocks of the open epoch", "records of the open epoch", "waiting bytes", "packets held", "bytes held",
 ];
 const PACKET: [&str; PACKET_WORDS] = ["epoch", "length", "port"];
-const STANDBY: [&str; 11] =
+const STANDBY: [&str; SLOTS_AT] =
     ["U", "M", "D", "B", "S", "T", "count of ticks", "mode", "last received epoch", "staged", "due"];
-const STANDBY_LAST: [&str; 4] = ["blocks of this epoch", "pages of this epoch", "next page", "STATE seen"];
+const STANDBY_LAST: [&str; STANDBY_WORDS - STANDBY_LAST_AT] =
+    ["blocks of this epoch", "records of this epoch", "pages of this epoch", "next page", "STATE seen"];
 
 pub fn item_name(item: Item) -> &'static str {
     match item {
@@ -41,10 +44,11 @@ pub fn word_name(item: Item, at: usize) -> String {
     let name = match (item, at) {
         (Item::Settings, 0..8) => SETTINGS[at].to_string(),
         (Item::Primary, 0..PRIMARY_FIRST_WORDS) => PRIMARY[at].to_string(),
-        (Item::Primary, _) => packet_word(at - PRIMARY_FIRST_WORDS),
-        (Item::Standby, 0..11) => STANDBY[at].to_string(),
-        (Item::Standby, 11..75) => format!("slot {}'s block number", at - 11),
-        (Item::Standby, 75..79) => STANDBY_LAST[at - 75].to_string(),
+        (Item::Primary, PRIMARY_FIRST_WORDS..WRITTEN_AT) => packet_word(at - PRIMARY_FIRST_WORDS),
+        (Item::Primary, WRITTEN_AT..PRIMARY_WORDS) => format!("block number {} of the open epoch", at - WRITTEN_AT),
+        (Item::Standby, 0..SLOTS_AT) => STANDBY[at].to_string(),
+        (Item::Standby, SLOTS_AT..STANDBY_LAST_AT) => format!("slot {}'s block number", at - SLOTS_AT),
+        (Item::Standby, STANDBY_LAST_AT..STANDBY_WORDS) => STANDBY_LAST[at - STANDBY_LAST_AT].to_string(),
         _ => format!("word {at}"),
     };
     format!("{}: {name}", item_name(item))

@@ -2,7 +2,7 @@
 //! them and changes nothing, whatever else it is given.
 use crate::arguments::{arguments, fresh_world, small_settings, start_args};
 use crate::guarded::Guarded;
-use crate::items::{code, Item, PACKET_WORDS, PRIMARY_FIRST_WORDS, PRIMARY_WORDS, STANDBY_WORDS};
+use crate::items::{code, Item, PACKET_WORDS, PRIMARY_FIRST_WORDS, PRIMARY_WORDS, STANDBY_WORDS, WRITTEN_AT};
 use crate::names::word_name;
 use crate::random::Random;
 use crate::singles::any_world;
@@ -17,17 +17,18 @@ enum Field {
     Mode,
 }
 
-/// The fields of a primary by their words: T, the count of ticks, two epochs, alone, and every packet's epoch, length
-/// and port.
+/// The fields of a primary by their words: T, the count of ticks, two epochs, alone, every packet's epoch, length and
+/// port, and the 64 block numbers of the open epoch, those behind its count of blocks too.
 fn primary_fields() -> Vec<(usize, Field)> {
-    let packets = (PRIMARY_FIRST_WORDS..PRIMARY_WORDS).step_by(PACKET_WORDS);
+    let packets = (PRIMARY_FIRST_WORDS..WRITTEN_AT).step_by(PACKET_WORDS);
     let packets = packets.flat_map(|at| [(at, Field::Bits32), (at + 1, Field::Bits16), (at + 2, Field::Bits16)]);
-    (6..10).map(|at| (at, Field::Bits32)).chain([(10, Field::Flag)]).chain(packets).collect()
+    let written = (WRITTEN_AT..PRIMARY_WORDS).map(|at| (at, Field::Bits16));
+    (6..10).map(|at| (at, Field::Bits32)).chain([(10, Field::Flag)]).chain(packets).chain(written).collect()
 }
 
 /// The fields of a standby by their words: T, the count of ticks, the mode, the last received epoch and STATE seen.
 fn standby_fields() -> Vec<(usize, Field)> {
-    vec![(5, Field::Bits32), (6, Field::Bits32), (7, Field::Mode), (8, Field::Bits32), (78, Field::Flag)]
+    vec![(5, Field::Bits32), (6, Field::Bits32), (7, Field::Mode), (8, Field::Bits32), (79, Field::Flag)]
 }
 
 /// The numbers that do not fit: also some that are the word itself when cut to 32, 16 or 8 bits.
@@ -127,7 +128,9 @@ fn wrong_counts_at_start(r: &Random, sink: &mut Sink) {
 fn counts(item: Item) -> Vec<usize> {
     match item {
         Item::Settings => vec![0, 1, 7, 9, 16, 64],
-        Item::Primary => vec![0, 1, 15, STANDBY_WORDS, PRIMARY_WORDS - 1, PRIMARY_WORDS + 1, 2 * PRIMARY_WORDS],
+        Item::Primary => {
+            vec![0, 1, 16, STANDBY_WORDS, 207, WRITTEN_AT, PRIMARY_WORDS - 1, PRIMARY_WORDS + 1, 2 * PRIMARY_WORDS]
+        }
         _ => vec![0, 1, 11, STANDBY_WORDS - 1, STANDBY_WORDS + 1, PRIMARY_WORDS, 2 * STANDBY_WORDS],
     }
 }

@@ -3,11 +3,14 @@ use crate::arguments::MOST;
 use crate::model::*;
 use crate::random::Random;
 
-pub const CLAUSES: u64 = 23;
+pub const CLAUSES: u64 = 24;
+
+/// "14 is also given at 65,535 BLOCK records in an epoch; more in a state gives 1."
+const TOO_MANY_RECORDS: [u64; 5] = [65_536, 65_536, 65_537, 131_071, 1 << 17];
 
 /// Numbers of 64 bits that are small, or as the number given, when cut to 32. T, counts of ticks and epochs are fields
-/// of 32 bits, the lengths and ports of packets of 16, so they get none of these here: words with one that does not fit
-/// are no state (no_state.rs).
+/// of 32 bits, the lengths and ports of packets and a primary's block numbers of 16, so they get none of these here:
+/// words with one that does not fit are no state (no_state.rs).
 fn wide(r: &Random, number: u64) -> u64 {
     let above = (1 << 32) + (number & 0xffff_ffff);
     r.pick(&[above, above, 1 << 63, u64::MAX, u64::MAX - 1])
@@ -61,6 +64,7 @@ pub fn push_primary(r: &Random, p: &mut Primary, clause: u64) -> bool {
         20 => (p.alone, p.count) = (true, p.t + r.pick(&[1, 2, 100])),
         21 => (p.alone, p.count) = (false, p.t),
         22 if packets > 0 => p.queue[r.below(p.packets) as usize].port = r.pick(&[4, 4, 5, 255, 256, 257, 65_535]),
+        23 => p.records = outside(r, p.records, &TOO_MANY_RECORDS),
         _ => return false,
     }
     if matches!(clause % CLAUSES, 0 | 1 | 3) {
@@ -127,6 +131,7 @@ pub fn push_standby(r: &Random, s: &mut Standby, clause: u64) -> bool {
         }
         16 => (s.count, s.mode) = (s.t, Mode::Receiving),
         17 if s.d > 0 && s.staged > 0 => s.d = s.slots[..staged].iter().copied().max().unwrap_or(0),
+        18 => s.records = outside(r, s.records, &TOO_MANY_RECORDS),
         _ => return false,
     }
     true

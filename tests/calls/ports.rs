@@ -2,7 +2,7 @@
 //! the words and the held bytes that the library was lent and that it left, and not from the model's state.
 use crate::arguments::NO_PORTS;
 use crate::checker::{demand, Check};
-use crate::items::{code, Item, PACKET_WORDS, PRIMARY_FIRST_WORDS};
+use crate::items::{code, Item, PACKET_WORDS, PRIMARY_FIRST_WORDS, WRITTEN_AT};
 use crate::lent::Lent;
 use crate::model::PORTS;
 use std::collections::BTreeMap;
@@ -35,9 +35,9 @@ struct Held {
 impl Held {
     fn of(l: &Lent) -> Held {
         let (words, held) = (l.words(Item::Primary).items(), l.bytes(Item::Held).items());
-        let (acknowledged, alone, count) = (words[9], words[10] == 1, words[13] as usize);
+        let (acknowledged, alone, count) = (words[9], words[10] == 1, words[14] as usize);
         let mut at = 0;
-        let entries = words[PRIMARY_FIRST_WORDS..].chunks_exact(PACKET_WORDS).take(count);
+        let entries = words[PRIMARY_FIRST_WORDS..WRITTEN_AT].chunks_exact(PACKET_WORDS).take(count);
         let packets = entries.map(|entry| {
             let (epoch, length, port) = (entry[0], entry[1] as usize, entry[2]);
             at += length;
@@ -73,6 +73,9 @@ pub struct Ports {
 impl Ports {
     /// Counts and checks a packet or a take that did not give 1: so the words are a primary in range.
     pub fn check(&mut self, which: usize, number: u64, before: &Lent, after: &Lent) -> Check {
+        if !matches!(which, code::PACKET | code::TAKE) {
+            return Ok(());
+        }
         let (port, had) = (before.number(Item::Port), Held::of(before));
         if number == 23 {
             *self.no_port.entry((which, port)).or_default() += 1;

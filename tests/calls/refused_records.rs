@@ -1,9 +1,9 @@
 //! Records that are not accepted: every refusal that a read gives to a receiving standby, records cut short, and
 //! records given to a standby that is not receiving. None of them changes its count of ticks.
-use crate::arguments::record;
 use crate::both::Both;
 use crate::checker::{demand, Check};
 use crate::items::code;
+use crate::made_up::record;
 use crate::model::*;
 use crate::sink::Sink;
 use crate::world::{Args, World};
@@ -111,8 +111,8 @@ fn last_tick(sink: &mut Sink, mut both: Both) -> Check {
     demand(both.world.standby.mode == Mode::TakingOver, "the T-th tick does not take over after a refusal")
 }
 
-/// A record of this kind, of either width, and of the next epoch. Its page or block is 0, its counts are those
-/// received.
+/// A record of this kind, of either width, and of the next epoch. Its page or block is 0, its counts are those of the
+/// pages and of the BLOCK records received.
 pub fn next(s: &Standby, kind: u64) -> Vec<u8> {
     let (epoch, bytes) = (s.received + 1, vec![7; s.u as usize]);
     match kind {
@@ -120,9 +120,9 @@ pub fn next(s: &Standby, kind: u64) -> Vec<u8> {
         WIDE_PAGE => record(s.u + 8, kind, epoch, &[vec![0; 4], bytes].concat()),
         STATE => record(68, kind, epoch, &[7; 64]),
         WIDE_COMMIT => {
-            record(12, kind, epoch, &[(s.pages as u32).to_le_bytes(), (s.blocks as u32).to_le_bytes()].concat())
+            record(12, kind, epoch, &[(s.pages as u32).to_le_bytes(), (s.records as u32).to_le_bytes()].concat())
         }
-        _ => record(8, kind, epoch, &[(s.pages as u16).to_le_bytes(), (s.blocks as u16).to_le_bytes()].concat()),
+        _ => record(8, kind, epoch, &[(s.pages as u16).to_le_bytes(), (s.records as u16).to_le_bytes()].concat()),
     }
 }
 
@@ -202,15 +202,23 @@ pub fn page_of(s: &Standby, page: u64) -> Vec<u8> {
     if is_wide(s.m) { with_wide(record, 8, page) } else { with(record, 8, page) }
 }
 
-/// COMMITs with one count wrong: by 1, and wide ones by more than 2 bytes hold.
+/// COMMITs with one count wrong: by 1, wide ones by more than 2 bytes hold, and the count of different blocks in place
+/// of the records where these are more.
 fn bad_counts(s: &Standby) -> Vec<Vec<u8>> {
     let good = next(s, commit_kind(s.m));
+    let different = Some(s.blocks).filter(|&blocks| blocks != s.records);
     if !is_wide(s.m) {
-        return vec![with(good.clone(), 8, s.pages + 1), with(good, 10, s.blocks + 1)];
+        let records = [s.records + 1].into_iter().chain(different).map(|records| with(good.clone(), 10, records));
+        return [with(good.clone(), 8, s.pages + 1)].into_iter().chain(records).collect();
     }
     let pages = [s.pages + 1, s.pages + 65_536].map(|pages| with_wide(good.clone(), 8, pages));
-    let blocks = [s.blocks + 1, s.blocks + 65_536].map(|blocks| with_wide(good.clone(), 12, blocks));
-    pages.into_iter().chain(blocks).collect()
+    let records = [s.records + 1, s.records + 65_536].into_iter().chain(different);
+    pages.into_iter().chain(records.map(|records| with_wide(good.clone(), 12, records))).collect()
+}
+
+/// A block that no slot staged in this epoch has, where there is one: no slot is reused for it.
+fn other_block(s: &Standby) -> Option<u64> {
+    (0..s.d).find(|block| !s.slots[s.due as usize..s.staged as usize].contains(block))
 }
 
 /// 9, 10, 14 and 17, where the records read before ask for them.
@@ -222,8 +230,8 @@ fn by_order(s: &Standby) -> Vec<Bad> {
         all.push(bad(9, next(s, page_kind(s.m))));
     }
     let of_block = if after_page_or_state { 9 } else if s.blocks == s.b { 14 } else { 17 };
-    if s.d > 0 && (of_block != 17 || s.staged == s.s) {
-        all.push(bad(of_block, next(s, BLOCK)));
+    if let Some(block) = other_block(s).filter(|_| of_block != 17 || s.staged == s.s) {
+        all.push(bad(of_block, with(next(s, BLOCK), 8, block)));
     }
     if s.state_seen {
         all.push(bad(9, next(s, STATE)));

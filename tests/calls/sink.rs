@@ -8,6 +8,7 @@ use crate::model::{Reply, Standby};
 use crate::numbers::Numbers;
 use crate::ports::Ports;
 use crate::print_form::{input_line, Output};
+use crate::repeats::Repeats;
 use crate::view::View;
 use crate::world::{run, Args, World};
 use std::fs;
@@ -35,6 +36,8 @@ pub struct Sink {
     pub numbers: Numbers,
     /// What packets and takes did to the packets of each port.
     pub ports: Ports,
+    /// What came of blocks that come again in their epoch.
+    pub repeats: Repeats,
     /// How many records of each kind were accepted by a read.
     pub records: [u64; 10],
     /// What reads gave by the record's kind.
@@ -57,6 +60,7 @@ impl Sink {
             calls: 0,
             numbers: Numbers::default(),
             ports: Ports::default(),
+            repeats: Repeats::default(),
             records: [0; 10],
             kinds: Kinds::default(),
             by_count: [0; 3],
@@ -74,8 +78,9 @@ impl Sink {
         let reply = run(which, w, a);
         let check = compare(which, &self.lent, answer, &reply, &View::new(w, a));
         self.end_at_difference(which, check);
-        if matches!(which, code::PACKET | code::TAKE) && reply.number != 1 {
+        if reply.number != 1 {
             let check = self.ports.check(which, reply.number, &self.before, &self.lent);
+            let check = check.and_then(|()| self.repeats.check(which, reply.number, &self.before, &self.lent));
             self.end_at_difference(which, check);
         }
         self.note_text(which, answer);

@@ -1,5 +1,8 @@
 //! The model's world and a call's arguments as the words and bytes of the C interface.
-use crate::items::{given, Item, PACKET_WORDS, PRIMARY_FIRST_WORDS, PRIMARY_WORDS, SETTINGS_WORDS, STANDBY_WORDS};
+use crate::items::{
+    given, Item, PACKET_WORDS, PRIMARY_FIRST_WORDS, PRIMARY_WORDS, SETTINGS_WORDS, SLOTS_AT, STANDBY_LAST_AT,
+    STANDBY_WORDS, WRITTEN_AT,
+};
 use crate::lent::Lent;
 use crate::model::{Mode, Primary, Settings, Standby};
 use crate::world::{Args, World};
@@ -83,11 +86,12 @@ fn primary_words(p: &Primary) -> [u64; PRIMARY_WORDS] {
     let mut words = [0; PRIMARY_WORDS];
     words[..PRIMARY_FIRST_WORDS].copy_from_slice(&[
         p.u, p.m, p.d, p.b, p.q, p.l, p.t, p.count, p.open as u64, p.acknowledged as u64, p.alone as u64, p.blocks,
-        p.waiting, p.packets, p.held,
+        p.records, p.waiting, p.packets, p.held,
     ]);
-    for (entry, packet) in words[PRIMARY_FIRST_WORDS..].chunks_exact_mut(PACKET_WORDS).zip(&p.queue) {
+    for (entry, packet) in words[PRIMARY_FIRST_WORDS..WRITTEN_AT].chunks_exact_mut(PACKET_WORDS).zip(&p.queue) {
         entry.copy_from_slice(&[packet.epoch as u64, packet.length, packet.port as u64]);
     }
+    words[WRITTEN_AT..].copy_from_slice(&p.written);
     words
 }
 
@@ -99,8 +103,8 @@ fn standby_words(s: &Standby) -> [u64; STANDBY_WORDS] {
     };
     let mut words = [0; STANDBY_WORDS];
     let head = [s.u, s.m, s.d, s.b, s.s, s.t, s.count, mode, s.received as u64, s.staged, s.due];
-    words[..11].copy_from_slice(&head);
-    words[11..75].copy_from_slice(&s.slots);
-    words[75..].copy_from_slice(&[s.blocks, s.pages, s.next_page, s.state_seen as u64]);
+    words[..SLOTS_AT].copy_from_slice(&head);
+    words[SLOTS_AT..STANDBY_LAST_AT].copy_from_slice(&s.slots);
+    words[STANDBY_LAST_AT..].copy_from_slice(&[s.blocks, s.records, s.pages, s.next_page, s.state_seen as u64]);
     words
 }

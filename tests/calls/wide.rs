@@ -2,12 +2,13 @@
 //! and 9, and at the two largest. What a checkpoint's bytes must be is worked out here from the tables of documents 01
 //! and 02, beside the model. Both sides keep their buffers from call to call, as in large.rs. Then calls at random and
 //! cut runs at these M, and the ends of M's and L's ranges.
-use crate::arguments::{arguments, fresh_world, record};
+use crate::arguments::{arguments, fresh_world};
 use crate::checker::{demand, Check};
 use crate::cuts;
 use crate::generate::list;
 use crate::items::code;
 use crate::large::Pair;
+use crate::made_up::record;
 use crate::model::*;
 use crate::random::Random;
 use crate::refused_records::next;
@@ -263,7 +264,7 @@ fn known_bytes(p: &Primary, link: &[u8]) -> Check {
 fn cut_runs(r: &Random, sink: &mut Sink) -> Check {
     let mut tally = cuts::Tally::default();
     for _ in 0..CUT_RUNS {
-        cuts::run_at(r, sink, &mut tally, Settings { q: 100, ..settings(64, 4_097) })?;
+        cuts::run_at(r, sink, &mut tally, Settings { q: 100, ..settings(64, 4_097) }, false)?;
     }
     println!("  {} runs of M 4,097, {} cuts, {} takeovers", tally.runs, tally.cuts, tally.takeovers);
     demand(tally.after_checkpoint[0] > 0, "no takeover was after a checkpoint")

@@ -1,12 +1,13 @@
 //! Records for a standby of either width, on buffers that both sides keep: every refusal at one place of a run, the
 //! kinds that M does not call for, counts that are wrong only when they are read whole, and records made up at random.
-use crate::arguments::{arguments, record};
+use crate::arguments::arguments;
 use crate::checker::{demand, Check};
 use crate::items::code;
 use crate::large::Pair;
+use crate::made_up::record;
 use crate::model::*;
 use crate::refused_records::{by_header, whole};
-use crate::singles::any_standby;
+use crate::states::any_standby;
 use crate::world::Args;
 
 /// A read of these bytes gives this number and changes nothing of the standby and of the reply.
@@ -44,16 +45,18 @@ pub fn other_kinds(pair: &mut Pair) -> Check {
     pair.whole()
 }
 
-/// Before a COMMIT that is right: counts that are wrong by one, in one byte, or only above their two low bytes.
+/// Before a COMMIT that is right: counts that are wrong by one, in one byte, or only above their two low bytes; and the
+/// count of different blocks, where the records are more.
 pub fn wrong_counts(pair: &mut Pair) -> Check {
     let s = pair.w.standby.clone();
     demand(s.state_seen, "no COMMIT can come here")?;
     let (kind, width) = if s.m > 4_096 { (9, 4) } else { (4, 2) };
     let most = if s.m > 4_096 { 1 << 32 } else { 1 << 16 };
-    for (at, right) in [(0, s.pages), (1, s.blocks)] {
-        let near = [0, right + 1, right.wrapping_sub(1), right ^ 256, right + 65_536, right ^ 65_536, right | 1 << 31];
-        for wrong in near.into_iter().filter(|&wrong| wrong != right && wrong < most) {
-            let counts = if at == 0 { [wrong, s.blocks] } else { [s.pages, wrong] };
+    for (at, right) in [(0, s.pages), (1, s.records)] {
+        let near = [right + 1, right.wrapping_sub(1), right ^ 256, right + 65_536, right ^ 65_536, right | 1 << 31];
+        let near = near.into_iter().chain([0, s.blocks]);
+        for wrong in near.filter(|&wrong| wrong != right && wrong < most) {
+            let counts = if at == 0 { [wrong, s.records] } else { [s.pages, wrong] };
             let body = counts.map(|count| count.to_le_bytes()[..width].to_vec()).concat();
             refused(pair, 10, record(4 + body.len() as u64, kind, s.received + 1, &body), 8)?;
         }
