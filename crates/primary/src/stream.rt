@@ -3,7 +3,7 @@ ghost use mathlib.Core.Path.{_≡_};
 ghost use Prim.Native.Nat.{_≤_, min};
 ghost use lib.ListN.{length, take};
 ghost use Rattle.lists.specs.Part.{put, removed};
-ghost use Rattle.lists.specs.Refusal.{refusal};
+ghost use Rattle.lists.specs.Refusal.{refusal, pick};
 ghost use Rattle.rules.specs.PrimaryState.{withWaiting, withAcknowledgedDetector};
 ghost use Rattle.rules.specs.Reply.{answerOf, Answered};
 ghost use Rattle.rules.specs.Stream.{drainRefusal, drainReply, drainStream, drainDestination, ackTests, ackRefusal, ackJudged, ackState, ackReply};
@@ -84,7 +84,23 @@ fn move_out(stream: &mut [u8], count: usize, waiting: usize, destination: &mut [
     lists::remove(stream, 0, count, waiting);
 }
 
-// Moves the first min(n, waiting, destination length) bytes out and reports how many.
+// The same where a drain is accepted, and nothing where it is refused with this number: how many bytes have left.
+fn moved(stream: &mut [u8], number: u64, n: usize, waiting: usize, destination: &mut [u8]) -> usize
+    requires { ⌜ (number ≡ 0 → waiting ≤ length (now stream)) ⌝ }
+    ensures { λ r. ⌜ r ≡ pick number (min n (min waiting (length (now (destination .entry))))) 0 ⌝ }
+    ensures { λ _. ⌜ now (stream .exit) ≡ pick number (removed 0 (min n (min waiting (length (now (destination .entry))))) waiting (now (stream .entry))) (now (stream .entry)) ⌝ }
+    ensures { λ _. ⌜ now (destination .exit) ≡ pick number (put (now (destination .entry)) 0 (take (min n (min waiting (length (now (destination .entry))))) (now (stream .entry)))) (now (destination .entry)) ⌝ }
+{
+    if number != 0 {
+        return 0;
+    }
+    let count = drain_count(n, waiting, destination.len());
+    move_out(stream, count, waiting, destination);
+    count
+}
+
+// Moves the first min(n, waiting, destination length) bytes out and reports how many. It returns at one place, accepted
+// or refused: so the compiler sees that the packets stay where they are (docs/BENCHMARKS.md).
 pub fn drain(p: Primary, stream: &mut [u8], n: usize, destination: &mut [u8]) -> PrimaryReply
     ensures { λ r. ⌜ r ≡ drainReply p (length (now (stream .entry))) n (length (now (destination .entry))) ⌝ }
     ensures { λ _. ⌜ now (stream .exit) ≡ drainStream p (now (stream .entry)) n (length (now (destination .entry))) ⌝ }
@@ -92,19 +108,11 @@ pub fn drain(p: Primary, stream: &mut [u8], n: usize, destination: &mut [u8]) ->
 {
     let waiting = p.waiting;
     let number = drain_refusal(p, stream.len());
-    if number != 0 {
-        return PrimaryReply {
-            state: p,
-            number: number,
-            value: 0,
-        };
-    }
-    let count = drain_count(n, waiting, destination.len());
-    move_out(stream, count, waiting, destination);
+    let count = moved(stream, number, n, waiting, destination);
     let state = with_waiting(p, waiting - count);
     PrimaryReply {
         state: state,
-        number: 0,
+        number: number,
         value: count as u64,
     }
 }

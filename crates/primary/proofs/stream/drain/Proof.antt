@@ -1,53 +1,49 @@
 -- `primary::stream::drain` meets its contract. Assumes nothing.
 use borrow.Author.Needs.{needs}
-use mathlib.Core.Path.{sym, _∙_}
+use mathlib.Core.Path.{_≡_, refl, sym, ap, _∙_}
+use mathlib.Core.Logic.{⊎-elim}
+use Prim.Native.Nat.{ℕ, _-_, _≤_, min}
 use native.Mathlib.Omega.{arith}
 use lib.ListN.{length}
 use denote.Ref.{now}
-use Rattle.lists.proofs.TestLaws.{pick-accepted, pick-refused}
+use borrow.Author.Tests.{eq-eqb, ne-eqb}
+use Rattle.lists.specs.Refusal.{pick}
+use Rattle.lists.proofs.TestLaws.{eq-or-ne}
+use Rattle.rules.specs.declared.Primary.{Primary}
+use Rattle.rules.specs.declared.PrimaryReply.{PrimaryReply}
+use Rattle.rules.specs.PrimaryState.{withWaiting}
+use Rattle.rules.specs.Reply.{primaryReply}
 use Rattle.rules.specs.Stream.{drainReply, drainStream, drainDestination}
-use Rattle.rules.proofs.ReplyLaws.{primary-accepts, primary-refuses}
+use Rattle.rules.proofs.ReplyLaws.{pick-cases}
 use Rattle.rules.proofs.PrimaryFacts.{primary-facts}
-use Rattle.rules.proofs.StreamLaws.{DrainFacts, drain-accepted}
+use Rattle.rules.proofs.StreamLaws.{drain-accepted}
 use Rattle.primary.proofs.stream.drain.Statement.{statement}
 use Rattle.primary.proofs.stream.drain.Tie as tie
 
--- what acceptance says, past the test of the number
-facts : (c : tie.Else1) → DrainFacts (c .before .before .before .before .args .p) (length (now (c .before .before .before .before .args .stream)))
-facts c = drain-accepted _ _ (sym (c .before .drain-refusal .ensures) ∙ c .if1 .left)
-
-returns : tie.Need-returns
-unfolding drainReply drainStream drainDestination
-returns c =
-    let e = c .before .drain-refusal .ensures in
-    (primary-refuses _ _ _ _ _ e (c .if1 .taken), (sym (pick-refused _ _ _ (λ z. c .if1 .taken (e ∙ z))), sym (pick-refused _ _ _ (λ z. c .if1 .taken (e ∙ z)))))
-
-move-out-requires : tie.Need-move-out-requires
-move-out-requires c κs =
-    let f = facts (c .before .before .before) in
-    let w = primary-facts _ (f .ok) .waiting in
-    let e = c .before .before .drain-count .ensures in
-    (omega arith, omega arith, omega arith)
-
-returns-2 : tie.Need-returns-2
-unfolding drainReply drainStream drainDestination
-returns-2 c =
-    let e = c .before .before .before .before .before .before .before .before .before .before .drain-refusal .ensures in
-    let z = c .before .before .before .before .before .before .before .before .before .if1 .left in
-    let n = c .before .before .before .before .before .before .before .before .drain-count .ensures in
-    let m = c .before .before .before .before .before .move-out .ensures in (
-      rw (c .with-waiting .ensures, n) (primary-accepts _ _ _ _ _ e z),
-      (rw n at (m .0) ∙ sym (pick-accepted _ _ _ (sym e ∙ z)), rw n at (m .1) ∙ sym (pick-accepted _ _ _ (sym e ∙ z))),
-    )
+-- where nothing has left, the state is as it was
+replied : (number count : ℕ) (p : Primary)
+    → _≡_ {A = PrimaryReply} (record { state = withWaiting p (p .waiting - pick number count 0); number = number; value = pick number count 0 }) (primaryReply number p (withWaiting p (p .waiting - count)) count)
+replied number count p =
+    let none : p .waiting - 0 ≡ p .waiting = omega arith in
+    ⊎-elim (λ e. rw (eq-eqb number 0 e)) (λ e. rw (ne-eqb number 0 e, none)) (eq-or-ne number 0)
 
 drain-refusal-requires : tie.Need-drain-refusal-requires
 drain-refusal-requires c κs = search needs
 
-drain-count-requires : tie.Need-drain-count-requires
-drain-count-requires c κs = search needs
+moved-requires : tie.Need-moved-requires
+moved-requires c κs =
+    λ z.
+    let f = drain-accepted _ _ (sym (c .before .before .drain-refusal .ensures) ∙ z) in
+    let w = primary-facts _ (f .ok) .waiting in
+    omega arith
 
 sub-with-waiting : tie.Need-sub-with-waiting
-sub-with-waiting c = search needs
+sub-with-waiting c =
+    let a = c .before .before .before .before .before .before .before .before .before .before .args in
+    let number = c .before .before .before .before .before .before .before .drain-refusal .result in
+    let count = min (a .n) (min (a .p .waiting) (length (now (a .destination)))) in
+    let h = pick-cases (λ (x : ℕ). x ≤ a .p .waiting) number count 0 (λ z. omega arith) (λ z. omega arith) in
+    omega (arith, c .before .before .before .before .moved .ensures .0, h)
 
 with-waiting-requires : tie.Need-with-waiting-requires
 with-waiting-requires c κs = search needs
@@ -58,5 +54,13 @@ same-length c = search needs
 same-length-2 : tie.Need-same-length-2
 same-length-2 c = search needs
 
+returns : tie.Need-returns
+unfolding drainReply drainStream drainDestination
+returns c =
+    let a = c .before .before .before .before .before .before .before .before .before .before .before .args in
+    let e = c .before .before .before .before .before .before .before .before .drain-refusal .ensures in
+    let m = c .before .before .before .before .before .moved .ensures in
+    (rw (c .with-waiting .ensures, m .0, e) (replied _ _ (a .p)), (rw e at (m .1 .0), rw e at (m .1 .1)))
+
 pub drain-spec : {M : Type 1} → statement M
-drain-spec = tie.close (tie.spec drain-refusal-requires returns drain-count-requires move-out-requires sub-with-waiting with-waiting-requires same-length same-length-2 returns-2)
+drain-spec = tie.close (tie.spec drain-refusal-requires moved-requires sub-with-waiting with-waiting-requires same-length same-length-2 returns)
