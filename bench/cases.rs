@@ -1,5 +1,7 @@
 //! The cases, and what they share.
 
+#[path = "block_cases.rs"]
+mod block;
 #[path = "mark_cases.rs"]
 mod mark;
 #[path = "primary_cases.rs"]
@@ -11,6 +13,7 @@ mod tick;
 
 use crate::model;
 use crate::{Call, Case, Interface};
+use block::{BlockReads, Blocks, DiskWrites};
 use mark::Marks;
 use primary::{Checkpoint, Drain, Packets, ROUNDS};
 use standby::{Commit, Flush, PageReads};
@@ -57,6 +60,13 @@ const PAGE_READS: [(usize, usize); 5] = [(64, 64), (512, 64), (4096, 64), (64, M
 /// The packets in and out: their bytes, how many others are held, and the port.
 const PACKETS: [(usize, usize, usize); 7] =
     [(64, 0, 0), (64, 32, 0), (64, 63, 0), (1514, 0, 0), (1514, 32, 0), (1514, 63, 0), (64, 63, 3)];
+
+/// What a disk write and a read of BLOCK find in the epoch: how many blocks, and whether the last of them comes again.
+const BLOCKS: [(usize, bool); 3] = [(0, false), (63, false), (63, true)];
+
+fn blocks() -> impl Iterator<Item = Blocks> {
+    [64, 4096].into_iter().flat_map(|u| BLOCKS.map(|(had, again)| Blocks { u, had, again }))
+}
 
 /// The cases of a checkpoint's pages, at each end.
 fn checkpoints(sizes: &[(usize, usize, usize)], each: &mut impl FnMut(&mut (dyn Case + 'static))) {
@@ -106,8 +116,14 @@ pub fn interface(mut each: impl FnMut(&mut (dyn Interface + 'static))) {
         each(&mut Packets::new(n, kept, port));
     }
     each(&mut PrimaryTicks::new());
+    for blocks in blocks() {
+        each(&mut DiskWrites::new(blocks));
+    }
     for (u, m) in PAGE_READS {
         each(&mut PageReads::new(u, m));
+    }
+    for blocks in blocks() {
+        each(&mut BlockReads::new(blocks));
     }
     each(&mut StandbyTicks::new());
 }

@@ -7,12 +7,20 @@ mod capi;
 use crate::library::Lent;
 use crate::model;
 
-pub const PRIMARY_WORDS: usize = 207;
-pub const STANDBY_WORDS: usize = 79;
+pub const PRIMARY_WORDS: usize = 272;
+pub const STANDBY_WORDS: usize = 80;
 
-/// Where the count of ticks stands.
+/// Where a primary's packets begin, and the numbers of its epoch's blocks.
+const PACKETS: usize = 16;
+const WRITTEN: usize = 208;
+
+/// Where the count of ticks stands, and the counts of blocks: behind a primary's, its records and its waiting bytes,
+/// behind a standby's, its records.
 pub const PRIMARY_TICKS: usize = 7;
 pub const STANDBY_TICKS: usize = 6;
+pub const PRIMARY_BLOCKS: usize = 11;
+pub const STANDBY_STAGED: usize = 9;
+pub const STANDBY_BLOCKS: usize = 75;
 
 pub type PrimaryWords = [u64; PRIMARY_WORDS];
 
@@ -20,10 +28,11 @@ pub fn primary_words(p: &model::Primary) -> PrimaryWords {
     let mut words = [0; PRIMARY_WORDS];
     words[..6].copy_from_slice(&[p.u, p.m, p.d, p.b, p.q, p.l]);
     words[6..11].copy_from_slice(&[p.t, p.count, p.open.into(), p.acknowledged.into(), p.alone.into()]);
-    words[11..15].copy_from_slice(&[p.blocks, p.waiting, p.packets, p.held]);
-    for (entry, packet) in words[15..].chunks_exact_mut(3).zip(&p.queue) {
+    words[11..PACKETS].copy_from_slice(&[p.blocks, p.records, p.waiting, p.packets, p.held]);
+    for (entry, packet) in words[PACKETS..WRITTEN].chunks_exact_mut(3).zip(&p.queue) {
         entry.copy_from_slice(&[packet.epoch.into(), packet.length, packet.port.into()]);
     }
+    words[WRITTEN..].copy_from_slice(&p.written);
     words
 }
 
@@ -42,7 +51,7 @@ pub fn standby_words(s: &model::Standby) -> Standby {
     words[..6].copy_from_slice(&[s.u, s.m, s.d, s.b, s.s, s.t]);
     words[6..11].copy_from_slice(&[s.count, 0, s.received.into(), s.staged, s.due]);
     words[11..75].copy_from_slice(&s.slots);
-    words[75..].copy_from_slice(&[s.blocks, s.pages, s.next_page, s.state_seen.into()]);
+    words[75..].copy_from_slice(&[s.blocks, s.records, s.pages, s.next_page, s.state_seen.into()]);
     Standby { words, pending: s.staged_cpu, processor: s.kept_cpu }
 }
 
@@ -51,6 +60,29 @@ pub fn answered(word: u64) -> model::Reply {
     let (number, count) = (word & 65535, word >> 16 & 65535);
     let (used, missing) = if number == model::CUT_SHORT { (0, count) } else { (count, 0) };
     model::Reply { number, value: word >> 32, used, missing }
+}
+
+pub fn disk_write(
+    state: &mut PrimaryWords,
+    disk: &mut [u8],
+    stream: &mut [u8],
+    block: usize,
+    bytes: &[u8],
+) -> model::Reply {
+    let (d, s) = (disk.len(), stream.len());
+    answered(unsafe {
+        capi::primary_disk_write(
+            state.as_mut_ptr(),
+            state.len(),
+            disk.as_mut_ptr(),
+            d,
+            stream.as_mut_ptr(),
+            s,
+            block,
+            bytes.as_ptr(),
+            bytes.len(),
+        )
+    })
 }
 
 pub fn packet(state: &mut PrimaryWords, held: &mut [u8], port: usize, bytes: &[u8]) -> model::Reply {

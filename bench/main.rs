@@ -242,7 +242,7 @@ fn limits_in_c(rows: &[Added]) {
     if rows.is_empty() {
         return;
     }
-    let primary = |r: &&Added| r.name.contains("packet") || r.name.contains("primary");
+    let primary = |r: &&Added| ["packet", "primary", "disk write"].iter().any(|call| r.name.contains(call));
     let over = rows.iter().filter(primary).filter(|r| r.ns >= 100.0).map(|r| &r.name);
     println!();
     limit("the C interface adds under 100 ns to a primary's call", over);

@@ -23,10 +23,12 @@ pub fn primary(u: usize, m: usize, q: usize, l: usize, waiting: usize) -> model:
         acknowledged: 0,
         alone: false,
         blocks: 0,
+        records: 0,
         waiting: waiting as u64,
         packets: 0,
         held: 0,
         queue: [none; 64],
+        written: [0; 64],
     }
 }
 

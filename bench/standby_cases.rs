@@ -23,6 +23,7 @@ pub fn standby(u: usize, m: usize, staged: usize, had: usize, seen: bool) -> mod
         due: staged as u64,
         slots: std::array::from_fn(|i| i as u64),
         blocks: 0,
+        records: 0,
         pages: had as u64,
         next_page: had as u64,
         state_seen: seen,
@@ -48,7 +49,7 @@ fn model_read(u: usize, m: usize, had: usize, seen: bool, rounds: usize, bytes: 
     at as u64
 }
 
-fn lent(u: usize, m: usize) -> Lent {
+pub fn lent(u: usize, m: usize) -> Lent {
     Lent {
         memory: filled(m * u, 3),
         pages: filled(m * u, 4),
