@@ -9,10 +9,10 @@ use native.Mathlib.Omega.{arith}
 use lib.Dec.{eqb}
 use lib.ListN.{length, take, drop, getD}
 use lib.Seq.{drop-nil}
-use borrow.Author.Tests.{ltb-true, ltb-false, lt-ltb, le-ltb, eqb-true, eqb-false, ne-eqb}
+use borrow.Author.Tests.{ltb-true, ltb-false, lt-ltb, le-ltb, eqb-true, eqb-false, eq-eqb, ne-eqb}
 use Rattle.lists.proofs.TestLaws.{by-test, agree, cond-true, cond-false}
 use Rattle.lists.proofs.ArrayLaws.{rest-cons, rest-none}
-use Rattle.lists.specs.Select.{selected, placeOf, without, placeIn, isIn, NoRepeats}
+use Rattle.lists.specs.Select.{selected, placeOf, without, placeIn, isIn, timesIn, NoRepeats}
 
 module _ {A : Type 0} where
   -- ---- the list without its i-th element
@@ -170,6 +170,17 @@ module _ (n : ℕ) where
       (λ y. absurd (true≢false (sym (in-first x ns y) ∙ h)))
       (λ y. in-others x (ns ++ (m ∷ [])) y ∙ in-more ns m (sym (in-others x ns y) ∙ h) e)
       (by-test (eqb x n))
+
+-- ---- how often a number is in a list
+module _ (n : ℕ) where
+  pub times-none : timesIn n [] ≡ 0
+  times-none = ap length (selected-none (λ (m : ℕ). eqb m n))
+
+  pub times-more : (m : ℕ) (ns : List ℕ) → m ≡ n → timesIn n (m ∷ ns) ≡ timesIn n ns + 1
+  times-more m ns e = omega (arith, ap length (selected-yes (λ (k : ℕ). eqb k n) m ns (eq-eqb _ _ e)))
+
+  pub times-same : (m : ℕ) (ns : List ℕ) → (m ≡ n → ⊥) → timesIn n (m ∷ ns) ≡ timesIn n ns
+  times-same m ns ne = ap length (selected-no (λ (k : ℕ). eqb k n) m ns (ne-eqb _ _ ne))
 
 -- a number that was not in the list
 pub no-repeats-more : (ns : List ℕ) (n : ℕ) → NoRepeats ns → isIn n ns ≡ false → NoRepeats (ns ++ (n ∷ []))

@@ -1,4 +1,5 @@
--- The elements of a list that pass a test, and the first of them; whether a number is in a list. Assumes nothing.
+-- The elements of a list that pass a test, and the first of them; whether a number is in a list, and how often. Assumes
+-- nothing.
 use Prim.Native.Nat.{ℕ, zero, suc}
 use mathlib.Core.Path.{_≡_}
 use mathlib.Core.Bool.{Bool, false, cond}
@@ -30,6 +31,10 @@ placeIn n ns = placeOf (λ (m : ℕ). eqb m n) ns
 -- n is one of these numbers
 abbrev pub isIn : ℕ → List ℕ → Bool
 isIn n ns = ltb (placeIn n ns) (length ns)
+
+-- how often n is one of them
+abbrev pub timesIn : ℕ → List ℕ → ℕ
+timesIn n ns = length (selected (λ (m : ℕ). eqb m n) ns)
 
 -- no number is in the list twice
 abbrev pub NoRepeats : List ℕ → Type 0
