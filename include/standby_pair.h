@@ -50,6 +50,7 @@
  *   staged_marks              uint64_t  MARK_WORDS(M)      which pages these are
  *   staged_blocks             uint8_t   S * U              staged and due blocks, oldest first
  *   area                      uint8_t   AREA_BYTES         the record area of the standby's disk
+ *   order                     uint64_t  M                  each page number below M once
  *   bytes, destination, reply uint8_t   any
  *
  * A state is words (and, for the standby, pending and processor). Words that are no state are
@@ -365,6 +366,14 @@ uint64_t primary_take(uint64_t *state, size_t state_len, uint8_t *held, size_t h
  */
 uint64_t primary_tick(uint64_t *state, size_t state_len);
 
+/*
+ * Sum: each byte of memory * (its address + 1), added modulo 2^32, pages in rising order. When
+ * alone too.
+ * Gives 1. Value: the sum, which may be 0. Changes nothing.
+ */
+uint64_t primary_sum(const uint64_t *state, size_t state_len, const uint8_t *memory,
+                     size_t memory_len);
+
 /* ---- The standby's calls. ----
  *
  * The state is state, pending and processor together. pending is the processor state of the last
@@ -437,6 +446,30 @@ uint64_t standby_memory_write(uint64_t *state, size_t state_len, uint8_t *pendin
 uint64_t standby_disk_write(uint64_t *state, size_t state_len, uint8_t *pending,
                             uint8_t *processor, uint8_t *disk, size_t disk_len, size_t block,
                             const uint8_t *bytes, size_t bytes_len);
+
+/*
+ * Sum: the primary's, with the pages added in this order, which names each page once. In any mode.
+ * Until the standby is active it is the sum of the last received checkpoint's memory: the primary's
+ * sum at that checkpoint, while its guest stands still, is the same.
+ * Gives 1, also where order is not of M entries, one of them is M or more, or one comes again.
+ * Value: the sum, which is the same in every order. Changes nothing.
+ */
+uint64_t standby_sum(const uint64_t *state, size_t state_len, const uint8_t *pending,
+                     const uint8_t *processor, const uint8_t *memory, size_t memory_len,
+                     const uint64_t *order, size_t order_len);
+
+/* ---- At either end. ---- */
+
+/*
+ * A page's own part of a sum: of pages of u bytes, page p's bytes * (their address in memory + 1),
+ * modulo 2^32. The parts of all pages, added modulo 2^32, are the sum; so a sum that was taken
+ * before a page was written is made the new one by taking the page's part before the write off and
+ * adding the one after it. A host that does so needs no whole sum while its guest stands still.
+ * Not a call of an end, and no state is lent.
+ * Gives 1: u is not 64 to 4096 or no multiple of 64, memory_len is above 268435456, or page is not
+ * below memory_len / u. Value: the part. Changes nothing.
+ */
+uint64_t pair_page_sum(const uint8_t *memory, size_t memory_len, size_t u, size_t page);
 
 /* ---- After both boxes fail. ---- */
 

@@ -25,6 +25,8 @@ use Rattle.records.proofs.ReadLaws.{ReadRanges, read-ranges, on-ack, found-case
 use Rattle.settings.specs.declared.Settings.{Settings}
 use Rattle.queue.specs.Held.{oldestAt, oldest}
 use Rattle.staging.specs.Slot.{flushCount}
+use Rattle.sums.specs.Sum.{pageSum, sumOver, rising}
+use Rattle.sums.proofs.SumLaws.{sum-low}
 use Rattle.rules.specs.declared.Answer.{Answer}
 use Rattle.rules.specs.declared.Answer.the-variants.{Accepted}
 use Rattle.rules.specs.declared.Answer.the-variants as answer
@@ -43,6 +45,7 @@ use Rattle.rules.specs.Packets.{packetTests, packetRefusal, packetReply, takeTe
 use Rattle.rules.specs.Checkpoint.{checkpointTests, checkpointRefusal, checkpointReply}
 use Rattle.rules.specs.Stream.{drainTests, drainCount, drainRefusal, drainReply, ackTests, ackRefusal, ackJudged, ackReply}
 use Rattle.rules.specs.PrimaryTick.{primaryTickTests, primaryTickRefusal, primaryTickReply}
+use Rattle.rules.specs.Sums.{primarySumTests, primarySumRefusal, primarySumReply, standbySumTests, standbySumRefusal, standbySumReply}
 use Rattle.rules.specs.Judge.{readerOf, readLentOk, freeFor, pageTests, pageRefusal, blockTests, blockRefusal, stateTests, stateRefusal, commitTests, commitRefusal, recordRefusal, judged}
 use Rattle.rules.specs.Read.{readReply}
 use Rattle.rules.specs.Flush.{flushTests, flushRefusal, flushReply}
@@ -179,6 +182,11 @@ module _ (p : Primary) where
   unfolding primaryTickReply primaryTickRefusal
   primary-tick-fits = reply-fits (primaryTickTests p) 0 refl (λ z. omega arith)
 
+  pub primary-sum-fits : (memory : List ℕ) → PrimaryFits (primarySumReply p memory)
+  unfolding primarySumReply primarySumRefusal
+  primary-sum-fits memory =
+      reply-fits (primarySumTests p (length memory)) (sumOver (p .settings .u) memory (rising (p .settings .m))) refl (λ z. sum-low (p .settings .u) memory _)
+
 -- ---- the standby's, of words that are a state: the value is the last received epoch
 module _ (w pending processor : List ℕ) (e : standbyWordsOk w ≡ true) where
   pub received-low : standbyOf w pending processor .received < 4294967296
@@ -212,6 +220,11 @@ module _ (s : Standby) where
   pub standby-tick-fits : (marks : ℕ) → StandbyFits (standbyTickReply s marks)
   unfolding standbyTickReply standbyTickRefusal
   standby-tick-fits marks = reply-fits (standbyTickTests s marks) 0 refl (λ z. omega arith)
+
+  pub standby-sum-fits : (memory order : List ℕ) → StandbyFits (standbySumReply s memory order)
+  unfolding standbySumReply standbySumRefusal
+  standby-sum-fits memory order =
+      reply-fits (standbySumTests s (length memory) order) (sumOver (s .settings .u) memory order) refl (λ z. sum-low (s .settings .u) memory order)
 
 -- ---- calls that read a record
 

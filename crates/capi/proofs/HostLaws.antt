@@ -24,7 +24,7 @@ use Rattle.capi.specs.PrimaryWords.{primaryWordsOk}
 use Rattle.capi.specs.StandbyCalls.{LentStandby, isStandby}
 use Rattle.capi.specs.PairCalls.{settingsOf, startWordsOk}
 use Rattle.capi.specs.Host.{Host, hostOf, worldOf, HasStates, Made, toldOutcome, madeStep, MadeAll, plainTold, StartMade}
-use Rattle.capi.proofs.StepLaws.{memory-write-joined, disk-write-joined, packet-joined, checkpoint-joined, drain-joined, ack-joined, take-joined, primary-tick-joined, read-joined, flush-joined, standby-tick-joined, activation-joined, active-memory-write-joined, active-disk-write-joined, start-joined, primary-same, standby-same}
+use Rattle.capi.proofs.StepLaws.{memory-write-joined, disk-write-joined, packet-joined, checkpoint-joined, drain-joined, ack-joined, take-joined, primary-tick-joined, primary-sum-joined, read-joined, flush-joined, standby-tick-joined, activation-joined, active-memory-write-joined, active-disk-write-joined, standby-sum-joined, start-joined, primary-same, standby-same}
 
 -- ---- one call
 
@@ -76,6 +76,9 @@ module _ (h : Host) (s : HasStates h) (answer : ℕ) (filled : List ℕ) (h′ :
       (take-joined (worldOf h) _ _ _ _ _ _ answer _ (s .primary) port destination _ _ (made .0))
   made-step call.primaryTick made =
       primary-made (made .1) refl (made .0 .again (s .primary)) (primary-tick-joined (worldOf h) _ _ _ _ _ _ answer _ (s .primary) (made .0))
+  made-step call.primarySum made =
+      primary-made (made .1) refl (ap (λ (x : Host). primaryWordsOk (x .primary)) (made .1) ∙ s .primary)
+      (primary-sum-joined (worldOf h) _ _ _ _ _ _ answer (s .primary) (made .0))
   made-step (call.read n reply) made =
       standby-made (made .1) refl (made .0 .0 .again (s .standby))
       (read-joined (worldOf h) _ _ _ _ _ _ _ answer _ (s .standby) n reply _ _ _ _ _ (made .0))
@@ -94,6 +97,9 @@ module _ (h : Host) (s : HasStates h) (answer : ℕ) (filled : List ℕ) (h′ :
   made-step (call.activeDiskWrite block bytes) made =
       standby-made (made .1) refl (made .0 .0 .again (s .standby))
       (active-disk-write-joined (worldOf h) _ _ _ _ _ _ _ answer _ (s .standby) block bytes _ (made .0))
+  made-step (call.standbySum order) made =
+      standby-made (made .1) refl (ap (λ (x : Host). isStandby (x .standby)) (made .1) ∙ s .standby)
+      (standby-sum-joined (worldOf h) _ _ _ _ _ _ _ answer order (s .standby) (made .0))
 
 -- ---- a refused call, and one that is cut short, leaves every word and every byte that the host keeps
 host-same : (h h′ : Host) → HasStates h → HasStates h′ → worldOf h′ ≡ worldOf h → h′ ≡ h

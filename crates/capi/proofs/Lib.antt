@@ -4,6 +4,7 @@ pub mod StandbyWordLaws
 pub mod DoneLaws
 pub mod KeptLaws
 pub mod AnswerLaws
+pub mod PageSumLaws
 pub mod MissingLaws
 pub mod StepLaws
 pub mod HostLaws

@@ -18,6 +18,7 @@ use Rattle.rules.specs.Stream.{ackReply}
 use Rattle.rules.specs.Read.{readLent, readReply}
 use Rattle.rules.specs.PrimaryWrites.{memoryWriteRefusal, memoryWriteReply}
 use Rattle.rules.proofs.ReplyLaws.{pick-cases}
+use Rattle.rules.proofs.SumLaws.{primary-sum-state, standby-sum-state}
 use Rattle.rules.specs.Choose.{choiceOf, choiceNumber, diskOf}
 use Rattle.rules.specs.declared.Choice.{Choice}
 use Rattle.rules.specs.declared.Choice.the-variants as choice-of
@@ -27,13 +28,13 @@ use Rattle.rules.specs.Step.{step, outcome, atPrimary, atStandby}
 use Rattle.capi.specs.Word.{replyWord, answerNumber, answerUsed, answerValue, Leaves}
 use Rattle.capi.specs.PrimaryWords.{primaryWords, primaryWordsOk, primaryOf}
 use Rattle.capi.specs.StandbyWords.{standbyWords, standbyOf}
-use Rattle.capi.specs.PrimaryCalls.{PrimaryDone, MemoryWriteDone, DiskWriteDone, PacketDone, CheckpointDone, DrainDone, AckDone, TakeDone, PrimaryTickDone}
-use Rattle.capi.specs.StandbyCalls.{LentStandby, asLent, isStandby, standbyIn, StandbyDone, ReadDone, FlushDone, StandbyTickDone, ActivationDone, ActiveMemoryWriteDone, ActiveDiskWriteDone}
+use Rattle.capi.specs.PrimaryCalls.{PrimaryDone, MemoryWriteDone, DiskWriteDone, PacketDone, CheckpointDone, DrainDone, AckDone, TakeDone, PrimaryTickDone, PrimarySumDone}
+use Rattle.capi.specs.StandbyCalls.{LentStandby, asLent, isStandby, standbyIn, StandbyDone, ReadDone, FlushDone, StandbyTickDone, ActivationDone, ActiveMemoryWriteDone, ActiveDiskWriteDone, StandbySumDone}
 use Rattle.capi.specs.PairCalls.{settingsOf, startWordsOk, StartDone, choiceWord}
 use Rattle.capi.specs.Joined.{primaryEnd, standbyEnd, withLink, withAcks, toldStep, ackSent}
 use Rattle.capi.proofs.PrimaryWordLaws.{primary-words-again}
 use Rattle.capi.proofs.StandbyWordLaws.{standby-words-again}
-use Rattle.capi.proofs.AnswerLaws.{ReplyFits, Parts, reply-parts, record-parts, memory-write-fits, disk-write-fits, packet-fits, checkpoint-fits, drain-fits, ack-fits, take-fits, primary-tick-fits, read-fits, flush-fits, standby-tick-fits, activation-fits, active-memory-write-fits, active-disk-write-fits, start-fits, choice-fits}
+use Rattle.capi.proofs.AnswerLaws.{ReplyFits, Parts, reply-parts, record-parts, memory-write-fits, disk-write-fits, packet-fits, checkpoint-fits, drain-fits, ack-fits, take-fits, primary-tick-fits, primary-sum-fits, read-fits, flush-fits, standby-tick-fits, activation-fits, active-memory-write-fits, active-disk-write-fits, standby-sum-fits, start-fits, choice-fits}
 
 -- ---- what every call leaves, where it is lent a state
 
@@ -130,6 +131,15 @@ module _ (κ : World) (w memory disk dirty held stream : List ℕ) (answer : ℕ
       let t = primary-told (primary-tick-fits (primaryOf w)) ok done in
       rw (t .state, t .parts .number-is, t .parts .value-is)
 
+-- a sum leaves the words and the buffers
+pub primary-sum-joined : (κ : World) (w memory disk dirty held stream : List ℕ) (answer : ℕ) → primaryWordsOk w ≡ true → PrimarySumDone w memory answer
+    → step (atPrimary κ (primaryEnd w memory disk dirty held stream)) call.primarySum
+    ≡ toldStep (atPrimary κ (primaryEnd w memory disk dirty held stream)) answer
+unfolding step
+primary-sum-joined κ w memory disk dirty held stream answer ok done =
+    let t = parts-told (reply-parts (primary-sum-fits (primaryOf w) memory)) ok done in
+    rw (primary-sum-state (primaryOf w) memory, t .number-is, t .value-is)
+
 -- ---- the standby's calls
 module _ (κ : World) (w : LentStandby) (memory disk pages marks blocks area : List ℕ) (answer : ℕ) (w′ : LentStandby) (ok : isStandby w ≡ true) where
   -- the bytes used leave the link, and the ACK of an accepted COMMIT is sent back
@@ -182,6 +192,14 @@ module _ (κ : World) (w : LentStandby) (memory disk pages marks blocks area : L
   active-disk-write-joined block bytes disk′ done =
       let t = standby-told (active-disk-write-fits _ _ _ ok _ block _) ok (done .0) in
       rw (t .state, t .parts .number-is, t .parts .value-is, done .1, ok)
+
+pub standby-sum-joined : (κ : World) (w : LentStandby) (memory disk pages marks blocks area : List ℕ) (answer : ℕ) (order : List ℕ) → isStandby w ≡ true → StandbySumDone w memory order answer
+    → step (atStandby κ (standbyEnd w memory disk pages marks blocks area)) (call.standbySum order)
+    ≡ toldStep (atStandby κ (standbyEnd w memory disk pages marks blocks area)) answer
+unfolding step
+standby-sum-joined κ w memory disk pages marks blocks area answer order ok done =
+    let t = parts-told (reply-parts (standby-sum-fits (standbyIn w) memory order)) ok done in
+    rw (standby-sum-state (standbyIn w) memory order, t .number-is, t .value-is)
 
 -- ---- start: the world that it leaves, and its answer
 pub start-joined : (settings : List ℕ) (processor : Processor) (b : Buffers) (primary : List ℕ) (standby : LentStandby) (answer : ℕ) (dirty′ memory′ disk′ marks′ area′ primary′ : List ℕ) (standby′ : LentStandby)

@@ -11,8 +11,8 @@ use Rattle.rules.specs.Step.{Outcome, Stepped, outcome}
 use Rattle.runs.specs.Plain.{Plain, plainStep}
 use Rattle.capi.specs.Word.{answerNumber, answerUsed, answerValue}
 use Rattle.capi.specs.PrimaryWords.{primaryWordsOk}
-use Rattle.capi.specs.PrimaryCalls.{MemoryWriteDone, DiskWriteDone, PacketDone, CheckpointDone, DrainDone, AckDone, TakeDone, PrimaryTickDone}
-use Rattle.capi.specs.StandbyCalls.{LentStandby, isStandby, ReadDone, FlushDone, StandbyTickDone, ActivationDone, ActiveMemoryWriteDone, ActiveDiskWriteDone}
+use Rattle.capi.specs.PrimaryCalls.{MemoryWriteDone, DiskWriteDone, PacketDone, CheckpointDone, DrainDone, AckDone, TakeDone, PrimaryTickDone, PrimarySumDone}
+use Rattle.capi.specs.StandbyCalls.{LentStandby, isStandby, ReadDone, FlushDone, StandbyTickDone, ActivationDone, ActiveMemoryWriteDone, ActiveDiskWriteDone, StandbySumDone}
 use Rattle.capi.specs.PairCalls.{StartDone}
 use Rattle.capi.specs.Joined.{primaryEnd, standbyEnd, ackSent}
 
@@ -113,6 +113,7 @@ Made h (call.take port destination) answer filled h′ =
 Made h call.primaryTick answer filled h′ =
     PrimaryTickDone (h .primary) answer (h′ .primary)
     × (h′ ≡ withPrimary h (h′ .primary) (h .memory) (h .disk) (h .dirty) (h .held) (h .stream))
+Made h call.primarySum answer filled h′ = PrimarySumDone (h .primary) (h .memory) answer × (h′ ≡ h)
 Made h (call.read n reply) answer filled h′ =
     ReadDone (h .standby) (h .standbyMemory) (h .stagedPages) (h .stagedMarks) (h .stagedBlocks) (take n (h .link)) reply answer
     (h′ .standby) (h′ .standbyMemory) (h′ .stagedPages) (h′ .stagedMarks) (h′ .stagedBlocks) filled
@@ -134,6 +135,7 @@ Made h (call.activeMemoryWrite page offset bytes) answer filled h′ =
 Made h (call.activeDiskWrite block bytes) answer filled h′ =
     ActiveDiskWriteDone (h .standby) (h .standbyDisk) block bytes answer (h′ .standby) (h′ .standbyDisk)
     × (h′ ≡ withStandby h (h′ .standby) (h .standbyMemory) (h′ .standbyDisk) (h .stagedPages) (h .stagedMarks) (h .stagedBlocks) (h .area))
+Made h (call.standbySum order) answer filled h′ = StandbySumDone (h .standby) (h .standbyMemory) order answer × (h′ ≡ h)
 
 -- the number and the value that the answer holds
 abbrev pub toldOutcome : ℕ → Outcome
@@ -149,12 +151,14 @@ handedOut (call.drain n destination) answer filled = []
 handedOut (call.ack n) answer filled = []
 handedOut (call.take port destination) answer filled = take (answerValue answer) filled
 handedOut call.primaryTick answer filled = []
+handedOut call.primarySum answer filled = []
 handedOut (call.read n reply) answer filled = []
 handedOut (call.flush n) answer filled = []
 handedOut call.standbyTick answer filled = []
 handedOut call.activation answer filled = []
 handedOut (call.activeMemoryWrite page offset bytes) answer filled = []
 handedOut (call.activeDiskWrite block bytes) answer filled = []
+handedOut (call.standbySum order) answer filled = []
 
 -- the step that a call was: the host after it, the answer's number and value, and the packet
 abbrev pub madeStep : Call → (answer : ℕ) (filled : List ℕ) → Host → Stepped

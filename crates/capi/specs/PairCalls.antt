@@ -1,10 +1,14 @@
--- Start, which makes the words of both states, and the disk choice. Assumes nothing.
-use Prim.Native.Nat.{ℕ, min}
+-- Start, which makes the words of both states, the disk choice, and a page's part of a sum. Assumes nothing.
+use Prim.Native.Nat.{ℕ, _/_, min}
 use mathlib.Core.Bool.{Bool, _&&_}
-use mathlib.Core.List.{List}
-use lib.Dec.{eqb}
+use mathlib.Core.List.{List, [], _∷_}
+use lib.Dec.{leb, ltb, eqb}
 use lib.ListN.{length, getD}
+use Rattle.lists.specs.Refusal.{Test, test, refusal, pick}
+use Rattle.records.specs.Kind.{unitOk}
+use Rattle.records.specs.Number.{outOfRange}
 use Rattle.settings.specs.declared.Settings.{Settings}
+use Rattle.sums.specs.Sum.{pageSum}
 use Rattle.rules.specs.declared.Choice.{Choice}
 use Rattle.rules.specs.Choose.{choiceNumber, diskOf}
 use Rattle.rules.specs.Start.{started, startMarks, startCopy, startArea}
@@ -64,3 +68,19 @@ lentBuffers memory disk dirty held stream standbyMemory standbyDisk stagedPages 
 -- ---- the disk choice: its value is the disk
 abbrev pub choiceWord : Choice → ℕ
 choiceWord c = replyWord (choiceNumber c) (diskOf c)
+
+-- ---- a page's own part of a sum, at either end: 1 where u is no page size, or the page is not wholly inside an image
+-- of at most 65,536 pages of 4,096 bytes
+abbrev pub mostImage : ℕ
+mostImage = 268435456
+
+abbrev pub pageSumTests : (u image page : ℕ) → List Test
+pageSumTests u image page = test outOfRange (unitOk u && leb image mostImage && ltb page (image / u)) ∷ []
+
+unfoldable pub pageSumRefusal : (u image page : ℕ) → ℕ
+pageSumRefusal u image page = refusal (pageSumTests u image page)
+
+unfoldable pub pageSumWord : (u : ℕ) (image : List ℕ) (page : ℕ) → ℕ
+pageSumWord u image page =
+    let n = pageSumRefusal u (length image) page in
+    replyWord n (pick n (pageSum u image page) 0)

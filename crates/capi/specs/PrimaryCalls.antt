@@ -14,6 +14,7 @@ use Rattle.rules.specs.Packets.{packetReply, packetHeld, takeReply, takeHeld, t
 use Rattle.rules.specs.Checkpoint.{dirtyCount, checkpointReply, checkpointDirty, checkpointStream}
 use Rattle.rules.specs.Stream.{drainReply, drainStream, drainDestination, ackReply}
 use Rattle.rules.specs.PrimaryTick.{primaryTickReply}
+use Rattle.rules.specs.Sums.{primarySumReply}
 use Rattle.capi.specs.Word.{replyWord, recordWord, Leaves}
 use Rattle.capi.specs.PrimaryWords.{primaryWords, primaryWordsOk, primaryOf}
 
@@ -82,3 +83,9 @@ TakeDone w held port destination answer w′ held′ destination′ =
 
 abbrev pub PrimaryTickDone : (w : List ℕ) (answer : ℕ) (w′ : List ℕ) → Type 0
 PrimaryTickDone w answer w′ = PrimaryReplied w (primaryTickReply (primaryOf w)) answer w′
+
+-- nothing that a sum is lent can change
+abbrev pub PrimarySumDone : (w memory : List ℕ) (answer : ℕ) → Type 0
+PrimarySumDone w memory answer =
+    let r = primarySumReply (primaryOf w) memory in
+    answer ≡ cond (primaryWordsOk w) (replyWord (r .number) (r .value)) outOfRange

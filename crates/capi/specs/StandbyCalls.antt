@@ -12,6 +12,7 @@ use Rattle.rules.specs.declared.StandbyAnswer.{StandbyAnswer}
 use Rattle.rules.specs.Read.{readLent, readReply, readMemory, readStagedPages, readStagedMarks, readStagedBlocks, readReplyBytes}
 use Rattle.rules.specs.Flush.{flushReply, flushStagedBlocks, flushDisk}
 use Rattle.rules.specs.Takeover.{standbyTickReply, standbyTickMarks, activationReply, activationArea, activeMemoryWriteReply, activeMemoryWriteMemory, activeDiskWriteReply, activeDiskWriteDisk}
+use Rattle.rules.specs.Sums.{standbySumReply}
 use Rattle.capi.specs.Word.{replyWord, recordWord, Leaves}
 use Rattle.capi.specs.StandbyWords.{standbyWords, standbyWordsOk, standbyOf}
 
@@ -86,3 +87,9 @@ abbrev pub ActiveDiskWriteDone : (w : LentStandby) (disk : List ℕ) (block : �
 ActiveDiskWriteDone w disk block bytes answer w′ disk′ =
     StandbyReplied w (activeDiskWriteReply (standbyIn w) (length disk) block (length bytes)) answer w′
     × StandbyLeaves w (activeDiskWriteDisk (standbyIn w) disk block bytes) disk disk′
+
+-- nothing that a sum is lent can change
+abbrev pub StandbySumDone : (w : LentStandby) (memory order : List ℕ) (answer : ℕ) → Type 0
+StandbySumDone w memory order answer =
+    let r = standbySumReply (standbyIn w) memory order in
+    answer ≡ cond (isStandby w) (replyWord (r .number) (r .value)) outOfRange

@@ -1,4 +1,4 @@
-// Start and the disk choice.
+// Start, the disk choice, and a page's part of a sum.
 ghost use mathlib.Core.Path.{_≡_};
 ghost use mathlib.Core.Bool.{_&&_};
 ghost use Prim.Native.Nat.{min};
@@ -9,13 +9,14 @@ ghost use Rattle.capi.specs.Word.{most32};
 ghost use Rattle.capi.specs.PrimaryWords.{primaryLength};
 ghost use Rattle.capi.specs.StandbyWords.{standbyLength};
 ghost use Rattle.capi.specs.StandbyCalls.{asLent};
-ghost use Rattle.capi.specs.PairCalls.{settingsLength, settingsOf, lentBuffers, StartDone, choiceWord};
+ghost use Rattle.capi.specs.PairCalls.{settingsLength, settingsOf, lentBuffers, StartDone, choiceWord, mostImage, pageSumRefusal, pageSumWord};
 use crate::primary_words;
 use crate::standby_words;
 use crate::word;
 use ends::choice::decide;
 use ends::start::start;
 use records::number;
+use records::reading::unit_ok;
 use rules::Choice;
 use settings::Settings;
 
@@ -117,4 +118,35 @@ pub extern "C" fn pair_disk_choice(primary: &[u8], standby: &[u8], area: &[u8]) 
         Choice::StandbyDisk => word::reply_word(0, 2),
         Choice::Refused { number } => word::reply_word(number, 0),
     }
+}
+
+// The most bytes of an image: 65,536 pages of 4,096.
+const MOST_IMAGE: usize = 268435456;
+
+// What a page's part of a sum is refused with: 1.
+fn page_sum_refusal(u: usize, image: usize, page: usize) -> u64
+    ensures { λ r. ⌜ r ≡ pageSumRefusal u image page ⌝ }
+{
+    if !unit_ok(u) {
+        return number::OUT_OF_RANGE;
+    }
+    if MOST_IMAGE < image {
+        return number::OUT_OF_RANGE;
+    }
+    if image / u <= page {
+        return number::OUT_OF_RANGE;
+    }
+    0
+}
+
+// A page's own part of a sum.
+#[no_mangle]
+pub extern "C" fn pair_page_sum(image: &[u8], u: usize, page: usize) -> u64
+    ensures { λ r. ⌜ r ≡ pageSumWord u (now (image .entry)) page ⌝ }
+{
+    let number = page_sum_refusal(u, image.len(), page);
+    if number != 0 {
+        return word::reply_word(number, 0);
+    }
+    word::reply_word(0, sums::page_sum(image, u, page))
 }

@@ -1,6 +1,6 @@
 // The primary's calls: the words are tested and read, the call is made, the words of its state are stored: those of all
-// packets after a take, which moves them, else those of one packet and of one block number at most.
-ghost use Rattle.capi.specs.PrimaryCalls.{MemoryWriteDone, DiskWriteDone, PacketDone, CheckpointDone, DrainDone, AckDone, TakeDone, PrimaryTickDone};
+// packets after a take, which moves them, else those of one packet and of one block number at most. A sum leaves them.
+ghost use Rattle.capi.specs.PrimaryCalls.{MemoryWriteDone, DiskWriteDone, PacketDone, CheckpointDone, DrainDone, AckDone, TakeDone, PrimaryTickDone, PrimarySumDone};
 use crate::primary_words;
 use crate::word;
 use records::number;
@@ -163,5 +163,18 @@ pub extern "C" fn primary_tick(state: &mut [u64]) -> u64
     let r = primary::tick::tick(p);
     let next = r.state;
     primary_words::store_one(state, next, 0, 0);
+    word::reply_word(r.number, r.value)
+}
+
+// Sum: of the memory, pages in rising order.
+#[no_mangle]
+pub extern "C" fn primary_sum(state: &[u64], memory: &[u8]) -> u64
+    ensures { λ r. ⌜ PrimarySumDone (now (state .entry)) (now (memory .entry)) r ⌝ }
+{
+    if !primary_words::words_ok(state) {
+        return number::OUT_OF_RANGE;
+    }
+    let p = primary_words::primary_of(state);
+    let r = primary::sum::sum(p, memory);
     word::reply_word(r.number, r.value)
 }

@@ -1,6 +1,6 @@
 // The standby's calls, as the primary's. Its two processor states, the staged and the kept one, are lent beside its
 // words.
-ghost use Rattle.capi.specs.StandbyCalls.{asLent, ReadDone, FlushDone, StandbyTickDone, ActivationDone, ActiveMemoryWriteDone, ActiveDiskWriteDone};
+ghost use Rattle.capi.specs.StandbyCalls.{asLent, ReadDone, FlushDone, StandbyTickDone, ActivationDone, ActiveMemoryWriteDone, ActiveDiskWriteDone, StandbySumDone};
 use crate::standby_words;
 use crate::word;
 use records::number;
@@ -135,5 +135,24 @@ pub extern "C" fn standby_disk_write(
     let r = standby::takeover::disk_write(s, disk, block, bytes);
     let next = r.state;
     standby_words::store(state, pending, processor, next);
+    word::reply_word(r.number, r.value)
+}
+
+// Sum: of the memory, pages in the order that is lent.
+#[no_mangle]
+pub extern "C" fn standby_sum(
+    state: &[u64],
+    pending: &[u8; 64],
+    processor: &[u8; 64],
+    memory: &[u8],
+    order: &[u64],
+) -> u64
+    ensures { λ r. ⌜ StandbySumDone (asLent (now (state .entry)) (now (pending .entry)) (now (processor .entry))) (now (memory .entry)) (now (order .entry)) r ⌝ }
+{
+    if !standby_words::words_ok(state) {
+        return number::OUT_OF_RANGE;
+    }
+    let s = standby_words::standby_of(state, pending, processor);
+    let r = standby::sum::sum(s, memory, order);
     word::reply_word(r.number, r.value)
 }

@@ -11,6 +11,7 @@ use Rattle.records.specs.Area.{allZero, areaOf}
 use Rattle.settings.specs.Range.{leastStream, settingsOk, primarySettingsOk, standbySettingsOk}
 use Rattle.marks.specs.Mark.{bit, withBit, markBit, marked, withMark, cleared, countMarks}
 use Rattle.pages.specs.Dirty.{dirtyRecord, dirtyRecords, installedPage, installed}
+use Rattle.sums.specs.Sum.{weighted, sumOver, namesEach}
 use Rattle.queue.specs.Held.{packetsOk, sumLengths, epochsOk, queueOk, added, addedBytes, packetBytes, withoutPacket, withoutPacketBytes}
 use Rattle.staging.specs.Slot.{numbersOk, slotsOk, slotFor, withBlock, withBlockBytes, allDue, onlyDue, stored, flushed, flushedBytes}
 use Rattle.detector.specs.Tick.{ticked}
@@ -27,6 +28,7 @@ use Rattle.rules.specs.Judge.{readLentOk, pageRefusal, blockRefusal, sta
 use Rattle.rules.specs.Read.{readReply, readMemory, readStagedPages, readStagedMarks, readStagedBlocks, readReplyBytes}
 use Rattle.rules.specs.Flush.{flushRefusal, flushReply, flushStagedBlocks, flushDisk}
 use Rattle.rules.specs.Takeover.{standbyTickRefusal, standbyTickState, standbyTickReply, standbyTickMarks, activationRefusal, activationReply, activationArea, activeMemoryWriteRefusal, activeMemoryWriteReply, activeMemoryWriteMemory, activeDiskWriteRefusal, activeDiskWriteReply, activeDiskWriteDisk}
+use Rattle.rules.specs.Sums.{primarySumRefusal, primarySumReply, standbySumRefusal, standbySumReply}
 use Rattle.rules.specs.Start.{startLentOk, startRefusal, started, startCopy, startMarks, startArea}
 use Rattle.rules.specs.Choose.{choiceOf}
 use Rattle.rules.specs.World.{startWorld}
@@ -41,15 +43,15 @@ unfolding unitOk bodyLength recordLength fieldsOf readRecord frame unitRecord st
 recordRules = tt
 
 unfoldable partRules : Unit {0}
-unfolding leastStream settingsOk primarySettingsOk standbySettingsOk bit withBit markBit marked withMark cleared countMarks dirtyRecord dirtyRecords installedPage installed packetsOk sumLengths epochsOk queueOk added addedBytes packetBytes withoutPacket withoutPacketBytes numbersOk slotsOk slotFor withBlock withBlockBytes allDue onlyDue stored flushed flushedBytes ticked
+unfolding leastStream settingsOk primarySettingsOk standbySettingsOk bit withBit markBit marked withMark cleared countMarks dirtyRecord dirtyRecords installedPage installed weighted sumOver namesEach packetsOk sumLengths epochsOk queueOk added addedBytes packetBytes withoutPacket withoutPacketBytes numbersOk slotsOk slotFor withBlock withBlockBytes allDue onlyDue stored flushed flushedBytes ticked
 partRules = tt
 
 unfoldable primaryRules : Unit {0}
-unfolding detectorOk primaryOk memoryWriteRefusal memoryWriteReply written memoryWriteMemory memoryWriteDirty diskWriteRefusal diskWriteState diskWriteReply diskWriteDisk diskWriteStream packetRefusal packetReply packetHeld takeRefusal takeReply takeHeld takeDestination checkpointLength checkpointBytes checkpointRefusal checkpointState checkpointReply checkpointDirty checkpointStream drainRefusal drainReply drainStream drainDestination ackJudged ackReply primaryTickRefusal primaryTickState primaryTickReply
+unfolding detectorOk primaryOk memoryWriteRefusal memoryWriteReply written memoryWriteMemory memoryWriteDirty diskWriteRefusal diskWriteState diskWriteReply diskWriteDisk diskWriteStream packetRefusal packetReply packetHeld takeRefusal takeReply takeHeld takeDestination checkpointLength checkpointBytes checkpointRefusal checkpointState checkpointReply checkpointDirty checkpointStream drainRefusal drainReply drainStream drainDestination ackJudged ackReply primaryTickRefusal primaryTickState primaryTickReply primarySumRefusal primarySumReply
 primaryRules = tt
 
 unfoldable standbyRules : Unit {0}
-unfolding standbyOk readLentOk pageRefusal blockRefusal stateRefusal commitRefusal judged readReply readMemory readStagedPages readStagedMarks readStagedBlocks readReplyBytes flushRefusal flushReply flushStagedBlocks flushDisk standbyTickRefusal standbyTickState standbyTickReply standbyTickMarks activationRefusal activationReply activationArea activeMemoryWriteRefusal activeMemoryWriteReply activeMemoryWriteMemory activeDiskWriteRefusal activeDiskWriteReply activeDiskWriteDisk
+unfolding standbyOk readLentOk pageRefusal blockRefusal stateRefusal commitRefusal judged readReply readMemory readStagedPages readStagedMarks readStagedBlocks readReplyBytes flushRefusal flushReply flushStagedBlocks flushDisk standbyTickRefusal standbyTickState standbyTickReply standbyTickMarks activationRefusal activationReply activationArea activeMemoryWriteRefusal activeMemoryWriteReply activeMemoryWriteMemory activeDiskWriteRefusal activeDiskWriteReply activeDiskWriteDisk standbySumRefusal standbySumReply
 standbyRules = tt
 
 unfoldable worldRules : Unit {0}

@@ -17,4 +17,5 @@ pub mod MissingLaws
 pub mod WidthLaws
 pub mod FlushLaws
 pub mod TakeoverLaws
+pub mod SumLaws
 pub mod StartLaws

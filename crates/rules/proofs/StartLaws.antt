@@ -34,6 +34,7 @@ use Rattle.rules.specs.Judge.{judged}
 use Rattle.rules.specs.Read.{readReply}
 use Rattle.rules.specs.Flush.{flushRefusal, flushReply}
 use Rattle.rules.specs.Takeover.{standbyTickRefusal, standbyTickReply, activationRefusal, activationReply, activeMemoryWriteRefusal, activeMemoryWriteReply, activeDiskWriteRefusal, activeDiskWriteReply}
+use Rattle.rules.specs.Sums.{primarySumRefusal, primarySumReply, standbySumRefusal, standbySumReply}
 use Rattle.rules.specs.World as world
 use Rattle.rules.specs.World.{World, Call}
 use Rattle.rules.specs.Step.{outcome, step}
@@ -181,7 +182,7 @@ no-standby = refl
 
 -- every call, whatever it is lent and told: number 1, value 0
 pub zero-refuses : (w : World) (c : Call) → w .primary .state ≡ noPrimary → w .standby .state ≡ noStandby → step w c .outcome ≡ outcome outOfRange 0
-unfolding step memoryWriteReply memoryWriteRefusal diskWriteReply diskWriteRefusal packetReply packetRefusal takeReply takeRefusal checkpointReply checkpointRefusal drainReply drainRefusal ackReply ackJudged primaryTickReply primaryTickRefusal readReply judged flushReply flushRefusal standbyTickReply standbyTickRefusal activationReply activationRefusal activeMemoryWriteReply activeMemoryWriteRefusal activeDiskWriteReply activeDiskWriteRefusal
+unfolding step memoryWriteReply memoryWriteRefusal diskWriteReply diskWriteRefusal packetReply packetRefusal takeReply takeRefusal checkpointReply checkpointRefusal drainReply drainRefusal ackReply ackJudged primaryTickReply primaryTickRefusal readReply judged flushReply flushRefusal standbyTickReply standbyTickRefusal activationReply activationRefusal activeMemoryWriteReply activeMemoryWriteRefusal activeDiskWriteReply activeDiskWriteRefusal primarySumReply primarySumRefusal standbySumReply standbySumRefusal
 zero-refuses w (world.memoryWrite page offset bytes) p s = rw (p, no-primary)
 zero-refuses w (world.diskWrite block bytes) p s = rw (p, no-primary)
 zero-refuses w (world.packet port bytes) p s = rw (p, no-primary)
@@ -190,9 +191,11 @@ zero-refuses w (world.drain n destination) p s = rw (p, no-primary)
 zero-refuses w (world.ack n) p s = rw (p, no-primary)
 zero-refuses w (world.take port destination) p s = rw (p, no-primary)
 zero-refuses w world.primaryTick p s = rw (p, no-primary)
+zero-refuses w world.primarySum p s = rw (p, no-primary)
 zero-refuses w (world.read n reply) p s = rw (s, no-standby)
 zero-refuses w (world.flush n) p s = rw (s, no-standby)
 zero-refuses w world.standbyTick p s = rw (s, no-standby)
 zero-refuses w world.activation p s = rw (s, no-standby)
 zero-refuses w (world.activeMemoryWrite page offset bytes) p s = rw (s, no-standby)
 zero-refuses w (world.activeDiskWrite block bytes) p s = rw (s, no-standby)
+zero-refuses w (world.standbySum order) p s = rw (s, no-standby)

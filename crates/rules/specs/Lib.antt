@@ -13,6 +13,7 @@ pub mod Judge
 pub mod Read
 pub mod Flush
 pub mod Takeover
+pub mod Sums
 pub mod Choose
 pub mod World
 pub mod Step

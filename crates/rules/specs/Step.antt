@@ -15,6 +15,7 @@ use Rattle.rules.specs.PrimaryTick.{primaryTickReply}
 use Rattle.rules.specs.Read.{readLent, readReply, readMemory, readStagedPages, readStagedMarks, readStagedBlocks, readReplyBytes}
 use Rattle.rules.specs.Flush.{flushReply, flushStagedBlocks, flushDisk}
 use Rattle.rules.specs.Takeover.{standbyTickReply, standbyTickMarks, activationReply, activationArea, activeMemoryWriteReply, activeMemoryWriteMemory, activeDiskWriteReply, activeDiskWriteDisk}
+use Rattle.rules.specs.Sums.{primarySumReply, standbySumReply}
 use Rattle.rules.specs.World.{PrimaryEnd, StandbyEnd, World, Processor, Call}
 use Rattle.rules.specs.World as world
 
@@ -168,6 +169,14 @@ stepPrimaryTick w =
     (atPrimary w (record { state = r .state; memory = p .memory; disk = p .disk; dirty = p .dirty; held = p .held; stream = p .stream }))
     (r .number) (r .value)
 
+abbrev pub stepPrimarySum : World → Stepped
+stepPrimarySum w =
+    let p = w .primary in
+    let r = primarySumReply (p .state) (p .memory) in
+    stepped
+    (atPrimary w (record { state = r .state; memory = p .memory; disk = p .disk; dirty = p .dirty; held = p .held; stream = p .stream }))
+    (r .number) (r .value)
+
 -- ---- the standby's calls
 
 -- "the ACKs that accepted COMMITs wrote"
@@ -280,6 +289,22 @@ stepActiveDiskWrite w block bytes =
     }))
     (r .number) (r .value)
 
+abbrev pub stepStandbySum : World → List ℕ → Stepped
+stepStandbySum w order =
+    let s = w .standby in
+    let r = standbySumReply (s .state) (s .memory) order in
+    stepped
+    (atStandby w (record {
+      state = r .state;
+      memory = s .memory;
+      disk = s .disk;
+      stagedPages = s .stagedPages;
+      stagedMarks = s .stagedMarks;
+      stagedBlocks = s .stagedBlocks;
+      area = s .area;
+    }))
+    (r .number) (r .value)
+
 unfoldable pub step : World → Call → Stepped
 step w (world.memoryWrite page offset bytes) = stepMemoryWrite w page offset bytes
 step w (world.diskWrite block bytes) = stepDiskWrite w block bytes
@@ -289,9 +314,11 @@ step w (world.drain n destination) = stepDrain w n destination
 step w (world.ack n) = stepAck w n
 step w (world.take port destination) = stepTake w port destination
 step w world.primaryTick = stepPrimaryTick w
+step w world.primarySum = stepPrimarySum w
 step w (world.read n reply) = stepRead w n reply
 step w (world.flush n) = stepFlush w n
 step w world.standbyTick = stepStandbyTick w
 step w world.activation = stepActivation w
 step w (world.activeMemoryWrite page offset bytes) = stepActiveMemoryWrite w page offset bytes
 step w (world.activeDiskWrite block bytes) = stepActiveDiskWrite w block bytes
+step w (world.standbySum order) = stepStandbySum w order

@@ -42,9 +42,9 @@ pub record Processor : Type 0 where
   pub bytes : List ℕ
   pub size : length bytes ≡ processorBytes
 
--- the fourteen calls with their arguments. A slice that is filled comes with what it holds before;
+-- the sixteen calls with their arguments. A slice that is filled comes with what it holds before;
 -- read and ACK are given the first n bytes of what is on their side of the link. The first argument of packet and take
--- is the port
+-- is the port, that of the standby's sum the order of the pages
 pub data Call : Type 0 where
   memoryWrite : ℕ → ℕ → List ℕ → Call
   diskWrite : ℕ → List ℕ → Call
@@ -54,12 +54,14 @@ pub data Call : Type 0 where
   ack : ℕ → Call
   take : ℕ → List ℕ → Call
   primaryTick : Call
+  primarySum : Call
   read : ℕ → List ℕ → Call
   flush : ℕ → Call
   standbyTick : Call
   activation : Call
   activeMemoryWrite : ℕ → ℕ → List ℕ → Call
   activeDiskWrite : ℕ → List ℕ → Call
+  standbySum : List ℕ → Call
 
 -- every buffer of both ends as start is lent it
 pub record Buffers : Type 0 where

@@ -40,12 +40,14 @@ fixed-accepted u (call.drain n destination) value p a f = record { received = re
 fixed-accepted u (call.ack n) value p a f = record { received = refl; activated = a }
 fixed-accepted u (call.take port destination) value p a f = record { received = refl; activated = a }
 fixed-accepted u call.primaryTick value p a f = record { received = refl; activated = a }
+fixed-accepted u call.primarySum value p a f = record { received = refl; activated = a }
 fixed-accepted u (call.read n reply) value p a f = absurd (f n reply refl)
 fixed-accepted u (call.flush n) value p a f = record { received = refl; activated = a }
 fixed-accepted u call.standbyTick value p a f = record { received = refl; activated = a }
 fixed-accepted u call.activation value p a f = record { received = refl; activated = refl }
 fixed-accepted u (call.activeMemoryWrite page offset bytes) value p a f = record { received = refl; activated = a }
 fixed-accepted u (call.activeDiskWrite block bytes) value p a f = record { received = refl; activated = a }
+fixed-accepted u (call.standbySum order) value p a f = record { received = refl; activated = a }
 
 fixed-step : (u : ℕ) (c : Call) (b : Both) → active (b .world) ≡ true → b .plain .activated ≡ true → Fixed (b .plain) (runCall steps u b c .plain)
 unfolding plainStep

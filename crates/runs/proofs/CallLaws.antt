@@ -1,6 +1,6 @@
 -- Demands 1 and 2 over all calls: no call leaves number 1's ranges, Reached holds after an accepted start and is kept
 -- by every call, and a refused or cut-short call changes nothing. Assumes nothing.
-use mathlib.Core.Path.{_≡_, refl}
+use mathlib.Core.Path.{_≡_, refl, sym, subst}
 use mathlib.Core.Bool.{true, false}
 use mathlib.Core.List.{List, []}
 use Prim.Native.Nat.{ℕ, _-_, _≤_}
@@ -28,6 +28,7 @@ use Rattle.rules.specs.Judge.{pageRefusal, judged}
 use Rattle.rules.specs.Read.{readLent, readReply, readReplyBytes}
 use Rattle.rules.specs.Flush.{flushRefusal, flushReply}
 use Rattle.rules.specs.Takeover.{standbyTickRefusal, standbyTickState, standbyTickReply, activationRefusal, activationReply, activeMemoryWriteRefusal, activeMemoryWriteReply, activeDiskWriteRefusal, activeDiskWriteReply}
+use Rattle.rules.specs.Sums.{primarySumReply, standbySumReply}
 use Rattle.rules.specs.Reached.{PrimaryInRange, PrimaryReached, StandbyInRange, StandbyReached, StaysInRange}
 use Rattle.rules.specs.World.{World, Call, Processor, Buffers, startLent, startNumber, startWorld}
 use Rattle.rules.specs.World as call
@@ -43,6 +44,7 @@ use Rattle.rules.proofs.TakeoverLaws.{ticked-in-range, ticked-reached, activate
 use Rattle.rules.proofs.ReplyLaws.{pick-cases, answer-refused}
 use Rattle.runs.proofs.Compute.{allSteps}
 use Rattle.runs.proofs.Small.{small, processorOf}
+use Rattle.runs.proofs.SumSteps.{primary-sum-world, standby-sum-world}
 use Rattle.runs.proofs.Refused.{NotAccepted, refused-world}
 use Rattle.rules.proofs.StartLaws.{started-primary, started-standby}
 
@@ -50,7 +52,7 @@ pub record BothReached (w : World) : Type 0 where
   pub primary : PrimaryReached (w .primary .state)
   pub standby : StandbyReached (w .standby .state)
 
--- every call keeps what each end's own calls keep: of the primary; a memory write leaves its state
+-- every call keeps what each end's own calls keep: of the primary; a memory write and a sum leave its state
 module _ (P : Primary → Type 0)
     (writes : (p : Primary) (disk stream block n : ℕ) → DiskWriteRoom p disk stream block n → P p → P (diskWriteState p block))
     (packets : (p : Primary) (held port n : ℕ) → PacketFacts p held port n → P p → P (withQueue p (added (p .queue) (p .epoch) port n)))
@@ -82,14 +84,16 @@ module _ (P : Primary → Type 0)
       let e = w .primary in
       pick-cases P (takeRefusal (e .state) (length (e .held)) port (length destination)) _ (e .state) (λ z. takes (e .state) _ port _ (take-accepted _ _ _ _ z) r) (λ _. r)
   primary-kept w call.primaryTick r = pick-cases P (primaryTickRefusal (w .primary .state)) _ (w .primary .state) (λ _. ticks (w .primary .state) r) (λ _. r)
+  primary-kept w call.primarySum r = subst (λ (x : World). P (x .primary .state)) (sym (primary-sum-world w)) r
   primary-kept w (call.read n reply) r = r
   primary-kept w (call.flush n) r = r
   primary-kept w call.standbyTick r = r
   primary-kept w call.activation r = r
   primary-kept w (call.activeMemoryWrite page offset bytes) r = r
   primary-kept w (call.activeDiskWrite block bytes) r = r
+  primary-kept w (call.standbySum order) r = r
 
--- and of the standby; a guest's write leaves its state
+-- and of the standby; a guest's write and a sum leave its state
 module _ (P : Standby → Type 0)
     (read : (s : Standby) (l : ReadLent) (bytes : List ℕ) → P s → P (readReply s l bytes .state))
     (flushes : (s : Standby) (count : ℕ) → count ≤ s .slots .due → P s → P (withSlotsBlocks s (flushed (s .slots) count) (s .blocks) (s .records)))
@@ -105,6 +109,7 @@ module _ (P : Standby → Type 0)
   standby-kept w (call.ack n) r = r
   standby-kept w (call.take port destination) r = r
   standby-kept w call.primaryTick r = r
+  standby-kept w call.primarySum r = r
   standby-kept w (call.read n reply) r = read _ _ _ r
   standby-kept w (call.flush n) r =
       let e = w .standby in
@@ -122,6 +127,7 @@ module _ (P : Standby → Type 0)
   standby-kept w (call.activeDiskWrite block bytes) r =
       let e = w .standby in
       pick-cases P (activeDiskWriteRefusal (e .state) (length (e .disk)) block (length bytes)) (e .state) (e .state) (λ _. r) (λ _. r)
+  standby-kept w (call.standbySum order) r = subst (λ (x : World). P (x .standby .state)) (sym (standby-sum-world w order)) r
 
 pub stays-in-range : (w : World) (c : Call) → StaysInRange w c
 stays-in-range w c =
@@ -163,6 +169,7 @@ LentAsBefore w (call.drain n destination) = drainDestination (w .primary .state)
 LentAsBefore w (call.ack n) = Unit {0}
 LentAsBefore w (call.take port destination) = takeDestination (w .primary .state) (w .primary .held) port destination ≡ destination
 LentAsBefore w call.primaryTick = Unit {0}
+LentAsBefore w call.primarySum = Unit {0}
 LentAsBefore w (call.read n reply) =
     let s = w .standby in
     readReplyBytes (s .state) (readLent (s .memory) (s .stagedPages) (s .stagedMarks) (s .stagedBlocks) reply) (take n (w .link)) reply ≡ reply
@@ -171,6 +178,7 @@ LentAsBefore w call.standbyTick = Unit {0}
 LentAsBefore w call.activation = Unit {0}
 LentAsBefore w (call.activeMemoryWrite page offset bytes) = Unit {0}
 LentAsBefore w (call.activeDiskWrite block bytes) = Unit {0}
+LentAsBefore w (call.standbySum order) = Unit {0}
 
 pub record AsBefore (w : World) (c : Call) : Type 0 where
   pub world : step w c .next ≡ w
@@ -179,7 +187,7 @@ pub record AsBefore (w : World) (c : Call) : Type 0 where
   pub lent : LentAsBefore w c
 
 pub refused-as-before : (w : World) (c : Call) → NotAccepted w c → AsBefore w c
-unfolding step memoryWriteReply diskWriteReply packetReply checkpointReply drainReply drainDestination ackReply takeReply takeDestination primaryTickReply readReply readReplyBytes flushReply standbyTickReply activationReply activeMemoryWriteReply activeDiskWriteReply
+unfolding step memoryWriteReply diskWriteReply packetReply checkpointReply drainReply drainDestination ackReply takeReply takeDestination primaryTickReply readReply readReplyBytes flushReply standbyTickReply activationReply activeMemoryWriteReply activeDiskWriteReply primarySumReply standbySumReply
 refused-as-before w (call.memoryWrite page offset bytes) ne = record { world = refused-world w (call.memoryWrite page offset bytes) ne; value = rw (ne-eqb _ _ ne); handed = refl; lent = tt }
 refused-as-before w (call.diskWrite block bytes) ne = record { world = refused-world w (call.diskWrite block bytes) ne; value = rw (ne-eqb _ _ ne); handed = refl; lent = tt }
 refused-as-before w (call.packet port bytes) ne = record { world = refused-world w (call.packet port bytes) ne; value = rw (ne-eqb _ _ ne); handed = refl; lent = tt }
@@ -188,6 +196,7 @@ refused-as-before w (call.drain n destination) ne = record { world = refused-wor
 refused-as-before w (call.ack n) ne = record { world = refused-world w (call.ack n) ne; value = answer-refused (ackJudged (w .primary .state) (take n (w .acks))) ne .0; handed = refl; lent = tt }
 refused-as-before w (call.take port destination) ne = record { world = refused-world w (call.take port destination) ne; value = rw (ne-eqb _ _ ne); handed = rw (ne-eqb _ _ ne); lent = rw (ne-eqb _ _ ne) }
 refused-as-before w call.primaryTick ne = record { world = refused-world w call.primaryTick ne; value = rw (ne-eqb _ _ ne); handed = refl; lent = tt }
+refused-as-before w call.primarySum ne = record { world = refused-world w call.primarySum ne; value = rw (ne-eqb _ _ ne); handed = refl; lent = tt }
 refused-as-before w (call.read n reply) ne =
     let s = w .standby in
     let l = readLent (s .memory) (s .stagedPages) (s .stagedMarks) (s .stagedBlocks) reply in
@@ -198,3 +207,4 @@ refused-as-before w call.standbyTick ne = record { world = refused-world w call.
 refused-as-before w call.activation ne = record { world = refused-world w call.activation ne; value = rw (ne-eqb _ _ ne); handed = refl; lent = tt }
 refused-as-before w (call.activeMemoryWrite page offset bytes) ne = record { world = refused-world w (call.activeMemoryWrite page offset bytes) ne; value = rw (ne-eqb _ _ ne); handed = refl; lent = tt }
 refused-as-before w (call.activeDiskWrite block bytes) ne = record { world = refused-world w (call.activeDiskWrite block bytes) ne; value = rw (ne-eqb _ _ ne); handed = refl; lent = tt }
+refused-as-before w (call.standbySum order) ne = record { world = refused-world w (call.standbySum order) ne; value = rw (ne-eqb _ _ ne); handed = refl; lent = tt }

@@ -1,9 +1,10 @@
 -- One list of calls from an accepted start, computed: every outcome, the standby at the end, and three cuts of it. Assumes nothing.
 -- Numbers that occur in it, which are all that a list of this length can give after an accepted start:
---   2 3 4, 5 (reply, destination), 13 (checkpoint, ACK, record, activation, guest write), 14, 15, 16, 17, 18, 20, 23
---   (packet, take), and cut short (256).
--- The others: 1, every state stays in range and `step` lends what start was lent; 6 to 11, the link and the ACKs bring what the other end wrote,
--- in order and once; 12 is the disk choice's; 19 comes after 4,294,967,294 checkpoints.
+--   1 (the standby's sum), 2 3 4, 5 (reply, destination), 13 (checkpoint, ACK, record, activation, guest write), 14,
+--   15, 16, 17, 18, 20, 23 (packet, take), and cut short (256).
+-- The others: 1 of any other call, every state stays in range and `step` lends what start was lent; 6 to 11, the link
+-- and the ACKs bring what the other end wrote, in order and once; 12 is the disk choice's; 19 comes after 4,294,967,294
+-- checkpoints.
 use Prim.Native.Nat.{ℕ}
 use mathlib.Core.Path.{_≡_, refl}
 use mathlib.Core.Bool.{true}
@@ -82,7 +83,14 @@ rows =
     ∷ row (call.read 72 (zeros 8)) 0 3
     ∷ row call.standbyTick 0 0
     ∷ row call.standbyTick 0 0
+    -- the standby's sum is checkpoint 1's until the COMMIT and then the primary's, in another order too; an order that
+    -- names a page twice or leaves one out is refused
+    ∷ row (call.standbySum (0 ∷ 1 ∷ [])) 0 94872
     ∷ row (call.read 12 (zeros 8)) 0 4
+    ∷ row call.primarySum 0 94677
+    ∷ row (call.standbySum (1 ∷ 0 ∷ [])) 0 94677
+    ∷ row (call.standbySum (1 ∷ 1 ∷ [])) 1 0
+    ∷ row (call.standbySum (1 ∷ [])) 1 0
     -- epoch 3: the primary becomes alone within a PAGE, the rest of which is dropped
     ∷ row (call.packet 3 (replicate 10 53)) 0 2
     ∷ row (call.memoryWrite 0 0 (99 ∷ [])) 0 3
@@ -95,6 +103,7 @@ rows =
     ∷ row (call.drain 200 (zeros 200)) 0 0
     ∷ row (call.checkpoint (processorOf 64)) 13 0
     ∷ row (call.ack 8) 13 0
+    ∷ row call.primarySum 0 94765
     -- port 3's packet goes out from behind port 0's, which is longer
     ∷ row (call.take 3 (zeros 10)) 0 10
     ∷ row (call.take 0 (zeros 20)) 0 20
@@ -116,6 +125,7 @@ rows =
     -- the guest at the standby
     ∷ row (call.activeMemoryWrite 1 63 (77 ∷ [])) 0 2
     ∷ row (call.activeMemoryWrite 1 63 (77 ∷ 78 ∷ [])) 3 0
+    ∷ row (call.standbySum (1 ∷ 0 ∷ [])) 0 102997
     ∷ row (call.activeDiskWrite 2 (unit 49)) 0 2
     ∷ row (call.activeDiskWrite 3 (unit 49)) 2 0
     ∷ row call.activation 13 0
@@ -179,7 +189,7 @@ run-choice = (refl, refl, refl)
 
 -- ---- the same list, the standby cut inside its flush of 2, which counts as one of 1; the primary goes on, and a takeover follows
 abbrev pub standbyCut : Cut
-standbyCut = record { primary = uncut; standby = after 76 (budget 1) }
+standbyCut = record { primary = uncut; standby = after 82 (budget 1) }
 
 abbrev pub cutThere : List Call → Both
 cutThere calls = run steps 64 begun calls

@@ -1,5 +1,5 @@
--- The claims of specs/Corollaries.antt but the fifth: the first four from demand 3, the sixth from the invariant.
--- Assumes nothing.
+-- The claims of specs/Corollaries.antt but the fifth and the seventh: the first four from demand 3, the sixth from the
+-- invariant. Assumes nothing.
 use Prim.Native.Nat.{ℕ, _≤_}
 use mathlib.Core.Path.{_≡_, refl, sym, ap, _∙_, subst}
 use mathlib.Core.Bool.{true, cond}

@@ -35,12 +35,14 @@ pub record PerCall (g : Settings) : Type 0 where
   pub ack : (n : ℕ) → KeepsAccepted g (call.ack n)
   pub take : (port : ℕ) (destination : List ℕ) → KeepsAccepted g (call.take port destination)
   pub primaryTick : KeepsAccepted g call.primaryTick
+  pub primarySum : KeepsAccepted g call.primarySum
   pub read : (n : ℕ) (reply : List ℕ) → KeepsAccepted g (call.read n reply)
   pub flush : (n : ℕ) → KeepsAccepted g (call.flush n)
   pub standbyTick : KeepsAccepted g call.standbyTick
   pub activation : KeepsAccepted g call.activation
   pub activeMemoryWrite : (page offset : ℕ) (bytes : List ℕ) → KeepsAccepted g (call.activeMemoryWrite page offset bytes)
   pub activeDiskWrite : (block : ℕ) (bytes : List ℕ) → KeepsAccepted g (call.activeDiskWrite block bytes)
+  pub standbySum : (order : List ℕ) → KeepsAccepted g (call.standbySum order)
 
 -- of a take, besides: what it handed out, were the list to end there
 abbrev pub TakeLaw : Settings → Type 0
@@ -73,12 +75,14 @@ accepted-keeps g k (call.drain n destination) = k .drain n destination
 accepted-keeps g k (call.ack n) = k .ack n
 accepted-keeps g k (call.take port destination) = k .take port destination
 accepted-keeps g k call.primaryTick = k .primaryTick
+accepted-keeps g k call.primarySum = k .primarySum
 accepted-keeps g k (call.read n reply) = k .read n reply
 accepted-keeps g k (call.flush n) = k .flush n
 accepted-keeps g k call.standbyTick = k .standbyTick
 accepted-keeps g k call.activation = k .activation
 accepted-keeps g k (call.activeMemoryWrite page offset bytes) = k .activeMemoryWrite page offset bytes
 accepted-keeps g k (call.activeDiskWrite block bytes) = k .activeDiskWrite block bytes
+accepted-keeps g k (call.standbySum order) = k .standbySum order
 
 abbrev pub Keeps : Settings → Call → Type 0
 Keeps g c = (b : Both) → Inv g b → Inv g (runCall steps (g .u) b c)

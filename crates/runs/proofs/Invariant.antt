@@ -5,6 +5,7 @@ use mathlib.Core.Bool.{Bool, true, false, cond}
 use mathlib.Core.List.{List, [], _∷_, _++_, map}
 use lib.Dec.{leb}
 use lib.ListN.{length, take, drop, getD}
+use Rattle.lists.specs.Select.{timesIn}
 use Rattle.records.specs.Kind.{isWide}
 use Rattle.records.specs.Message.{Message, encodeAll}
 use Rattle.records.specs.Message as message
@@ -21,7 +22,7 @@ use Rattle.rules.specs.Choose.{areaChoice}
 use Rattle.rules.specs.StandbyState.{isReceiving, isActive}
 use Rattle.rules.specs.Reached.{PrimaryReached, StandbyReached}
 use Rattle.rules.specs.World.{PrimaryEnd, StandbyEnd}
-use Rattle.runs.specs.Plain.{Sent, Checkpoint, ofPort, timesIn, noCheckpoint}
+use Rattle.runs.specs.Plain.{Sent, Checkpoint, ofPort, noCheckpoint}
 use Rattle.runs.specs.Run.{Both}
 use Rattle.runs.proofs.FirstLaws.{FirstOf}
 use Rattle.runs.proofs.Effects.{effects, Epoch, checkpointsAfter, lastAfter, sent, All, Before, AllBefore, Readable}

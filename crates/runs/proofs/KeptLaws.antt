@@ -38,6 +38,9 @@ module _ (g : Settings) (p : PrimaryEnd) (k : PrimaryKept g p) where
   primary-d = ap (λ (x : PrimarySettings). x .d) (k .settings)
 
   -- "Lent lengths are exact", in the state's own settings
+  pub lent-primary-memory : length (p .memory) ≡ p .state .settings .m * p .state .settings .u
+  lent-primary-memory = k .memory ∙ ap (λ (x : PrimarySettings). x .m * x .u) (sym (k .settings))
+
   pub lent-held : length (p .held) ≡ p .state .settings .q
   lent-held = k .held ∙ ap (λ (x : PrimarySettings). x .q) (sym (k .settings))
 

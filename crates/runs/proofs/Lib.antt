@@ -12,6 +12,7 @@ pub mod TakeRefutations
 pub mod CutRefutations
 pub mod RuledOut
 pub mod RecordSteps
+pub mod SumSteps
 pub mod Refused
 pub mod FirstLaws
 pub mod SentLaws
@@ -36,6 +37,7 @@ pub mod StandbyTick
 pub mod Flush
 pub mod Activation
 pub mod ActiveWrites
+pub mod Sums
 pub mod LinkLaws
 pub mod DirtyEffects
 pub mod CheckpointRecords
@@ -50,6 +52,7 @@ pub mod TakeoverCalls
 pub mod Proved
 pub mod Corollaries
 pub mod ActiveLaws
+pub mod SumsProved
 pub mod CallLaws
 pub mod Walk
 pub mod AskedLaws

@@ -9,12 +9,13 @@ use lib.ListN.{length, drop, getD, length-append, List·getD-append}
 use lib.Seq.{drop-append-le, drop-drop, getD-drop, getD-append-seam}
 use borrow.Author.Tests.{eq-eqb, ne-eqb}
 use Rattle.lists.proofs.TestLaws.{lt-or-ge, eq-or-ne}
-use Rattle.lists.proofs.SelectLaws.{selected-more, selected-same}
+use Rattle.lists.specs.Select.{timesIn}
+use Rattle.lists.proofs.SelectLaws.{selected-more, selected-same, times-more, times-same}
 use Rattle.queue.specs.HeldList.{Held, isHeldOf, heldOf}
-use Rattle.runs.specs.Plain.{Sent, Checkpoint, ofPort, timesIn, noCheckpoint}
+use Rattle.runs.specs.Plain.{Sent, Checkpoint, ofPort, noCheckpoint}
 use Rattle.runs.proofs.FirstLaws.{FirstOf, first-all, first-more, first-length, first-same}
 use Rattle.runs.proofs.Invariant.{savedIn, Released, Unreleased, bytesOf, Packets, PortPackets}
-use Rattle.runs.proofs.SentLaws.{of-port-more, of-port-same, times-more, times-same}
+use Rattle.runs.proofs.SentLaws.{of-port-more, of-port-same}
 
 -- ---- one packet more, with the open epoch
 released-more : (port n : ℕ) (checkpoints : List Checkpoint) (held : List Held) (h : Held) → h .epoch ≡ length checkpoints → Released port n checkpoints held

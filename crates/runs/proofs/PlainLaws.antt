@@ -98,12 +98,14 @@ kept-accepted u (call.drain n destination) value p = same p _ (omega arith) refl
 kept-accepted u (call.ack n) value p = same p _ (omega arith) refl refl
 kept-accepted u (call.take port destination) value p = same p _ (omega arith) refl refl
 kept-accepted u call.primaryTick value p = same p _ (omega arith) refl refl
+kept-accepted u call.primarySum value p = same p _ (omega arith) refl refl
 kept-accepted u (call.read n reply) value p = same p _ (one-more (isCommit value) (p .r) (p .r + 1) (omega arith)) refl refl
 kept-accepted u (call.flush n) value p = same p _ (omega arith) refl refl
 kept-accepted u call.standbyTick value p = same p _ (omega arith) refl refl
 kept-accepted u call.activation value p = same p _ (omega arith) refl refl
 kept-accepted u (call.activeMemoryWrite page offset bytes) value p = same p _ (omega arith) refl refl
 kept-accepted u (call.activeDiskWrite block bytes) value p = same p _ (omega arith) refl refl
+kept-accepted u (call.standbySum order) value p = same p _ (omega arith) refl refl
 
 kept-step : (u : ℕ) (c : Call) (o : Outcome) (p : Plain) → Kept p (plainStep u c o p)
 unfolding plainStep

@@ -36,12 +36,14 @@ portOf c =
       | call.ack n ↦ 0
       | call.take port destination ↦ port
       | call.primaryTick ↦ 0
+      | call.primarySum ↦ 0
       | call.read n reply ↦ 0
       | call.flush n ↦ 0
       | call.standbyTick ↦ 0
       | call.activation ↦ 0
       | call.activeMemoryWrite page offset bytes ↦ 0
       | call.activeDiskWrite block bytes ↦ 0
+      | call.standbySum order ↦ 0
     ]
 
 -- the oldest packet of all ports

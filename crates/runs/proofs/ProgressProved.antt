@@ -17,6 +17,7 @@ use Rattle.runs.proofs.Refused.{refused-world}
 use Rattle.runs.proofs.Frame.{keeps}
 use Rattle.runs.proofs.StartCall.{start-law}
 use Rattle.runs.proofs.Proved.{per-call}
+use Rattle.runs.proofs.Sums.{primary-sum-pending, standby-sum-pending}
 use Rattle.runs.proofs.Walk.{blocksOnly}
 use Rattle.runs.proofs.Pending.{View, viewOf, Pending, Agree, KeepsPending}
 use Rattle.runs.proofs.PendingCalls.{memory-write-pending, packet-pending, take-pending, flush-pending, active-memory-write-pending, active-disk-write-pending, activation-pending, standby-tick-pending, primary-tick-pending, drain-pending}
@@ -61,12 +62,14 @@ module _ (g : Settings) where
   accepted-pending (call.ack n) = ack-pending g n
   accepted-pending (call.take port destination) = take-pending g port destination
   accepted-pending call.primaryTick = primary-tick-pending g
+  accepted-pending call.primarySum = primary-sum-pending g
   accepted-pending (call.read n reply) = read-pending g n reply
   accepted-pending (call.flush n) = flush-pending g n
   accepted-pending call.standbyTick = standby-tick-pending g
   accepted-pending call.activation = activation-pending g
   accepted-pending (call.activeMemoryWrite page offset bytes) = active-memory-write-pending g page offset bytes
   accepted-pending (call.activeDiskWrite block bytes) = active-disk-write-pending g block bytes
+  accepted-pending (call.standbySum order) = standby-sum-pending g order
 
   pub call-agree : (c : Call) (b : Both) → Agree g b → Agree g (runCall steps (g .u) b c)
   call-agree c b a =

@@ -15,6 +15,7 @@ use Rattle.runs.proofs.Flush.{flush-keeps}
 use Rattle.runs.proofs.StandbyTick.{standby-tick-keeps}
 use Rattle.runs.proofs.Activation.{activation-keeps}
 use Rattle.runs.proofs.ActiveWrites.{active-memory-write-keeps, active-disk-write-keeps}
+use Rattle.runs.proofs.Sums.{primary-sum-keeps, standby-sum-keeps}
 use Rattle.runs.proofs.TakeoverCalls.{takeover-law}
 use Rattle.runs.proofs.StartCall.{start-law}
 
@@ -29,12 +30,14 @@ per-call g =
       ack = ack-keeps g;
       take = take-keeps g;
       primaryTick = primary-tick-keeps g;
+      primarySum = primary-sum-keeps g;
       read = read-keeps g;
       flush = flush-keeps g;
       standbyTick = standby-tick-keeps g;
       activation = activation-keeps g;
       activeMemoryWrite = active-memory-write-keeps g;
       activeDiskWrite = active-disk-write-keeps g;
+      standbySum = standby-sum-keeps g;
     }
 
 pub demand-3 : Demand3

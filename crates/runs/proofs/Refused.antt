@@ -21,6 +21,7 @@ use Rattle.rules.specs.Step.{step}
 use Rattle.runs.specs.Plain.{plainStep}
 use Rattle.runs.specs.Run.{Both, steps, runCall}
 use Rattle.runs.proofs.RecordSteps.{ackSeen, ackBy, ack-step, readSeen, readBy, read-step}
+use Rattle.runs.proofs.SumSteps.{primary-sum-world, standby-sum-world}
 
 -- a call of the world that was not accepted
 abbrev pub NotAccepted : World → Call → Type 0
@@ -104,12 +105,14 @@ module _ (w : World) where
   refused-world (call.ack n) ne = refused-ack n ne
   refused-world (call.take port destination) ne = refused-take port destination ne
   refused-world call.primaryTick ne = refused-primary-tick ne
+  refused-world call.primarySum ne = primary-sum-world w
   refused-world (call.read n reply) ne = refused-read n reply ne
   refused-world (call.flush n) ne = refused-flush n ne
   refused-world call.standbyTick ne = refused-standby-tick ne
   refused-world call.activation ne = refused-activation ne
   refused-world (call.activeMemoryWrite page offset bytes) ne = refused-active-memory-write page offset bytes ne
   refused-world (call.activeDiskWrite block bytes) ne = refused-active-disk-write block bytes ne
+  refused-world (call.standbySum order) ne = standby-sum-world w order
 
 pub refused-both : (u : ℕ) (b : Both) (c : Call) → NotAccepted (b .world) c → runCall steps u b c ≡ b
 unfolding plainStep

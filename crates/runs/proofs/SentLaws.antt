@@ -1,17 +1,16 @@
--- Packets by port: one packet more, a first part, one more that has left. Assumes nothing.
-use Prim.Native.Nat.{ℕ, _+_, _≤_}
+-- Packets by port: one packet more, a first part, and one port named once. Assumes nothing.
+use Prim.Native.Nat.{ℕ, _≤_}
 use mathlib.Core.Path.{_≡_, sym, ap, _∙_}
 use mathlib.Core.Bool.{Bool}
 use mathlib.Core.Logic.{⊎-elim}
 use mathlib.Core.List.{List, [], _∷_, _++_, map, map-append}
 use native.Mathlib.Omega.{arith}
 use lib.Dec.{eqb}
-use lib.ListN.{length}
 use borrow.Author.Tests.{eq-eqb, ne-eqb}
-use Rattle.lists.specs.Select.{selected}
+use Rattle.lists.specs.Select.{selected, timesIn}
 use Rattle.lists.proofs.TestLaws.{eq-or-ne}
-use Rattle.lists.proofs.SelectLaws.{selected-none, selected-yes, selected-no, selected-append, selected-more, selected-same}
-use Rattle.runs.specs.Plain.{Sent, ofPort, timesIn}
+use Rattle.lists.proofs.SelectLaws.{selected-append, selected-more, selected-same, times-none, times-more, times-same}
+use Rattle.runs.specs.Plain.{Sent, ofPort}
 use Rattle.runs.proofs.FirstLaws.{FirstOf}
 
 abbrev isOf : ℕ → Sent → Bool
@@ -35,17 +34,10 @@ module _ (port : ℕ) where
   pub first-of-port : (xs ys : List Sent) → FirstOf xs ys → FirstOf (ofPort port xs) (ofPort port ys)
   first-of-port xs ys f = (ofPort port (f .0), sym (of-port-append xs (f .0)) ∙ ap (ofPort port) (f .1))
 
-  -- one more that has left
-  pub times-more : (n : ℕ) (ports : List ℕ) → n ≡ port → timesIn port (n ∷ ports) ≡ timesIn port ports + 1
-  times-more n ports e = omega (arith, ap length (selected-yes (λ (m : ℕ). eqb m port) n ports (eq-eqb _ _ e)))
-
-  pub times-same : (n : ℕ) (ports : List ℕ) → (n ≡ port → ⊥) → timesIn port (n ∷ ports) ≡ timesIn port ports
-  times-same n ports ne = ap length (selected-no (λ (m : ℕ). eqb m port) n ports (ne-eqb _ _ ne))
-
 -- one port named once
 pub one-named : (q : ℕ) (n : ℕ → ℕ) → 1 ≤ n q → (port : ℕ) → timesIn port (q ∷ []) ≤ n port
 one-named q n h port =
-    let none = ap length (selected-none (λ (m : ℕ). eqb m port)) in
+    let none = times-none port in
     ⊎-elim
     (λ (is : q ≡ port). omega (arith, times-more port q [] is, none, rw is at h))
     (λ (ne : q ≡ port → ⊥). omega (arith, times-same port q [] ne, none))

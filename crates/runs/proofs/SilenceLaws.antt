@@ -26,6 +26,7 @@ use Rattle.rules.proofs.ReadLaws.{read-mode, record-resets, read-receives}
 use Rattle.rules.proofs.TakeoverLaws.{tick-rests, tick-counts, tick-takes-over, activation-accepted}
 use Rattle.runs.specs.Silence.{endsSilence, addsTick, silenceAfter}
 use Rattle.runs.proofs.ModeLaws.{taking-not-receiving}
+use Rattle.runs.proofs.SumSteps.{standby-sum-world}
 use Rattle.runs.proofs.Refused.{refused-world}
 
 -- a standby of patience t that, if it receives, has counted n ticks of silence, fewer than t
@@ -127,6 +128,7 @@ module _ (t n : ℕ) (w : World) (h : Silent t n (w .standby .state)) where
   accepted-goes (call.ack k) e = same
   accepted-goes (call.take port destination) e = same
   accepted-goes call.primaryTick e = same
+  accepted-goes call.primarySum e = same
   accepted-goes (call.read k reply) e = read-goes t n state h _ _ e
   accepted-goes (call.flush k) e =
       let s = w .standby in
@@ -140,6 +142,7 @@ module _ (t n : ℕ) (w : World) (h : Silent t n (w .standby .state)) where
       pick-cases (Goes t state n) (activeMemoryWriteRefusal state (length (w .standby .memory)) page offset (length bytes)) state state (λ _. same) (λ _. same)
   accepted-goes (call.activeDiskWrite block bytes) e =
       pick-cases (Goes t state n) (activeDiskWriteRefusal state (length (w .standby .disk)) block (length bytes)) state state (λ _. same) (λ _. same)
+  accepted-goes (call.standbySum order) e = subst (λ (x : World). Goes t state n (x .standby .state)) (sym (standby-sum-world w order)) same
 
   -- any call, a refused one too
   pub step-goes : (c : Call) → Goes t (w .standby .state) (silenceAfter n c (step w c .outcome)) (step w c .next .standby .state)

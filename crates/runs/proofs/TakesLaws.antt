@@ -8,7 +8,9 @@ use mathlib.Core.List.{List, [], _∷_, map}
 use native.Mathlib.Omega.{arith}
 use lib.ListN.{length, replicate}
 use borrow.Author.Tests.{leb-true}
+use Rattle.lists.specs.Select.{timesIn}
 use Rattle.lists.proofs.TestLaws.{both, within-facts, eq-or-ne}
+use Rattle.lists.proofs.SelectLaws.{times-more, times-same}
 use Rattle.settings.specs.declared.Settings.{Settings}
 use Rattle.settings.specs.Range.{mostPacketBytes, packetLengthOk, mostPort, portOk}
 use Rattle.queue.specs.Held.{oldestAt, oldest, queueOk}
@@ -22,12 +24,11 @@ use Rattle.rules.specs.Step.{step}
 use Rattle.rules.proofs.PacketLaws.{take-accepts}
 use Rattle.rules.proofs.PrimaryFacts.{primary-facts}
 use Rattle.rules.proofs.ReplyLaws.{pick-cases}
-use Rattle.runs.specs.Plain.{Plain, ofPort, timesIn, takenOf, plainAccepted, plainStep}
+use Rattle.runs.specs.Plain.{Plain, ofPort, takenOf, plainAccepted, plainStep}
 use Rattle.runs.specs.Run.{Both, steps, runCall, run}
 use Rattle.runs.specs.Demand3.{AllAccepted}
 use Rattle.runs.specs.Progress.{rounds, lastCheckpoint, notTaken}
 use Rattle.runs.proofs.FirstLaws.{first-length}
-use Rattle.runs.proofs.SentLaws.{times-more, times-same}
 use Rattle.runs.proofs.Invariant.{Packets, Inv}
 use Rattle.runs.proofs.KeptLaws.{lent-held}
 use Rattle.runs.proofs.Frame.{Accepted}

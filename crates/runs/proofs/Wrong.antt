@@ -11,7 +11,7 @@ use Rattle.rules.specs.Step.{Stepped, outcome, atPrimary, atStandby, stepped, s
 use Rattle.runs.specs.Plain.{plainStep}
 use Rattle.runs.specs.Run.{Steps}
 
--- which of the fourteen calls it is
+-- which of the sixteen calls it is
 abbrev kindNumber : Call → ℕ
 kindNumber (call.memoryWrite page offset bytes) = 0
 kindNumber (call.diskWrite block bytes) = 1
@@ -21,12 +21,14 @@ kindNumber (call.drain n destination) = 4
 kindNumber (call.ack n) = 5
 kindNumber (call.take port destination) = 6
 kindNumber call.primaryTick = 7
-kindNumber (call.read n reply) = 8
-kindNumber (call.flush n) = 9
-kindNumber call.standbyTick = 10
-kindNumber call.activation = 11
-kindNumber (call.activeMemoryWrite page offset bytes) = 12
-kindNumber (call.activeDiskWrite block bytes) = 13
+kindNumber call.primarySum = 8
+kindNumber (call.read n reply) = 9
+kindNumber (call.flush n) = 10
+kindNumber call.standbyTick = 11
+kindNumber call.activation = 12
+kindNumber (call.activeMemoryWrite page offset bytes) = 13
+kindNumber (call.activeDiskWrite block bytes) = 14
+kindNumber (call.standbySum order) = 15
 
 abbrev pub sameKind : Call → Call → Bool
 sameKind c d = eqb (kindNumber c) (kindNumber d)

@@ -1,18 +1,20 @@
--- What a service engineer asks beside demand 3: six claims about every run. Assumes nothing.
+-- What a service engineer asks beside demand 3: seven claims about every run. Assumes nothing.
 -- The calls that count at a cut, `countedCalls cut calls`, are themselves a list of calls: a claim about every list
 -- holds at every cut.
 use Prim.Native.Nat.{ℕ, _≤_}
 use mathlib.Core.Path.{_≡_}
-use mathlib.Core.Bool.{true, false}
+use mathlib.Core.Bool.{true, false, cond}
 use mathlib.Core.List.{List, [], _∷_, _++_}
 use lib.ListN.{length}
+use Rattle.records.specs.Number.{outOfRange}
 use Rattle.settings.specs.declared.Settings.{Settings}
 use Rattle.staging.specs.SlotList.{dueList, storeAll}
+use Rattle.sums.specs.Sum.{imageSum, namesEach}
 use Rattle.rules.specs.declared.Choice.the-variants.{PrimaryDisk}
 use Rattle.rules.specs.Choose.{choiceOf, chosenDisk}
 use Rattle.rules.specs.World.{StandbyEnd, Processor, Call, Buffers, startNumber}
 use Rattle.rules.specs.World as call
-use Rattle.rules.specs.Step.{Stepped, step}
+use Rattle.rules.specs.Step.{Stepped, outcome, step}
 use Rattle.runs.specs.Plain.{Checkpoint, takenOf, receivedCheckpoint}
 use Rattle.runs.specs.Run.{Both, steps, run, startBoth}
 use Rattle.runs.specs.Cut.{Cut, countedCalls}
@@ -34,6 +36,21 @@ pub record PrimaryDiskValid (b : Both) : Type 0 where
   pub choice : choiceOf (length (b .world .primary .disk)) (length (b .world .standby .disk)) (b .world .standby .area) ≡ PrimaryDisk
   pub chosen : chosenDisk (b .world .primary .disk) (b .world .standby .disk) (b .world .standby .area) ≡ b .world .primary .disk
   pub plain : b .world .primary .disk ≡ b .plain .disk
+
+-- both ends' sums are those of the plain pair's images (document 02, Job 11)
+pub record SumsRight (g : Settings) (b : Both) : Type 0 where
+  -- the primary's is never refused, and is that of its guest's memory
+  pub primary : step (b .world) call.primarySum .outcome ≡ outcome 0 (imageSum (b .plain .memory))
+  -- the standby's is refused for its order alone: "an order not naming each page once gives 1"
+  pub standbyNumber : (order : List ℕ) → step (b .world) (call.standbySum order) .outcome .number ≡ cond (namesEach (g .m) order) 0 outOfRange
+  -- accepted, it is that of checkpoint r's memory until the standby is active, and then that of its guest's, in
+  -- whichever order
+  pub received : active (b .world) ≡ false → (order : List ℕ)
+      → step (b .world) (call.standbySum order) .outcome .number ≡ 0
+      → step (b .world) (call.standbySum order) .outcome .value ≡ imageSum (receivedCheckpoint (b .plain) .memory)
+  pub activated : active (b .world) ≡ true → (order : List ℕ)
+      → step (b .world) (call.standbySum order) .outcome .number ≡ 0
+      → step (b .world) (call.standbySum order) .outcome .value ≡ imageSum (b .plain .standbyMemory)
 
 module _ (g : Settings) (processor : Processor) (buffers : Buffers) where
   -- the pair after start and a list of calls, and what the real ends answer there to one call more
@@ -91,6 +108,11 @@ module _ (g : Settings) (processor : Processor) (buffers : Buffers) where
       (calls : List Call) (cut : Cut) → let b = pairAfter (countedCalls cut calls) in
       let s = b .world .standby in
       active (b .world) ≡ false → storeAll (g .u) (s .disk) (dueList (g .u) (s .state .slots) (s .stagedBlocks)) ≡ receivedCheckpoint (b .plain) .disk
+
+  -- ---- 7. both ends' sums are those of the plain pair's images, at every cut; so they are equal where checkpoint r's
+  -- memory is the primary's: "On equal images both give the same sum" (document 02, Job 11)
+  abbrev pub SumsOfImages : Type 0
+  SumsOfImages = (calls : List Call) (cut : Cut) → SumsRight g (pairAfter (countedCalls cut calls))
 
 -- for every accepted start
 abbrev pub AfterStart : (Settings → Processor → Buffers → Type 0) → Type 0

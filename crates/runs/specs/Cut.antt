@@ -31,12 +31,14 @@ isPrimarys (call.drain n destination) = true
 isPrimarys (call.ack n) = true
 isPrimarys (call.take port destination) = true
 isPrimarys call.primaryTick = true
+isPrimarys call.primarySum = true
 isPrimarys (call.read n reply) = false
 isPrimarys (call.flush n) = false
 isPrimarys call.standbyTick = false
 isPrimarys call.activation = false
 isPrimarys (call.activeMemoryWrite page offset bytes) = false
 isPrimarys (call.activeDiskWrite block bytes) = false
+isPrimarys (call.standbySum order) = false
 
 -- a flush cut inside, as one of a smaller budget; no other call has a budget
 abbrev pub withBudget : ℕ → Call → List Call
@@ -48,12 +50,14 @@ withBudget b (call.drain n destination) = []
 withBudget b (call.ack n) = []
 withBudget b (call.take port destination) = []
 withBudget b call.primaryTick = []
+withBudget b call.primarySum = []
 withBudget b (call.read n reply) = []
 withBudget b (call.flush n) = call.flush (min b n) ∷ []
 withBudget b call.standbyTick = []
 withBudget b call.activation = []
 withBudget b (call.activeMemoryWrite page offset bytes) = []
 withBudget b (call.activeDiskWrite block bytes) = []
+withBudget b (call.standbySum order) = []
 
 abbrev pub cutInside : Running → Call → List Call
 cutInside notMade c = []

@@ -6,7 +6,7 @@ use lib.Dec.{leb, eqb}
 use lib.ListN.{length, getD}
 use Rattle.lists.specs.Refusal.{pick}
 use Rattle.lists.specs.Page.{withPage}
-use Rattle.lists.specs.Select.{selected}
+use Rattle.lists.specs.Select.{selected, timesIn}
 use Rattle.records.specs.Kind.{isCommit}
 use Rattle.pages.specs.Write.{written}
 use Rattle.rules.specs.World.{Call}
@@ -56,10 +56,6 @@ checkpointAt p i = getD (p .checkpoints) i noCheckpoint
 -- "checkpoint r"
 abbrev pub receivedCheckpoint : Plain → Checkpoint
 receivedCheckpoint p = checkpointAt p (p .r)
-
--- how often a port is named
-abbrev pub timesIn : ℕ → List ℕ → ℕ
-timesIn port ports = length (selected (λ (n : ℕ). eqb n port) ports)
 
 -- how many of its packets have left
 abbrev pub takenOf : Plain → ℕ → ℕ
@@ -123,6 +119,7 @@ plainAccepted u (call.drain n destination) value p = p
 plainAccepted u (call.ack n) value p = withCounts p (p .r) value 0
 plainAccepted u (call.take port destination) value p = withPackets p (p .accepted) (port ∷ p .taken)
 plainAccepted u call.primaryTick value p = withCounts p (p .r) (p .a) (cond (unacknowledged p) (p .count + 1) (p .count))
+plainAccepted u call.primarySum value p = p
 plainAccepted u (call.read n reply) value p = withCounts p (cond (isCommit value) (p .r + 1) (p .r)) (p .a) (p .count)
 plainAccepted u (call.flush n) value p = p
 plainAccepted u call.standbyTick value p = p
@@ -131,6 +128,7 @@ plainAccepted u (call.activeMemoryWrite page offset bytes) value p =
     withActivatedStandbyImages p (p .activated) (written u (p .standbyMemory) page offset bytes) (p .standbyDisk)
 plainAccepted u (call.activeDiskWrite block bytes) value p =
     withActivatedStandbyImages p (p .activated) (p .standbyMemory) (withPage u (p .standbyDisk) block bytes)
+plainAccepted u (call.standbySum order) value p = p
 
 -- "or one refused or cut short: nothing changes"
 unfoldable pub plainStep : ℕ → Call → Outcome → Plain → Plain

@@ -10,6 +10,7 @@ use lib.Dec.{leb, ltb, eqb}
 use lib.ListN.{length, take, drop, replicate}
 use Rattle.lists.specs.LittleEndian.{leAt}
 use Rattle.lists.specs.Refusal.{Test, test, refusal}
+use Rattle.lists.specs.Select.{timesIn}
 use Rattle.records.specs.Kind.{BLOCK, ACK, isWide, pageKind, commitKind, isCommit, headerLength, recordLength}
 use Rattle.records.specs.Read.{cutShort}
 use Rattle.records.specs.Number.{noRoom, slotsFull}
@@ -19,7 +20,7 @@ use Rattle.staging.specs.Slot.{isStaged}
 use Rattle.rules.specs.StandbyState.{isReceiving}
 use Rattle.rules.specs.World.{World, Processor, Call, Buffers}
 use Rattle.rules.specs.World as call
-use Rattle.runs.specs.Plain.{Checkpoint, Plain, ofPort, timesIn, takenOf, checkpointAt}
+use Rattle.runs.specs.Plain.{Checkpoint, Plain, ofPort, takenOf, checkpointAt}
 use Rattle.runs.specs.Run.{Both, Steps, steps, run, startBoth}
 use Rattle.runs.specs.Cut.{Cut, countedCalls}
 use Rattle.runs.specs.Demand3.{AllAccepted}

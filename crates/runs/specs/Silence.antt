@@ -28,12 +28,14 @@ byCall c read tick rest =
       | call.ack n ↦ rest
       | call.take port destination ↦ rest
       | call.primaryTick ↦ rest
+      | call.primarySum ↦ rest
       | call.read n reply ↦ read
       | call.flush n ↦ rest
       | call.standbyTick ↦ tick
       | call.activation ↦ rest
       | call.activeMemoryWrite page offset bytes ↦ rest
       | call.activeDiskWrite block bytes ↦ rest
+      | call.standbySum order ↦ rest
     ]
 
 -- which call ends it, if it is accepted: the standby's read
