@@ -3,6 +3,7 @@ use crate::block_numbers::block_to_write;
 use crate::items::code;
 use crate::made_up::{made_up_ack, made_up_record};
 use crate::model::*;
+use crate::orders::some_order;
 use crate::random::Random;
 use crate::world::{Args, World};
 
@@ -137,6 +138,7 @@ pub fn arguments(r: &Random, which: usize, w: &World, odd: u64) -> Args {
             a.data = made_up_record(r, s, odd);
             a.out = reply_buffer(r, odd);
         }
+        code::STANDBY_SUM => a.order = some_order(r, s.m, odd),
         code::FLUSH => a.n = r.pick(&[0, 1, 1, 2, s.due, s.due.wrapping_add(1), s.due / 2, 1 << 32, u64::MAX]),
         _ => {}
     }

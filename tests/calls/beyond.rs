@@ -1,6 +1,6 @@
 //! Calls at settings just beyond their largest; beyond the largest L they are in wide_ends.rs.
 use crate::arguments::{arguments, fresh_world, start_args};
-use crate::items::code;
+use crate::items::{calls_of_ends, code};
 use crate::model::{least_stream, Settings};
 use crate::random::Random;
 use crate::sink::Sink;
@@ -28,7 +28,7 @@ fn settings() -> Vec<Settings> {
 /// Every call of both ends, and start, at these settings with every lent length exact, so that no length is a reason.
 fn every_call(r: &Random, sink: &mut Sink, settings: Settings) {
     let mut w = fresh_world(r, &settings);
-    for which in code::START..=code::STANDBY_DISK_WRITE {
+    for which in [code::START].into_iter().chain(calls_of_ends()) {
         (w.primary, w.standby) = (any_primary(r, &settings), any_standby(r, &settings, which));
         let mut a = if which == code::START { start_args(r, settings) } else { arguments(r, which, &w, 0) };
         sink.call(which, &mut w, &mut a);

@@ -41,7 +41,9 @@ pub fn call(which: usize, l: &mut Lent) -> Answer {
         code::ACTIVATION => activate(l),
         code::STANDBY_MEMORY_WRITE => memory_write_at_standby(l),
         code::STANDBY_DISK_WRITE => disk_write_at_standby(l),
-        _ => choice(l),
+        code::CHOICE => choice(l),
+        code::PRIMARY_SUM => sum(l),
+        _ => sum_at_standby(l),
     };
     Answer::of(word)
 }
@@ -175,4 +177,17 @@ fn disk_write_at_standby(l: &mut Lent) -> u64 {
 fn choice(l: &mut Lent) -> u64 {
     let (primary, standby, area) = (l.byte_slice(Disk), l.byte_slice(StandbyDisk), l.byte_slice(Area));
     unsafe { pair_disk_choice(primary.at, primary.len, standby.at, standby.len, area.at, area.len) }
+}
+
+fn sum(l: &mut Lent) -> u64 {
+    let (state, memory) = (l.word_slice(Primary), l.byte_slice(Memory));
+    unsafe { primary_sum(state.at, state.len, memory.at, memory.len) }
+}
+
+fn sum_at_standby(l: &mut Lent) -> u64 {
+    let (state, pending, kept) = (l.word_slice(Standby), l.byte_slice(Pending), l.byte_slice(Kept));
+    let (memory, order) = (l.byte_slice(StandbyMemory), l.word_slice(Order));
+    unsafe {
+        standby_sum(state.at, state.len, pending.at, kept.at, memory.at, memory.len, order.at, order.len)
+    }
 }

@@ -66,4 +66,9 @@ extern "C" {
         primary: *const u8, primary_len: usize, standby: *const u8, standby_len: usize, area: *const u8,
         area_len: usize,
     ) -> u64;
+    pub fn primary_sum(state: *const u64, state_len: usize, memory: *const u8, memory_len: usize) -> u64;
+    pub fn standby_sum(
+        state: *const u64, state_len: usize, pending: *const u8, processor: *const u8, memory: *const u8,
+        memory_len: usize, order: *const u64, order_len: usize,
+    ) -> u64;
 }

@@ -75,10 +75,10 @@ fn change_token(r: &Random, line: &[u8]) -> Vec<u8> {
 
 /// One token replaced by a number, often in a state.
 fn change_number(r: &Random, line: &[u8]) -> Vec<u8> {
-    const NUMBERS: [&[u8]; 15] = [
+    const NUMBERS: [&[u8]; 16] = [
         b"0", b"1", b"2", b"4", b"65535", b"65536", b"00000000000000000000000000000000007", b"4294967295",
         b"4294967296", b"9223372036854775808", b"18446744073709551615", b"18446744073709551616",
-        b"99999999999999999999999", b"67108864", b"16",
+        b"99999999999999999999999", b"67108864", b"16", b"18",
     ];
     let mut tokens: Vec<&[u8]> = line.split(|&byte| byte == b' ').collect();
     let last = r.pick(&[tokens.len() as u64, 20, 273]).min(tokens.len() as u64);

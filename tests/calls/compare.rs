@@ -16,9 +16,11 @@ mod epoch_blocks;
 mod four_ports;
 mod generate;
 mod guarded;
+mod image_sums;
 mod items;
 mod kinds;
 mod large;
+mod largest_sums;
 mod lent;
 mod lines;
 mod made_up;
@@ -29,6 +31,7 @@ mod model;
 mod names;
 mod no_state;
 mod numbers;
+mod orders;
 mod outside;
 mod plain;
 mod port_lists;
@@ -47,6 +50,8 @@ mod silence;
 mod singles;
 mod sink;
 mod states;
+mod sum_orders;
+mod sums;
 mod ticks;
 mod view;
 mod wide;
@@ -92,7 +97,8 @@ const SILENCE: &str = "records that come slower than T ticks";
 const PARTS: &str = "records that come in parts";
 const FOUR_PORTS: &str = "packets of four ports";
 const SAME_BLOCK: &str = "the same block again";
-const ON_TOP: [&str; 9] = [LARGE, WIDE, CUTS, LINES, MARKS, SILENCE, PARTS, FOUR_PORTS, SAME_BLOCK];
+const SUMS: &str = "sums of both memories";
+const ON_TOP: [&str; 10] = [LARGE, WIDE, CUTS, LINES, MARKS, SILENCE, PARTS, FOUR_PORTS, SAME_BLOCK, SUMS];
 
 fn until(sink: &mut Sink, end: u64, mut one: impl FnMut(&mut Sink)) {
     while sink.calls < end {
@@ -246,7 +252,8 @@ fn main() {
             SILENCE => demanded(silence::run(&r, sink)),
             PARTS => demanded(missing::run(&r, sink)),
             FOUR_PORTS => demanded(four_ports::run(&r, sink)),
-            _ => demanded(same_block::run(&r, sink)),
+            SAME_BLOCK => demanded(same_block::run(&r, sink)),
+            _ => demanded(image_sums::run(&r, sink)),
         });
     }
     // that every number comes is a test of all kinds together

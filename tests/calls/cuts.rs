@@ -2,7 +2,7 @@
 use crate::both::Both;
 use crate::checker::{demand, Check};
 use crate::generate::{blocks_mood, ending_mood, lively_mood, next_step, Step, PUT_OFF};
-use crate::items::code;
+use crate::items::{code, is_of, Item};
 use crate::model::*;
 use crate::random::Random;
 use crate::sink::Sink;
@@ -27,11 +27,11 @@ pub struct Tally {
 }
 
 fn is_primary_call(which: usize) -> bool {
-    (code::MEMORY_WRITE..=code::PRIMARY_TICK).contains(&which)
+    is_of(which, Item::Primary)
 }
 
 fn is_standby_call(which: usize) -> bool {
-    (code::READ..=code::STANDBY_DISK_WRITE).contains(&which)
+    is_of(which, Item::Standby)
 }
 
 /// One list of calls at small settings, and every cut of it.

@@ -19,7 +19,9 @@ pub mod code {
     pub const STANDBY_MEMORY_WRITE: usize = 13;
     pub const STANDBY_DISK_WRITE: usize = 14;
     pub const CHOICE: usize = 15;
-    pub const ALL: usize = 16;
+    pub const PRIMARY_SUM: usize = 16;
+    pub const STANDBY_SUM: usize = 17;
+    pub const ALL: usize = 18;
 }
 
 /// The words of the settings, of a primary and of a standby. A primary's first words are followed by its 64 packets, of
@@ -35,7 +37,8 @@ pub const STANDBY_LAST_AT: usize = 75;
 pub const STANDBY_WORDS: usize = 80;
 
 /// A part of a call. First the words, then the bytes, then the numbers given, then what is answered. `Cpu` is the
-/// processor state given, `Pending` and `Kept` are the standby's; `Out` is the destination or the reply buffer.
+/// processor state given, `Pending` and `Kept` are the standby's; `Out` is the destination or the reply buffer; `Order`
+/// are the pages as the standby visited them.
 #[derive(Clone, Copy, PartialEq, Debug)]
 pub enum Item {
     Settings,
@@ -43,6 +46,7 @@ pub enum Item {
     Standby,
     Marks,
     StandbyMarks,
+    Order,
     Cpu,
     Pending,
     Kept,
@@ -92,7 +96,7 @@ impl Item {
             Settings => Sort::Numbers(SETTINGS_WORDS),
             Primary => Sort::Numbers(PRIMARY_WORDS),
             Standby => Sort::Numbers(STANDBY_WORDS),
-            Marks | StandbyMarks => Sort::Words,
+            Marks | StandbyMarks | Order => Sort::Words,
             Cpu | Pending | Kept => Sort::Processor,
             Place | Offset | N | Port => Sort::Given,
             Number | Value | Used | Missing | Chosen => Sort::Answered,
@@ -127,6 +131,8 @@ pub const INPUT: [&[Item]; code::ALL] = [
     &[Standby, Pending, Kept, StandbyMemory, Place, Offset, Data],
     &[Standby, Pending, Kept, StandbyDisk, Place, Data],
     &[Disk, StandbyDisk, Area],
+    &[Primary, Memory],
+    &[Standby, Pending, Kept, StandbyMemory, Order],
 ];
 
 /// A line of output, by code.
@@ -150,10 +156,27 @@ pub const OUTPUT: [&[Item]; code::ALL] = [
     &[Number, Value, Standby, Pending, Kept, StandbyMemory],
     &[Number, Value, Standby, Pending, Kept, StandbyDisk],
     &[Number, Chosen],
+    &[Number, Value, Primary],
+    &[Number, Value, Standby, Pending, Kept],
 ];
 
 /// Everything that a call of the library is given: what stands on the line, and the states that start makes.
 pub fn given(which: usize) -> impl Iterator<Item = Item> {
     let made: &[Item] = if which == code::START { &[Primary, Standby, Pending, Kept] } else { &[] };
     INPUT[which].iter().chain(made).copied()
+}
+
+/// The calls of one end, by their codes: what they are given begins with its state.
+pub fn calls_of(end: Item) -> impl Iterator<Item = usize> {
+    (0..code::ALL).filter(move |&which| is_of(which, end))
+}
+
+/// Whether a call is one of this end.
+pub fn is_of(which: usize, end: Item) -> bool {
+    INPUT[which].first() == Some(&end)
+}
+
+/// The calls of both ends, the primary's first.
+pub fn calls_of_ends() -> impl Iterator<Item = usize> {
+    calls_of(Primary).chain(calls_of(Standby))
 }

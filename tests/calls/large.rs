@@ -11,6 +11,7 @@ use crate::items::{code, given, Item};
 use crate::kinds::unit_number;
 use crate::lent::Lent;
 use crate::model::*;
+use crate::orders::whole_order;
 use crate::random::Random;
 use crate::sink::Sink;
 use crate::view::View;
@@ -62,6 +63,7 @@ fn one(r: &Random, sink: &mut Sink, settings: Settings) -> Check {
     pair.send_packets()?;
     pair.checkpoint_to_ack()?;
     demand(pair.w.standby_memory == pair.w.memory, "the standby has not received the primary's memory")?;
+    pair.same_sums()?;
     pair.write_blocks(settings.b / 2)?;
     pair.write_blocks_again()?;
     pair.write_some_pages()?;
@@ -170,6 +172,24 @@ impl<'a> Pair<'a> {
         let clean = (0..m).filter(|page| self.w.marks[(page / 64) as usize] >> (page % 64) & 1 == 0).count();
         demand(clean == 0, "a page is not dirty")?;
         self.whole()
+    }
+
+    /// The sum at the primary.
+    pub fn sum(&mut self) -> Result<u64, String> {
+        let reply = self.plain(code::PRIMARY_SUM)?;
+        if reply.number == 0 { Ok(reply.value) } else { Err(format!("a sum is refused with {}", reply.number)) }
+    }
+
+    /// The sum at the standby in this order, which must give this number.
+    pub fn sum_in(&mut self, order: Vec<u64>, number: u64) -> Result<u64, String> {
+        let reply = self.step(code::STANDBY_SUM, &mut Args { order, ..Args::none() })?;
+        if reply.number == number { Ok(reply.value) } else { Err(format!("a sum gives {}", reply.number)) }
+    }
+
+    /// On equal memories both ends give the same sum.
+    pub fn same_sums(&mut self) -> Check {
+        let order = whole_order(self.r, self.w.standby.m);
+        demand(self.sum()? == self.sum_in(order, 0)?, "the sums of equal memories differ")
     }
 
     /// Some pages, among them the first and the last.
@@ -319,5 +339,5 @@ impl<'a> Pair<'a> {
 /// Whether an item is given anew by each call.
 fn is_argument(item: Item) -> bool {
     use Item::*;
-    matches!(item, Settings | Cpu | Data | Out | Place | Offset | N | Port)
+    matches!(item, Settings | Order | Cpu | Data | Out | Place | Offset | N | Port)
 }

@@ -16,7 +16,7 @@ use std::io::{Read, Write};
 use std::process::{Command, Stdio};
 use std::thread;
 
-const GOOD_LINES: usize = 31_000;
+const GOOD_LINES: usize = 33_000;
 
 pub fn run(r: &Random, sink: &mut Sink, program: &str) -> Check {
     let text = good_lines(r, sink);
@@ -48,18 +48,21 @@ fn good_lines(r: &Random, sink: &mut Sink) -> Text {
     sink.text.take().unwrap_or_default()
 }
 
-/// A checkpoint and a read at the largest M: their buffers fit on a line.
+/// A checkpoint, a read and both sums at the largest M: their buffers fit on a line.
 fn most_pages(r: &Random, sink: &mut Sink, program: &str) -> Check {
     let (u, m, d, b, s, t) = (64, MOST_PAGES, 1, 1, 1, 1);
     let settings = Settings { u, m, d, b, s, q: 0, l: least_stream(u, m, b), t };
     let primary = Primary { u, m, d, b, l: settings.l, t, open: 1, ..Primary::zero() };
     let standby = Standby { u, m, d, b, s, t, ..Standby::zero() };
     let mut page = Args { data: page_of(&standby, m - 1), out: vec![0; 8], ..Args::none() };
+    let mut falling = Args { order: (0..m).rev().collect(), ..Args::none() };
     let mut w = World { primary, standby, ..fresh_world(r, &settings) };
     sink.text = Some(Text::default());
     let replies = [
         sink.call(code::CHECKPOINT, &mut w, &mut Args::none()),
         sink.call(code::READ, &mut w, &mut page),
+        sink.call(code::PRIMARY_SUM, &mut w, &mut Args::none()),
+        sink.call(code::STANDBY_SUM, &mut w, &mut falling),
     ];
     demand(replies.iter().all(|reply| reply.number == 0), "a line of the largest M is refused")?;
     let text = sink.text.take().unwrap_or_default();
@@ -79,8 +82,8 @@ fn every_code(text: &Text) -> Check {
 
 /// Lines with answers that an earlier program of the form gave, which had no ports and no records: theirs are 0, and as
 /// many as the blocks. Or worked out by hand where a record is cut short or refused, where M or L is at an end of its
-/// range, where ports differ, or where blocks come again. The order of the items is in one table for both programs
-/// here, and a mistake in it would be seen by nothing else.
+/// range, where ports differ, where blocks come again, or where a memory is summed (image_sums.rs says how). The order
+/// of the items is in one table for both programs here, and a mistake in it would be seen by nothing else.
 fn examples(program: &str) -> Check {
     let (lines, answers) = (include_bytes!("examples.in"), include_bytes!("examples.out"));
     same(lines, answers, &printed(program, &[lines])?)
@@ -138,6 +141,10 @@ fn limits(program: &str) -> Check {
     same(b"11 .. 1048576 ..", &[b"1 0 ", &state[..], b" 1048576", &words, b"\n"].concat(), &many)?;
     let more = printed(program, &[b"11 ", &state, b" 1048577 9", &words, b"\n"])?;
     same(b"11 .. 1048577 ..", b"!\n", &more)?;
+    let order = printed(program, &[b"17 ", &state, b" 0 1048576", &words, b"\n"])?;
+    same(b"17 .. 0 1048576 ..", &[b"1 0 ", &state[..], b"\n"].concat(), &order)?;
+    let longer = printed(program, &[b"17 ", &state, b" 0 1048577 9", &words, b"\n"])?;
+    same(b"17 .. 0 1048577 ..", b"!\n", &longer)?;
     others(program)
 }
 
@@ -146,8 +153,9 @@ fn others(program: &str) -> Check {
     let good = b"15 0 0 8 0000000000000000";
     same(b"", b"", &printed(program, &[])?)?;
     same(good, b"0 0\n", &printed(program, &[good, b"\n"])?)?;
-    let bad: [&[u8]; 8] = [
-        b"\n", b"16\n", b"15\n", b" 15 0 0 0\n", b"15  0 0 0\n", b"15 0 0 0 \n", b"15 0 0 1 0\n", b"15 1 0 0\n",
+    let bad: [&[u8]; 9] = [
+        b"\n", b"18\n", b"17\n", b"15\n", b" 15 0 0 0\n", b"15  0 0 0\n", b"15 0 0 0 \n", b"15 0 0 1 0\n",
+        b"15 1 0 0\n",
     ];
     for bad in bad {
         same(bad, b"!\n", &printed(program, &[bad])?)?;

@@ -276,7 +276,10 @@ mod sizes;
 mod standby;
 #[path = "model_start.rs"]
 mod start;
+#[path = "model_sums.rs"]
+mod sums;
 pub use primary::*;
 pub use sizes::*;
 pub use standby::*;
 pub use start::*;
+pub use sums::*;

@@ -21,6 +21,7 @@ pub fn item_name(item: Item) -> &'static str {
         Item::Standby => "standby",
         Item::Marks => "dirty marks",
         Item::StandbyMarks => "staged marks",
+        Item::Order => "order",
         Item::Cpu => "processor state given",
         Item::Pending => "staged processor state",
         Item::Kept => "kept processor state",

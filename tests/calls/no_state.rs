@@ -2,7 +2,10 @@
 //! them and changes nothing, whatever else it is given.
 use crate::arguments::{arguments, fresh_world, small_settings, start_args};
 use crate::guarded::Guarded;
-use crate::items::{code, Item, PACKET_WORDS, PRIMARY_FIRST_WORDS, PRIMARY_WORDS, STANDBY_WORDS, WRITTEN_AT};
+use crate::items::{
+    calls_of, calls_of_ends, code, is_of, Item, PACKET_WORDS, PRIMARY_FIRST_WORDS, PRIMARY_WORDS, STANDBY_WORDS,
+    WRITTEN_AT,
+};
 use crate::names::word_name;
 use crate::random::Random;
 use crate::singles::any_world;
@@ -54,8 +57,8 @@ struct Target {
 
 /// Every field of every call on a state.
 fn targets() -> Vec<Target> {
-    let primary = (code::MEMORY_WRITE..=code::PRIMARY_TICK).map(|which| (which, Item::Primary, primary_fields()));
-    let standby = (code::READ..=code::STANDBY_DISK_WRITE).map(|which| (which, Item::Standby, standby_fields()));
+    let primary = calls_of(Item::Primary).map(|which| (which, Item::Primary, primary_fields()));
+    let standby = calls_of(Item::Standby).map(|which| (which, Item::Standby, standby_fields()));
     let target = |which, item, (word, field)| Target { which, item, word, field, came: 0 };
     primary
         .chain(standby)
@@ -70,11 +73,11 @@ pub fn run(r: &Random, sink: &mut Sink, end: u64) -> Result<(), String> {
     let mut rounds = 0;
     while rounds == 0 || sink.calls < end {
         targets.iter_mut().for_each(|target| unfit_field(r, sink, target));
-        (code::MEMORY_WRITE..=code::STANDBY_DISK_WRITE).for_each(|which| wrong_counts(r, sink, which));
+        calls_of_ends().for_each(|which| wrong_counts(r, sink, which));
         wrong_counts_at_start(r, sink);
         rounds += 1;
     }
-    println!("  {} fields of {} calls, {rounds} times each number", targets.len(), code::STANDBY_DISK_WRITE);
+    println!("  {} fields of {} calls, {rounds} times each number", targets.len(), calls_of_ends().count());
     match targets.iter().find(|target| target.came == 0) {
         None => Ok(()),
         Some(target) => Err(format!("code {} never had {}", target.which, word_name(target.item, target.word))),
@@ -104,7 +107,7 @@ fn unfit_field(r: &Random, sink: &mut Sink, target: &mut Target) {
 
 /// The call on a state in range with words missing or too many.
 fn wrong_counts(r: &Random, sink: &mut Sink, which: usize) {
-    let item = if which <= code::PRIMARY_TICK { Item::Primary } else { Item::Standby };
+    let item = if is_of(which, Item::Primary) { Item::Primary } else { Item::Standby };
     let w = any_world(r, which);
     let odd = r.pick(&[0, 0, 0, 30]);
     let a = arguments(r, which, &w, odd);

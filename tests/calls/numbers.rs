@@ -21,6 +21,8 @@ const REFUSALS: [&[u64]; code::ALL] = [
     &[13, 2, 3],
     &[13, 2, 3],
     &[12],
+    &[],
+    &[],
 ];
 
 /// How often each number came, by call code.

@@ -3,7 +3,7 @@
 //! makes of the counts and of the bytes is worked out here, beside the model.
 use crate::arguments::{arguments, fresh_world};
 use crate::checker::{demand, Check};
-use crate::items::code;
+use crate::items::{calls_of_ends, code};
 use crate::made_up::record;
 use crate::model::*;
 use crate::random::Random;
@@ -189,7 +189,7 @@ fn checkpoint(r: &Random, sink: &mut Sink, m: u64, (blocks, records): (u64, u64)
 /// Every call at either end with records at the end of their range: above it they give 1, and below it they do not.
 fn ranges(r: &Random, sink: &mut Sink) -> Check {
     let settings = Settings { u: U, m: 1, d: 2, b: 2, s: 2, q: 9, l: least_stream(U, 1, 2), t: 3 };
-    for which in code::MEMORY_WRITE..=code::STANDBY_DISK_WRITE {
+    for which in calls_of_ends() {
         for records in [0, 65_534, 65_535, 65_536, 65_537, 131_071, 1 << 32, (1 << 32) + 65_535, 1 << 63, u64::MAX] {
             let mut w = fresh_world(r, &settings);
             let Settings { u, m, d, b, s, q, l, t } = settings;

@@ -1,6 +1,6 @@
 //! Single calls on random states, starts and disk choices.
 use crate::arguments::*;
-use crate::items::{code, Item, INPUT};
+use crate::items::{calls_of, calls_of_ends, code, is_of, Item, INPUT};
 use crate::made_up::record;
 use crate::model::*;
 use crate::random::Random;
@@ -101,7 +101,7 @@ fn world_at(r: &Random, which: usize, s: &Settings) -> World {
 }
 
 fn any_call(r: &Random) -> usize {
-    r.weighted(&[0, 8, 10, 8, 12, 6, 14, 10, 4, 30, 8, 5, 6, 7, 7, 0])
+    r.weighted(&[0, 8, 10, 8, 12, 6, 14, 10, 4, 30, 8, 5, 6, 7, 7, 0, 3, 6])
 }
 
 /// Any state in range, arguments odd in some of a hundred: two reasons of a refusal often meet.
@@ -129,10 +129,11 @@ fn single(r: &Random, sink: &mut Sink, which: usize, mut w: World) {
 
 /// One thing of the state pushed out of its range, everything else in range and lent exactly.
 pub fn pushed_out(r: &Random, sink: &mut Sink, clause: u64) {
-    let which = if r.percent(50) { r.range(1, 8) } else { r.range(9, 14) } as usize;
+    let end = r.pick(&[Item::Primary, Item::Standby]);
+    let which = one_of(r, calls_of(end));
     let s = settings_for(r, which);
     let (mut primary, mut standby) = (any_primary(r, &s), any_standby(r, &s, which));
-    let pushed = if which <= code::PRIMARY_TICK {
+    let pushed = if is_of(which, Item::Primary) {
         crate::outside::push_primary(r, &mut primary, clause)
     } else {
         crate::outside::push_standby(r, &mut standby, clause)
@@ -147,7 +148,7 @@ pub fn pushed_out(r: &Random, sink: &mut Sink, clause: u64) {
 
 /// A refused start's states: every call gives 1, whatever is lent.
 pub fn on_zero(r: &Random, sink: &mut Sink) {
-    let which = r.range(1, 14) as usize;
+    let which = one_of(r, calls_of_ends());
     let mut w = any_world(r, which);
     let mut a = arguments(r, which, &w, 10);
     if r.percent(40) {
@@ -159,7 +160,7 @@ pub fn on_zero(r: &Random, sink: &mut Sink) {
 
 /// One lent buffer too short or too long, everything else right.
 pub fn wrong_length(r: &Random, sink: &mut Sink) {
-    let which = r.pick(&[1, 2, 3, 4, 5, 7, 9, 9, 10, 11, 12, 13, 14]);
+    let which = r.pick(&[1, 2, 3, 4, 5, 7, 9, 9, 10, 11, 12, 13, 14, 16, 17]);
     let mut w = any_world(r, which);
     let odd = r.pick(&[0, 0, 4]);
     let mut a = arguments(r, which, &w, odd);
@@ -167,6 +168,10 @@ pub fn wrong_length(r: &Random, sink: &mut Sink) {
     let one = r.pick(&lent);
     spoil(r, &mut w, one);
     sink.call(which, &mut w, &mut a);
+}
+
+fn one_of(r: &Random, calls: impl Iterator<Item = usize>) -> usize {
+    r.pick(&calls.collect::<Vec<usize>>())
 }
 
 fn is_lent(item: Item) -> bool {

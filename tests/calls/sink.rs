@@ -9,6 +9,7 @@ use crate::numbers::Numbers;
 use crate::ports::Ports;
 use crate::print_form::{input_line, Output};
 use crate::repeats::Repeats;
+use crate::sums::Sums;
 use crate::view::View;
 use crate::world::{run, Args, World};
 use std::fs;
@@ -38,6 +39,8 @@ pub struct Sink {
     pub ports: Ports,
     /// What came of blocks that come again in their epoch.
     pub repeats: Repeats,
+    /// What came of sums.
+    pub sums: Sums,
     /// How many records of each kind were accepted by a read.
     pub records: [u64; 10],
     /// What reads gave by the record's kind.
@@ -61,6 +64,7 @@ impl Sink {
             numbers: Numbers::default(),
             ports: Ports::default(),
             repeats: Repeats::default(),
+            sums: Sums::default(),
             records: [0; 10],
             kinds: Kinds::default(),
             by_count: [0; 3],
@@ -83,6 +87,8 @@ impl Sink {
             let check = check.and_then(|()| self.repeats.check(which, reply.number, &self.before, &self.lent));
             self.end_at_difference(which, check);
         }
+        let check = self.sums.check(which, answer, &self.before, &self.lent, w);
+        self.end_at_difference(which, check);
         self.note_text(which, answer);
         self.note(which, &reply, w, a);
         reply

@@ -27,7 +27,8 @@ impl<'a> View<'a> {
             Item::Primary => &self.primary,
             Item::Standby => &self.standby,
             Item::Marks => &self.w.marks,
-            _ => &self.w.standby_marks,
+            Item::StandbyMarks => &self.w.standby_marks,
+            _ => &self.a.order,
         }
     }
 

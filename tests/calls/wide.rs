@@ -132,6 +132,7 @@ impl Run<'_> {
     fn receive(&mut self, link: &[u8]) -> Check {
         let ack = self.pair.read_all(link)?;
         demand(self.pair.w.standby_memory == self.pair.w.memory, "the standby has not received the memory")?;
+        self.pair.same_sums()?;
         self.acknowledge(ack)
     }
 

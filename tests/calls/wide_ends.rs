@@ -6,7 +6,7 @@
 use crate::arguments::{arguments, fresh_world, start_args};
 use crate::call::call;
 use crate::checker::{compare_answer, compare_item, demand, same_bytes, Check};
-use crate::items::{code, given, Item};
+use crate::items::{calls_of, code, given, Item};
 use crate::lent::Lent;
 use crate::model::*;
 use crate::random::Random;
@@ -176,7 +176,7 @@ fn too_long(r: &Random, sink: &mut Sink, m: u64) -> Check {
     let mut far = Far::new(r, sink, m, LARGEST + 1);
     far.numbered(code::START, &mut start_args(r, settings(m, LARGEST + 1)), 1)?;
     let Settings { u, d, b, q, t, .. } = settings(m, 0);
-    for which in code::MEMORY_WRITE..=code::PRIMARY_TICK {
+    for which in calls_of(Item::Primary) {
         far.w.primary = Primary { u, m, d, b, q, l: LARGEST + 1, t, open: 3, acknowledged: 1, ..Primary::zero() };
         let mut a = arguments(r, which, &far.w, 0);
         far.numbered(which, &mut a, 1)?;

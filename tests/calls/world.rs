@@ -36,12 +36,15 @@ pub struct Args {
     pub port: u64,
     pub data: Vec<u8>,
     pub out: Vec<u8>,
+    /// The pages in the order in which the standby visited them.
+    pub order: Vec<u64>,
 }
 
 impl Args {
     pub fn none() -> Args {
         let settings = Settings::default();
-        Args { settings, cpu: [0; 64], place: 0, offset: 0, n: 0, port: 0, data: Vec::new(), out: Vec::new() }
+        let (data, out, order) = (Vec::new(), Vec::new(), Vec::new());
+        Args { settings, cpu: [0; 64], place: 0, offset: 0, n: 0, port: 0, data, out, order }
     }
 }
 
@@ -72,6 +75,8 @@ pub fn run(which: usize, w: &mut World, a: &mut Args) -> Reply {
         code::ACTIVATION => activate(s, &mut w.area),
         code::STANDBY_MEMORY_WRITE => standby_memory_write(s, &mut w.standby_memory, a.place, a.offset, &a.data),
         code::STANDBY_DISK_WRITE => standby_disk_write(s, &mut w.standby_disk, a.place, &a.data),
+        code::PRIMARY_SUM => primary_sum(p, &w.memory),
+        code::STANDBY_SUM => standby_sum(s, &w.standby_memory, &a.order),
         _ => {
             let (number, chosen) = disk_choice(&w.disk, &w.standby_disk, &w.area);
             a.out = chosen.to_vec();
