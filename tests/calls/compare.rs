@@ -49,6 +49,7 @@ mod same_slot;
 mod silence;
 mod singles;
 mod sink;
+mod sorts;
 mod states;
 mod sum_orders;
 mod sums;

@@ -7,6 +7,7 @@ use crate::kinds::unit_number;
 use crate::lent::Lent;
 use crate::model::{is_commit, MOST_RECORDS};
 use crate::repeat_words::*;
+use crate::sorts::{self, Sorts};
 
 /// Disk writes at a protected primary, by the blocks written in its open epoch before.
 const WRITES: [&str; 8] = [
@@ -154,31 +155,21 @@ impl Repeats {
         taken_over(after)
     }
 
-    fn sorts(&self) -> [(&str, &[&str], &[u64]); 3] {
+    fn sorts(&self) -> [Sorts<'_>; 3] {
         [
-            ("disk writes at a protected primary", &WRITES, &self.writes),
-            ("BLOCKs", &BLOCKS, &self.blocks),
-            ("other calls", &OTHERS, &self.others),
+            ("disk writes at a protected primary, with blocks that come again in their epoch", &WRITES, &self.writes),
+            ("BLOCKs, with blocks that come again in their epoch", &BLOCKS, &self.blocks),
+            ("other calls, with blocks that come again in their epoch", &OTHERS, &self.others),
         ]
     }
 
     pub fn print(&self) {
-        for (name, sorts, counts) in self.sorts() {
-            println!("{name}, with blocks that come again in their epoch:");
-            sorts.iter().zip(counts).for_each(|(sort, count)| println!("  {sort}: {count}"));
-        }
+        sorts::print(&self.sorts());
     }
 
     /// Whether every sort came.
     pub fn all_came(&self) -> bool {
-        let mut all = true;
-        for (name, sorts, counts) in self.sorts() {
-            for (sort, _) in sorts.iter().zip(counts).filter(|one| *one.1 == 0) {
-                println!("never came of {name}: {sort}");
-                all = false;
-            }
-        }
-        all
+        sorts::all_came(&self.sorts())
     }
 }
 

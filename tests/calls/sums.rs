@@ -5,6 +5,7 @@ use crate::call::Answer;
 use crate::checker::{compare_lent, demand, Check};
 use crate::items::{code, Item};
 use crate::lent::Lent;
+use crate::sorts::{self, Sorts};
 use crate::sum_orders::{names_each_once, order_sorts, ORDERS};
 use crate::world::World;
 use std::cmp::Ordering;
@@ -122,7 +123,7 @@ impl Sums {
         Ok(())
     }
 
-    fn sorts(&self) -> [(&str, &[&str], &[u64]); 4] {
+    fn sorts(&self) -> [Sorts<'_>; 4] {
         [
             ("sums at the primary", &BOTH, &self.both[0]),
             ("sums at the standby", &BOTH, &self.both[1]),
@@ -132,22 +133,12 @@ impl Sums {
     }
 
     pub fn print(&self) {
-        for (name, sorts, counts) in self.sorts() {
-            println!("{name}:");
-            sorts.iter().zip(counts).for_each(|(sort, count)| println!("  {sort}: {count}"));
-        }
+        sorts::print(&self.sorts());
     }
 
     /// Whether every sort came.
     pub fn all_came(&self) -> bool {
-        let mut all = true;
-        for (name, sorts, counts) in self.sorts() {
-            for (sort, _) in sorts.iter().zip(counts).filter(|one| *one.1 == 0) {
-                println!("never came of {name}: {sort}");
-                all = false;
-            }
-        }
-        all
+        sorts::all_came(&self.sorts())
     }
 }
 
