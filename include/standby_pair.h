@@ -82,7 +82,8 @@ extern "C" {
 /* The documents' numbers. Every call says below which it gives, in the order of its tests. */
 enum {
     NUMBER_ACCEPTED = 0,
-    NUMBER_OUT_OF_RANGE = 1,    /* a setting, a lent length or a state is out of its range */
+    NUMBER_OUT_OF_RANGE = 1,    /* a setting, a lent length or a state is out of its range, or an
+                                   order of pages does not name each page once */
     NUMBER_NO_SUCH_UNIT = 2,    /* page number not below M, block not below D */
     NUMBER_BAD_SIZE = 3,        /* a memory write empty or past its page, block data not U bytes */
     NUMBER_BAD_PACKET = 4,      /* a packet not of 1 to 1514 bytes */
@@ -368,7 +369,7 @@ uint64_t primary_tick(uint64_t *state, size_t state_len);
 
 /*
  * Sum: each byte of memory * (its address + 1), added modulo 2^32, pages in rising order. When
- * alone too.
+ * alone too. The guest writes no memory during the call.
  * Gives 1. Value: the sum, which may be 0. Changes nothing.
  */
 uint64_t primary_sum(const uint64_t *state, size_t state_len, const uint8_t *memory,
@@ -448,9 +449,10 @@ uint64_t standby_disk_write(uint64_t *state, size_t state_len, uint8_t *pending,
                             const uint8_t *bytes, size_t bytes_len);
 
 /*
- * Sum: the primary's, with the pages added in this order, which names each page once. In any mode.
- * Until the standby is active it is the sum of the last received checkpoint's memory: the primary's
- * sum at that checkpoint, while its guest stands still, is the same.
+ * Sum: as primary_sum, of the standby's memory, with the pages added in this order, which names
+ * each page once. In any mode. Until the standby is active it is the sum of the last received
+ * checkpoint's memory: what primary_sum gives after that checkpoint's call and before the guest's
+ * next memory write.
  * Gives 1, also where order is not of M entries, one of them is M or more, or one comes again.
  * Value: the sum, which is the same in every order. Changes nothing.
  */
@@ -461,13 +463,13 @@ uint64_t standby_sum(const uint64_t *state, size_t state_len, const uint8_t *pen
 /* ---- At either end. ---- */
 
 /*
- * A page's own part of a sum: of pages of u bytes, page p's bytes * (their address in memory + 1),
- * modulo 2^32. The parts of all pages, added modulo 2^32, are the sum; so a sum that was taken
- * before a page was written is made the new one by taking the page's part before the write off and
- * adding the one after it. A host that does so needs no whole sum while its guest stands still.
- * Not a call of an end, and no state is lent.
- * Gives 1: u is not 64 to 4096 or no multiple of 64, memory_len is above 268435456, or page is not
- * below memory_len / u. Value: the part. Changes nothing.
+ * A page's own part of a sum: each byte of this page, of pages of u bytes, * (its address in memory
+ * + 1), added modulo 2^32. The parts of all pages, added modulo 2^32, are the sum. So a sum is kept
+ * up to date by taking a page's part off before the page is written and adding its part after; and
+ * a first sum can be made page by page, the guest writing memory between the calls and not during
+ * one. Not a call of an end: no state is lent.
+ * Gives 1 2. 1: u is not a multiple of 64 from 64 to 4096, or memory_len is not that of 1 to 65536
+ * pages. 2: page is not below memory_len / u. Value: the part. Changes nothing.
  */
 uint64_t pair_page_sum(const uint8_t *memory, size_t memory_len, size_t u, size_t page);
 

@@ -25,7 +25,7 @@ use Rattle.records.proofs.ReadLaws.{ReadRanges, read-ranges, on-ack, found-case
 use Rattle.settings.specs.declared.Settings.{Settings}
 use Rattle.queue.specs.Held.{oldestAt, oldest}
 use Rattle.staging.specs.Slot.{flushCount}
-use Rattle.sums.specs.Sum.{pageSum, sumOver, rising}
+use Rattle.sums.specs.Sum.{sumOver, rising}
 use Rattle.sums.proofs.SumLaws.{sum-low}
 use Rattle.rules.specs.declared.Answer.{Answer}
 use Rattle.rules.specs.declared.Answer.the-variants.{Accepted}

@@ -1,13 +1,14 @@
 -- Start, which makes the words of both states, the disk choice, and a page's part of a sum. Assumes nothing.
-use Prim.Native.Nat.{ℕ, _/_, min}
+use Prim.Native.Nat.{ℕ, _/_, _%_, min}
 use mathlib.Core.Bool.{Bool, _&&_}
 use mathlib.Core.List.{List, [], _∷_}
-use lib.Dec.{leb, ltb, eqb}
+use lib.Dec.{ltb, eqb}
 use lib.ListN.{length, getD}
 use Rattle.lists.specs.Refusal.{Test, test, refusal, pick}
 use Rattle.records.specs.Kind.{unitOk}
-use Rattle.records.specs.Number.{outOfRange}
+use Rattle.records.specs.Number.{outOfRange, noSuchUnit}
 use Rattle.settings.specs.declared.Settings.{Settings}
+use Rattle.settings.specs.Range.{memoryPagesOk}
 use Rattle.sums.specs.Sum.{pageSum}
 use Rattle.rules.specs.declared.Choice.{Choice}
 use Rattle.rules.specs.Choose.{choiceNumber, diskOf}
@@ -69,13 +70,13 @@ lentBuffers memory disk dirty held stream standbyMemory standbyDisk stagedPages 
 abbrev pub choiceWord : Choice → ℕ
 choiceWord c = replyWord (choiceNumber c) (diskOf c)
 
--- ---- a page's own part of a sum, at either end: 1 where u is no page size, or the page is not wholly inside an image
--- of at most 65,536 pages of 4,096 bytes
-abbrev pub mostImage : ℕ
-mostImage = 268435456
-
+-- ---- a page's own part of a sum, at either end. 1: u is no page size, or the image is not of 1 to 65,536 pages; 2: the
+-- page is none of them
 abbrev pub pageSumTests : (u image page : ℕ) → List Test
-pageSumTests u image page = test outOfRange (unitOk u && leb image mostImage && ltb page (image / u)) ∷ []
+pageSumTests u image page =
+    test outOfRange (unitOk u && eqb (image % u) 0 && memoryPagesOk (image / u))
+    ∷ test noSuchUnit (ltb page (image / u))
+    ∷ []
 
 unfoldable pub pageSumRefusal : (u image page : ℕ) → ℕ
 pageSumRefusal u image page = refusal (pageSumTests u image page)

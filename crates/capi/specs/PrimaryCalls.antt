@@ -84,7 +84,7 @@ TakeDone w held port destination answer w′ held′ destination′ =
 abbrev pub PrimaryTickDone : (w : List ℕ) (answer : ℕ) (w′ : List ℕ) → Type 0
 PrimaryTickDone w answer w′ = PrimaryReplied w (primaryTickReply (primaryOf w)) answer w′
 
--- nothing that a sum is lent can change
+-- all is lent to a sum for reading only, so that nothing of it can change
 abbrev pub PrimarySumDone : (w memory : List ℕ) (answer : ℕ) → Type 0
 PrimarySumDone w memory answer =
     let r = primarySumReply (primaryOf w) memory in

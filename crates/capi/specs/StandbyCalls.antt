@@ -88,7 +88,7 @@ ActiveDiskWriteDone w disk block bytes answer w′ disk′ =
     StandbyReplied w (activeDiskWriteReply (standbyIn w) (length disk) block (length bytes)) answer w′
     × StandbyLeaves w (activeDiskWriteDisk (standbyIn w) disk block bytes) disk disk′
 
--- nothing that a sum is lent can change
+-- all is lent to a sum for reading only, so that nothing of it can change
 abbrev pub StandbySumDone : (w : LentStandby) (memory order : List ℕ) (answer : ℕ) → Type 0
 StandbySumDone w memory order answer =
     let r = standbySumReply (standbyIn w) memory order in

@@ -9,7 +9,7 @@ ghost use Rattle.capi.specs.Word.{most32};
 ghost use Rattle.capi.specs.PrimaryWords.{primaryLength};
 ghost use Rattle.capi.specs.StandbyWords.{standbyLength};
 ghost use Rattle.capi.specs.StandbyCalls.{asLent};
-ghost use Rattle.capi.specs.PairCalls.{settingsLength, settingsOf, lentBuffers, StartDone, choiceWord, mostImage, pageSumRefusal, pageSumWord};
+ghost use Rattle.capi.specs.PairCalls.{settingsLength, settingsOf, lentBuffers, StartDone, choiceWord, pageSumRefusal, pageSumWord};
 use crate::primary_words;
 use crate::standby_words;
 use crate::word;
@@ -18,6 +18,7 @@ use ends::start::start;
 use records::number;
 use records::reading::unit_ok;
 use rules::Choice;
+use settings::MOST_PAGES;
 use settings::Settings;
 
 // How many words the settings have: U M D B S Q L T.
@@ -120,21 +121,25 @@ pub extern "C" fn pair_disk_choice(primary: &[u8], standby: &[u8], area: &[u8]) 
     }
 }
 
-// The most bytes of an image: 65,536 pages of 4,096.
-const MOST_IMAGE: usize = 268435456;
-
-// What a page's part of a sum is refused with: 1.
+// What a page's part of a sum is refused with: 1 2.
 fn page_sum_refusal(u: usize, image: usize, page: usize) -> u64
     ensures { λ r. ⌜ r ≡ pageSumRefusal u image page ⌝ }
 {
     if !unit_ok(u) {
         return number::OUT_OF_RANGE;
     }
-    if MOST_IMAGE < image {
+    let m = image / u;
+    if image % u != 0 {
         return number::OUT_OF_RANGE;
     }
-    if image / u <= page {
+    if m < 1 {
         return number::OUT_OF_RANGE;
+    }
+    if MOST_PAGES < m {
+        return number::OUT_OF_RANGE;
+    }
+    if m <= page {
+        return number::NO_SUCH_UNIT;
     }
     0
 }

@@ -1,5 +1,5 @@
--- Laws of the sums: what acceptance says, that the state stays, and that both ends give the sum of the image, the same on
--- equal images. Assumes nothing.
+-- Laws of the sums: what acceptance says, that the state stays, and that both ends give the sum of the image, the same
+-- on equal images. Assumes nothing.
 use mathlib.Core.Path.{_≡_, refl, sym, ap, _∙_}
 use mathlib.Core.Bool.{true, false, _&&_}
 use mathlib.Core.List.{List}

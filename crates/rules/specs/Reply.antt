@@ -1,6 +1,6 @@
 -- The replies of all calls: a refused call leaves the state and every lent buffer as before, and "Every refusal's value
 -- is 0". In the refusals and replies of the calls, what is lent stands for its length; in the definitions of buffers,
--- for its bytes. Assumes nothing.
+-- and in the replies of the sums, whose value is made of them, for its bytes. Assumes nothing.
 use Prim.Native.Nat.{ℕ}
 use mathlib.Core.Path.{_≡_}
 use Rattle.lists.specs.Refusal.{pick}

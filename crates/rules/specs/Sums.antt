@@ -26,7 +26,7 @@ primarySumRefusal p memory = refusal (primarySumTests p memory)
 unfoldable pub primarySumReply : Primary → List ℕ → PrimaryReply
 primarySumReply p memory = primaryReply (primarySumRefusal p (length memory)) p p (sumOver (p .settings .u) memory (rising (p .settings .m)))
 
--- ---- the standby's: 1, and "an order not naming each page once gives 1"
+-- ---- the standby's: 1, and "an order not naming each page once gives 1": it is judged by its entries
 abbrev pub standbySumTests : Standby → ℕ → List ℕ → List Test
 standbySumTests s memory order =
     test outOfRange (standbyOk s && eqb memory (standbyMemoryLength s) && namesEach (s .settings .m) order) ∷ []

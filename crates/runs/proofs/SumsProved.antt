@@ -57,9 +57,9 @@ module _ (g : Settings) (b : Both) (i : Inv g b) where
       record {
         primary = primary-outcome;
         standbyNumber = standby-number;
-        received = λ off order e. standby-value order e
+        untilActive = λ off order e. standby-value order e
             ∙ ap imageSum (t .memoryIs (sym (t .modeIs) ∙ off) ∙ ap (λ (c : Checkpoint). c .memory) (sym (received-is (v .history))));
-        activated = λ on order e. standby-value order e ∙ ap imageSum (t .activeMemory (sym (t .modeIs) ∙ on));
+        onceActive = λ on order e. standby-value order e ∙ ap imageSum (t .activeMemory (sym (t .modeIs) ∙ on));
       }
 
 pub sums-of-images : AfterStart SumsOfImages

@@ -45,10 +45,10 @@ pub record SumsRight (g : Settings) (b : Both) : Type 0 where
   pub standbyNumber : (order : List ℕ) → step (b .world) (call.standbySum order) .outcome .number ≡ cond (namesEach (g .m) order) 0 outOfRange
   -- accepted, it is that of checkpoint r's memory until the standby is active, and then that of its guest's, in
   -- whichever order
-  pub received : active (b .world) ≡ false → (order : List ℕ)
+  pub untilActive : active (b .world) ≡ false → (order : List ℕ)
       → step (b .world) (call.standbySum order) .outcome .number ≡ 0
       → step (b .world) (call.standbySum order) .outcome .value ≡ imageSum (receivedCheckpoint (b .plain) .memory)
-  pub activated : active (b .world) ≡ true → (order : List ℕ)
+  pub onceActive : active (b .world) ≡ true → (order : List ℕ)
       → step (b .world) (call.standbySum order) .outcome .number ≡ 0
       → step (b .world) (call.standbySum order) .outcome .value ≡ imageSum (b .plain .standbyMemory)
 
@@ -109,8 +109,9 @@ module _ (g : Settings) (processor : Processor) (buffers : Buffers) where
       let s = b .world .standby in
       active (b .world) ≡ false → storeAll (g .u) (s .disk) (dueList (g .u) (s .state .slots) (s .stagedBlocks)) ≡ receivedCheckpoint (b .plain) .disk
 
-  -- ---- 7. both ends' sums are those of the plain pair's images, at every cut; so they are equal where checkpoint r's
-  -- memory is the primary's: "On equal images both give the same sum" (document 02, Job 11)
+  -- ---- 7. both ends' sums are those of the plain pair's images, at every cut; so, until the standby is active, they
+  -- are equal where checkpoint r's memory is the primary's: "On equal images both give the same sum" (document 02, Job
+  -- 11)
   abbrev pub SumsOfImages : Type 0
   SumsOfImages = (calls : List Call) (cut : Cut) → SumsRight g (pairAfter (countedCalls cut calls))
 

@@ -1,6 +1,5 @@
 // The sum of the standby's memory (document 02, Job 11).
 ghost use mathlib.Core.Path.{_≡_};
-ghost use lib.ListN.{length};
 ghost use Rattle.rules.specs.Sums.{standbySumRefusal, standbySumReply};
 use crate::ranges::standby_ok;
 use records::number;

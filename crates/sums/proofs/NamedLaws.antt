@@ -1,4 +1,4 @@
--- Laws of the test of an order by marks: entries as many as pages, of which every page is marked, name each page once,
+-- Laws of the test of an order by marks: an order of as many entries as pages, which marks every page, names each once,
 -- and the other way round. Assumes nothing.
 use mathlib.Core.Path.{_≡_, refl, sym, ap, _∙_}
 use mathlib.Core.Bool.{true, false}

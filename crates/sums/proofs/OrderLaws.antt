@@ -1,6 +1,6 @@
 -- Laws of orders: one that names each page once has no other entry, and gives the image's sum. Assumes nothing.
 use mathlib.Core.Path.{_≡_, refl, sym, ap, _∙_}
-use mathlib.Core.Bool.{Bool, true, cond, _&&_}
+use mathlib.Core.Bool.{Bool, true, cond}
 use mathlib.Core.Logic.{⊎-elim}
 use mathlib.Core.List.{List, [], _∷_, _++_}
 use Prim.Native.Nat.{ℕ, zero, suc, _+_, _*_, _%_, _≤_, _<_}
@@ -8,13 +8,13 @@ use native.Mathlib.Nat.{zero-mul, one-mul, mul-one, add-mul, add-mod-mod, le-of-
 use native.Mathlib.Omega.{arith}
 use lib.Arith.{lt-of-le-ne}
 use lib.Dec.{eqb, ltb}
-use lib.ListN.{length, getD}
-use borrow.Author.Tests.{eqb-true, eq-eqb, ltb-true, lt-ltb, le-ltb}
+use lib.ListN.{length, getD, length-append}
+use borrow.Author.Tests.{eqb-true, eq-eqb, ne-eqb, lt-ltb, le-ltb}
 use Rattle.lists.specs.Page.{gather}
-use Rattle.lists.specs.Select.{timesIn}
+use Rattle.lists.specs.Select.{selected, timesIn}
 use Rattle.lists.proofs.TestLaws.{both, join, lt-or-ge, eq-or-ne}
-use Rattle.lists.proofs.PageLaws.{gather-none, gather-more}
-use Rattle.lists.proofs.SelectLaws.{times-none, times-more, times-same}
+use Rattle.lists.proofs.PageLaws.{length-gather}
+use Rattle.lists.proofs.SelectLaws.{selected-more, selected-same, times-none, times-more, times-same}
 use Rattle.sums.specs.Sum.{modulus, imageSum, pageSum, sumOver, rising, eachOnce, namesEach}
 use Rattle.sums.proofs.SumLaws.{sum-none, sum-more, sum-rising}
 
@@ -162,12 +162,41 @@ names-of m order f = join (eqb (length order) m) (eachOnce m order) (eq-eqb _ _ 
 pub names-below : (m : ℕ) (order : List ℕ) → NamesEach m order → AllBelow m order
 names-below m order f = count-below-all m order (omega (arith, count-once m order (f .once), f .count))
 
+-- ---- the rising order is one
+abbrev isPage : ℕ → ℕ → Bool
+isPage p q = eqb q p
+
+rising-length : (m : ℕ) → length (rising m) ≡ m
+rising-length m = length-gather (λ (p : ℕ). p ∷ []) 1 m (λ p low. refl) ∙ mul-one m
+
+rising-high : (m p : ℕ) → m ≤ p → timesIn p (rising m) ≡ 0
+unfolding gather
+rising-high zero p h = times-none p
+rising-high (suc m) p h =
+    ap length (selected-same (isPage p) (rising m) m (ne-eqb m p (λ e. omega arith))) ∙ rising-high m p (omega arith)
+
+rising-once : (m : ℕ) → Once m (rising m)
+unfolding gather
+rising-once zero p low = absurd (omega arith)
+rising-once (suc m) p low =
+    ⊎-elim
+    (λ (is : p ≡ m).
+    let none = rising-high m p (omega arith) in
+    ap length (selected-more (isPage p) (rising m) m (eq-eqb m p (sym is))) ∙ length-append (selected (isPage p) (rising m)) (m ∷ []) ∙ omega arith)
+    (λ (ne : p ≡ m → ⊥).
+    ap length (selected-same (isPage p) (rising m) m (ne-eqb m p (λ e. ne (sym e)))) ∙ rising-once m p (lt-of-le-ne (le-of-suc-le-suc low) ne))
+    (eq-or-ne p m)
+
+-- so that for every m there is an order
+pub rising-names : (m : ℕ) → namesEach m (rising m) ≡ true
+rising-names m = names-of m (rising m) (record { count = rising-length m; once = rising-once m })
+
 -- ---- the sum over an order
 pub sum-all : (u : ℕ) (image order : List ℕ) → sumOver u image order ≡ sumAll (pageSum u image) order % modulus
 sum-all u image [] = sum-none u image
 sum-all u image (p ∷ order) = sum-more u image p order ∙ ap (λ (n : ℕ). (pageSum u image p + n) % modulus) (sum-all u image order) ∙ add-mod-mod _ _ modulus
 
--- "an order" that names each page once gives the image's sum
+-- every order that names each page once gives the image's sum
 pub sum-order : (u m : ℕ) (image order : List ℕ) → length image ≡ m * u → namesEach m order ≡ true → sumOver u image order ≡ imageSum image
 sum-order u m image order whole e =
     let f = names-facts m order e in

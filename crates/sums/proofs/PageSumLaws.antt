@@ -51,7 +51,7 @@ module _ (a : ℕ) (bs : List ℕ) where
         let n : weighted (a + i) (drop i bs) ≡ 0 = rw (e, drop-length) (weighted-none _) in
         omega (arith, h .rest, n)
 
-    -- of addresses below 268,435,456 it fits 64 bits
+    -- of addresses up to 268,435,456 it fits 64 bits
     pub added-fits : length bs ≤ 4096 → a ≤ 268435456 → total * a ≤ 280375465082880
     added-fits few high =
         let t : total ≤ 1044480 = omega (arith, h .total-high, h .inside) in

@@ -38,6 +38,6 @@ abbrev pub eachOnce : ℕ → List ℕ → Bool
 eachOnce zero order = true
 eachOnce (suc m) order = eachOnce m order && eqb (timesIn m order) 1
 
--- "naming each page once": that, and nothing else is in it
+-- "naming each page once": that, and as many entries as pages, so that nothing else is in it
 unfoldable pub namesEach : ℕ → List ℕ → Bool
 namesEach m order = eqb (length order) m && eachOnce m order

@@ -52,8 +52,8 @@ pub fn rising_sum(image: &[u8], u: usize, m: usize) -> u64
     total
 }
 
-// Whether the order names each of m pages once. Entries as many as pages that mark every page name each once; one that
-// is m or more marks none of them.
+// Whether the order names each of m pages once: m entries that mark all m pages do. An entry of m or more marks none of
+// these.
 pub fn names_each(order: &[u64], m: usize) -> bool
     requires { ⌜ m ≤ 65536 ⌝ }
     ensures { λ r. ⌜ r ≡ namesEach m (now (order .entry)) ⌝ }

@@ -1,12 +1,10 @@
--- `sums::names_each` meets its contract.
+-- `sums::names_each` meets its contract. Assumes nothing.
 use Prim.Native.Nat.{ℕ, _-_, _+_}
 use mathlib.Core.Path.{_≡_, sym, subst, _∙_}
 use mathlib.Core.List.{List}
-use native.Mathlib.Omega.{arith}
 use lib.ListN.{length}
 use borrow.Author.Needs.{needs}
 use Rattle.lists.proofs.TestLaws.{refuted}
-use Rattle.sums.specs.Sum.{namesEach}
 use Rattle.sums.proofs.OrderLaws.{names-facts}
 use Rattle.sums.proofs.NamedLaws.{Named, named-none, named-more, named-names, named-not}
 use Rattle.sums.proofs.names_each.Statement.{statement}

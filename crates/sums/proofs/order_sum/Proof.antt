@@ -1,4 +1,4 @@
--- `sums::order_sum` meets its contract.
+-- `sums::order_sum` meets its contract. Assumes nothing.
 use Prim.Native.Nat.{_-_}
 use mathlib.Core.Path.{_≡_}
 use native.Mathlib.Omega.{arith}

@@ -1,4 +1,4 @@
--- `sums::page_sum` meets its contract.
+-- `sums::page_sum` meets its contract. Assumes nothing.
 use mathlib.Core.Path.{_≡_, ap, _∙_}
 use native.Mathlib.Omega.{arith}
 use Prim.Native.Nat.{ℕ, _%_, _*_}

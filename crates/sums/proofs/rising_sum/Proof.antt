@@ -1,9 +1,9 @@
--- `sums::rising_sum` meets its contract. The loop's invariant: the pages below p are added.
-use Prim.Native.Nat.{ℕ, _-_, _≤_, _+_, _%_}
-use mathlib.Core.Path.{_≡_, sym, ap, _∙_}
+-- `sums::rising_sum` meets its contract. The loop's invariant: the pages below p are added. Assumes nothing.
+use Prim.Native.Nat.{_-_, _≤_}
+use mathlib.Core.Path.{_≡_, sym}
 use native.Mathlib.Omega.{arith}
 use borrow.Author.Needs.{needs}
-use Rattle.sums.specs.Sum.{modulus, sumOver, rising}
+use Rattle.sums.specs.Sum.{sumOver, rising}
 use Rattle.sums.proofs.SumLaws.{sum-low, rising-none, rising-more}
 use Rattle.sums.proofs.PageSumLaws.{page-lent}
 use Rattle.sums.proofs.rising_sum.Statement.{statement}

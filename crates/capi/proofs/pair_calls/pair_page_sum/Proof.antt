@@ -5,7 +5,6 @@ use lib.ListN.{length}
 use denote.Ref.{now}
 use borrow.Author.Needs.{needs}
 use Rattle.lists.proofs.TestLaws.{pick-refused}
-use Rattle.records.proofs.KindLaws.{unit-le}
 use Rattle.capi.specs.Word.{replyWord}
 use Rattle.capi.specs.PairCalls.{pageSumRefusal, pageSumWord}
 use Rattle.capi.proofs.PageSumLaws.{page-sum-accepted}
@@ -30,9 +29,7 @@ returns c =
     c .reply-word .ensures ∙ ap (λ (n : ℕ). replyWord n 0) e ∙ ap (replyWord _) (sym (pick-refused _ _ _ (λ z. c .before .if1 .taken (e ∙ z))))
 
 page-sum-requires : tie.Need-page-sum-requires
-page-sum-requires c κs =
-    let f = page-sum-accepted _ _ _ (accepted c) in
-    (unit-le _ (f .size) .1, f .inside, f .few)
+page-sum-requires c κs = page-sum-accepted _ _ _ (accepted c)
 
 reply-word-requires-2 : tie.Need-reply-word-requires-2
 reply-word-requires-2 c κs = search needs
