@@ -3,12 +3,14 @@
  * tests/calls/FORM.md says, and every call once, at settings that are all different, with the words
  * of the states read by their names; the calls that read a record also with its first bytes only,
  * and with the kinds that are for other settings; those that write or read a block also with the
- * same block again, up to what an epoch may have of it.
+ * same block again, up to what an epoch may have of it; the sums in every mode, in many orders, and
+ * with each thing that they refuse.
  *
  * A failing check is printed; the last line is 'N passed, M failed'.
  */
 
 #include <stdio.h>
+#include <stdlib.h>
 #include <string.h>
 
 #include "link.h"
@@ -844,6 +846,370 @@ static uint64_t activate(void)
     return standby_activate(LENT(s.state), s.pending, s.processor, LENT(s.area));
 }
 
+/* ---- Sums: each test leaves both ends as they were. ---- */
+
+#define MODULUS UINT64_C(4294967296)
+
+static uint64_t order[M + 1];
+
+/* Each byte * (its address + 1), of the bytes from one address on and below another. */
+static uint64_t weighted(const uint8_t *image, size_t from, size_t to)
+{
+    uint64_t sum = 0;
+
+    for (size_t address = from; address < to; address++)
+        sum += (uint64_t)image[address] * (address + 1);
+    return sum;
+}
+
+static uint32_t sum_of(const uint8_t memory[M * U])
+{
+    return (uint32_t)(weighted(memory, 0, M * U) % MODULUS);
+}
+
+/* Bytes that differ in a page and from page to page, the same at both ends. */
+static void fill_memories(void)
+{
+    for (size_t i = 0; i < M * U; i++)
+        p.memory[i] = s.memory[i] = (uint8_t)(i * 37 + i / U);
+}
+
+/* Each page once, where step and M have no common factor: M - 1 is the falling order. */
+static void set_order(size_t first_page, size_t step)
+{
+    for (size_t i = 0; i < M; i++)
+        order[i] = (first_page + i * step) % M;
+}
+
+/* The answer of a sum: it uses no bytes of a link. */
+static void check_sum(const char *what, uint64_t answer, unsigned number, uint32_t value)
+{
+    check_answer(what, answer, number, value);
+    check(what, answer_used(answer), 0);
+}
+
+/* A sum of so many words and bytes. It changes nothing. */
+static void primary_gives(const char *what, size_t words, size_t length, unsigned number,
+                          uint32_t value)
+{
+    static uint8_t before[sizeof p];
+
+    memcpy(before, &p, sizeof p);
+    check_sum(what, primary_sum(p.state, words, p.memory, length), number, value);
+    CHECK(memcmp(before, &p, sizeof p) == 0, 1);
+}
+
+/* The same at the standby, in an order of so many entries. */
+static void standby_gives(const char *what, size_t words, size_t length, size_t entries,
+                          unsigned number, uint32_t value)
+{
+    static uint8_t before[sizeof s];
+    static uint64_t order_before[M + 1];
+
+    memcpy(before, &s, sizeof s);
+    memcpy(order_before, order, sizeof order);
+    check_sum(what, standby_sum(s.state, words, s.pending, s.processor, s.memory, length, order,
+              entries), number, value);
+    CHECK(memcmp(before, &s, sizeof s) == 0, 1);
+    CHECK(memcmp(order_before, order, sizeof order) == 0, 1);
+}
+
+static void sum_at_primary(const char *what, uint32_t value)
+{
+    primary_gives(what, PRIMARY_WORDS, M * U, 0, value);
+}
+
+static void sum_at_standby(const char *what, uint32_t value)
+{
+    standby_gives(what, STANDBY_WORDS, M * U, M, 0, value);
+}
+
+/* Both ends give the same for the same memory, the standby in every order. */
+static void sums_in_many_orders(void)
+{
+    static const size_t steps[] = {1, M - 1, 3, 9, 33};
+
+    CHECK(weighted(p.memory, 0, M * U) > MODULUS, 1);
+    sum_at_primary("a sum", sum_of(p.memory));
+    for (size_t i = 0; i < sizeof steps / sizeof steps[0]; i++)
+        for (size_t page = 0; page < M; page++) {
+            set_order(page, steps[i]);
+            sum_at_standby("a sum in an order", sum_of(p.memory));
+        }
+}
+
+/* Memory that is all zero, or all zero but for one byte of 1, or all 255. */
+static void sums_of_plain_memories(void)
+{
+    static const size_t addresses[] = {0, 1, U - 1, U, 2 * U, M * U - 1};
+
+    memset(p.memory, 0, sizeof p.memory);
+    memset(s.memory, 0, sizeof s.memory);
+    sum_at_primary("a sum of zeros", 0);
+    sum_at_standby("a sum of zeros", 0);
+    for (size_t i = 0; i < sizeof addresses / sizeof addresses[0]; i++) {
+        p.memory[addresses[i]] = s.memory[addresses[i]] = 1;
+        sum_at_primary("a sum of one byte", (uint32_t)addresses[i] + 1);
+        sum_at_standby("a sum of one byte", (uint32_t)addresses[i] + 1);
+        p.memory[addresses[i]] = s.memory[addresses[i]] = 0;
+    }
+    memset(p.memory, 255, sizeof p.memory);
+    memset(s.memory, 255, sizeof s.memory);
+    sum_at_primary("a sum of bytes 255", sum_of(p.memory));
+    sum_at_standby("a sum of bytes 255", sum_of(p.memory));
+}
+
+static void refused_order(const char *what, size_t entries)
+{
+    standby_gives(what, STANDBY_WORDS, M * U, entries, NUMBER_OUT_OF_RANGE, 0);
+}
+
+/* The falling order with one entry that is another: also one that a narrower type would cut. */
+static void wrong_entries(void)
+{
+    for (size_t i = 0; i < M; i++) {
+        const uint64_t page = M - 1 - i;
+        const uint64_t entries[] = {(page + 1) % M, (page + M - 1) % M, M, page + M,
+                                    page + 65536, page + MODULUS, page + (UINT64_C(1) << 63),
+                                    UINT64_MAX};
+        for (size_t j = 0; j < sizeof entries / sizeof entries[0]; j++) {
+            set_order(M - 1, M - 1);
+            order[i] = entries[j];
+            refused_order("an order with a wrong entry", M);
+        }
+    }
+}
+
+/* Orders of another length, also where each page is named; and one page again and again. */
+static void wrong_orders(void)
+{
+    set_order(0, 1);
+    refused_order("an order one short", M - 1);
+    refused_order("an order of no entry", 0);
+    order[M] = 0;
+    refused_order("an order one long", M + 1);
+    order[M] = M;
+    refused_order("an order one long", M + 1);
+    for (uint64_t page = 0; page < M; page++) {
+        for (size_t i = 0; i <= M; i++)
+            order[i] = page;
+        refused_order("an order of one page", M);
+        refused_order("an order of one page", 1);
+    }
+}
+
+/* A memory with a length that is not M * U. The byte behind it is one of the same end. */
+static void wrong_memories(void)
+{
+    static const size_t lengths[] = {0, U, (M - 1) * U, M * U - 1, M * U + 1};
+
+    set_order(0, 1);
+    for (size_t i = 0; i < sizeof lengths / sizeof lengths[0]; i++) {
+        primary_gives("a wrong memory", PRIMARY_WORDS, lengths[i], NUMBER_OUT_OF_RANGE, 0);
+        standby_gives("a wrong memory", STANDBY_WORDS, lengths[i], M, NUMBER_OUT_OF_RANGE, 0);
+    }
+}
+
+static void no_sum_at_primary(size_t at, uint64_t word)
+{
+    uint64_t before = p.state[at];
+
+    p.state[at] = word;
+    primary_gives("a sum of no state", PRIMARY_WORDS, M * U, NUMBER_OUT_OF_RANGE, 0);
+    p.state[at] = before;
+}
+
+static void no_sum_at_standby(size_t at, uint64_t word)
+{
+    uint64_t before = s.state[at];
+
+    s.state[at] = word;
+    standby_gives("a sum of no state", STANDBY_WORDS, M * U, M, NUMBER_OUT_OF_RANGE, 0);
+    s.state[at] = before;
+}
+
+/* Words that are no state, and states out of their range. */
+static void sums_of_no_state(void)
+{
+    set_order(0, 1);
+    primary_gives("a sum of 271 words", 271, M * U, NUMBER_OUT_OF_RANGE, 0);
+    standby_gives("a sum of 79 words", 79, M * U, M, NUMBER_OUT_OF_RANGE, 0);
+    no_sum_at_primary(PRIMARY_ALONE, 2);
+    no_sum_at_primary(PRIMARY_T, MODULUS + T);
+    no_sum_at_primary(PRIMARY_EPOCH, MODULUS + 1);
+    no_sum_at_primary(PRIMARY_EPOCH, 0);
+    no_sum_at_primary(PRIMARY_U, U + 1);
+    no_sum_at_primary(PRIMARY_M, 0);
+    no_sum_at_primary(PRIMARY_M, MODULUS + M);
+    no_sum_at_standby(STANDBY_MODE, 3);
+    no_sum_at_standby(STANDBY_STATE_SEEN, 2);
+    no_sum_at_standby(STANDBY_T, MODULUS + T);
+    no_sum_at_standby(STANDBY_RECEIVED, MODULUS);
+    no_sum_at_standby(STANDBY_U, U + 1);
+    no_sum_at_standby(STANDBY_M, 0);
+    no_sum_at_standby(STANDBY_M, MODULUS + M);
+}
+
+static uint64_t checkpoint_primary(void)
+{
+    return primary_checkpoint(LENT(p.state), LENT(p.memory), LENT(p.dirty), LENT(p.stream), first);
+}
+
+static uint64_t write_page(size_t page, uint8_t byte)
+{
+    uint8_t page_bytes[U];
+
+    memset(page_bytes, byte, sizeof page_bytes);
+    return primary_memory_write(LENT(p.state), LENT(p.memory), LENT(p.dirty), page, 0,
+                                LENT(page_bytes));
+}
+
+/* A drill: the standby has the checkpoint's sum from its COMMIT on, though the guest goes on. */
+static void sums_of_a_checkpoint(void)
+{
+    const uint32_t sum0 = sum_of(p.memory);
+    uint32_t sum1;
+
+    set_order(M - 1, M - 1);
+    check_answer("memory write", write_page(65, 200), 0, 1);
+    sum1 = sum_of(p.memory);
+    sum_at_primary("a sum in the epoch", sum1);
+    check_answer("checkpoint", checkpoint_primary(), 0, 1);
+    sum_at_primary("a sum at the checkpoint", sum1);
+    check_answer("memory write", write_page(66, 201), 0, 2);
+    primary_drain(LENT(p.state), LENT(p.stream), L, LENT(link_bytes));
+    check_answer("PAGE", read_at(0, U + 10), 0, RECORD_PAGE);
+    sum_at_standby("a sum after the PAGE", sum0);
+    check_answer("STATE", read_at(U + 10, STATE_RECORD), 0, RECORD_STATE);
+    sum_at_standby("a sum after the STATE", sum0);
+    check_answer("COMMIT", read_at(U + 10 + STATE_RECORD, COMMIT_RECORD), 0,
+                 RECORD_COMMIT);
+    sum_at_standby("a sum after the COMMIT", sum1);
+    CHECK(sum0 != sum1 && sum1 != sum_of(p.memory), 1);
+    sum_at_primary("a sum in the next epoch", sum_of(p.memory));
+}
+
+/* A primary that is alone, and a standby that takes over and is active. */
+static void sums_in_every_mode(void)
+{
+    check_answer("checkpoint", checkpoint_primary(), 0, 2);
+    for (unsigned i = 1; i <= T; i++) {
+        CHECK(p.state[PRIMARY_ALONE], 0);
+        CHECK(s.state[STANDBY_MODE], MODE_RECEIVING);
+        check_answer("tick", primary_tick(LENT(p.state)), 0, 0);
+        check_answer("tick", tick_standby(), 0, 0);
+    }
+    CHECK(p.state[PRIMARY_ALONE], 1);
+    sum_at_primary("a sum when alone", sum_of(p.memory));
+    CHECK(s.state[STANDBY_MODE], MODE_TAKING_OVER);
+    sum_at_standby("a sum when taking over", sum_of(s.memory));
+    check_answer("activation", activate(), 0, 1);
+    CHECK(s.state[STANDBY_MODE], MODE_ACTIVE);
+    sum_at_standby("a sum when active", sum_of(s.memory));
+    check_answer("memory write", standby_memory_write(LENT(s.state), s.pending, s.processor,
+                 LENT(s.memory), 3, 1, bytes, 5), 0, 1);
+    sum_at_standby("a sum after a write", sum_of(s.memory));
+}
+
+static void page_gives(const uint8_t *image, size_t length, size_t u, size_t page, unsigned number)
+{
+    uint64_t part = number == 0 ? weighted(image, page * u, page * u + u) % MODULUS : 0;
+
+    check_sum("a page's part", pair_page_sum(image, length, u, page), number, (uint32_t)part);
+}
+
+/* The parts of all pages add up to the sum, whatever the pages' size. */
+static void parts_of_a_sum(size_t u)
+{
+    static uint8_t before[M * U];
+    uint32_t sum = 0;
+
+    memcpy(before, p.memory, sizeof before);
+    for (size_t page = 0; page < M * U / u; page++) {
+        page_gives(p.memory, M * U, u, page, 0);
+        sum += answer_value(pair_page_sum(LENT(p.memory), u, page));
+    }
+    CHECK(sum, sum_of(p.memory));
+    CHECK(memcmp(before, p.memory, sizeof before) == 0, 1);
+}
+
+/* A page that is replaced changes the sum by the difference of its part, also downwards. */
+static void replaced_pages(void)
+{
+    for (size_t i = 0; i < 2 * M; i++) {
+        size_t page = i * 33 % M;
+        uint32_t sum = answer_value(primary_sum(LENT(p.state), LENT(p.memory)));
+
+        sum -= answer_value(pair_page_sum(LENT(p.memory), U, page));
+        check_answer("memory write", write_page(page, i < M ? 255 : (uint8_t)i), 0, 1);
+        sum += answer_value(pair_page_sum(LENT(p.memory), U, page));
+        sum_at_primary("a sum with a page replaced", sum);
+        CHECK(sum, sum_of(p.memory));
+    }
+}
+
+/* The numbers are compared whole; page 2^57 of 128 bytes would begin at address 2^64. */
+static void refused_parts(void)
+{
+    static const size_t units[] = {0, 1, 63, 65, 96, 127, 4095, 4097, 4096 + 64,
+                                   (size_t)MODULUS + U, SIZE_MAX - 63, SIZE_MAX};
+    static const size_t pages[] = {M, M + 1, (size_t)MODULUS, (size_t)1 << 57, SIZE_MAX};
+
+    for (size_t i = 0; i < sizeof units / sizeof units[0]; i++)
+        page_gives(p.memory, M * U, units[i], 0, NUMBER_OUT_OF_RANGE);
+    for (size_t i = 0; i < sizeof pages / sizeof pages[0]; i++)
+        page_gives(p.memory, M * U, U, pages[i], NUMBER_NO_SUCH_UNIT);
+    page_gives(p.memory, M * U - 1, U, 0, NUMBER_OUT_OF_RANGE); /* 1 before 2 */
+    page_gives(p.memory, M * U - 1, U, M, NUMBER_OUT_OF_RANGE);
+    page_gives(p.memory, U - 1, U, 0, NUMBER_OUT_OF_RANGE);
+    page_gives(p.memory, U, U, 0, 0);
+    page_gives(p.memory, U, U, 1, NUMBER_NO_SUCH_UNIT);
+    page_gives(p.memory, 0, U, 0, NUMBER_OUT_OF_RANGE);
+}
+
+/* The largest memory, of which only the last page is written, and one page more. */
+static void parts_of_the_largest_memory(void)
+{
+    enum { MOST = 65536 * 4096 };
+    uint8_t *image = (uint8_t *)calloc(MOST + 4096, 1);
+
+    CHECK(image != NULL, 1);
+    if (image == NULL)
+        return;
+    memset(image + MOST - 4096, 255, 4096);
+    page_gives(image, MOST, 4096, 65535, 0);
+    page_gives(image, MOST, 4096, 0, 0);
+    page_gives(image, MOST, 4096, 65536, NUMBER_NO_SUCH_UNIT);
+    page_gives(image, MOST + 1, 4096, 65535, NUMBER_OUT_OF_RANGE);
+    page_gives(image, MOST + 4096, 4096, 0, NUMBER_OUT_OF_RANGE);
+    page_gives(image, 65536 * 64, 64, 65535, 0);
+    page_gives(image, 65536 * 64, 64, 65536, NUMBER_NO_SUCH_UNIT);
+    page_gives(image, 65537 * 64, 64, 0, NUMBER_OUT_OF_RANGE);
+    free(image);
+}
+
+static void sums(void)
+{
+    keep_ends();
+    fill_memories();
+    sums_in_many_orders();
+    wrong_entries();
+    wrong_orders();
+    wrong_memories();
+    sums_of_no_state();
+    parts_of_a_sum(U);
+    parts_of_a_sum(64);
+    parts_of_a_sum(64 * 7);
+    refused_parts();
+    parts_of_the_largest_memory();
+    sums_of_a_checkpoint();
+    sums_in_every_mode();
+    put_ends_back();
+    sums_of_plain_memories();
+    replaced_pages();
+    put_ends_back();
+}
+
 static void takeover(void)
 {
     static const uint8_t activation1[] = {4, 0, 6, 0, 1, 0, 0, 0};
@@ -963,6 +1329,7 @@ int main(void)
     refused_starts();
     accepted_start();
     same_block_again();
+    sums();
     first_epoch();
     received_by_missing();
     records();
