@@ -4,6 +4,9 @@
  * run_primary is the primary's box: a guest writes its memory and disk and sends packets (guest.h),
  * and checkpoints are made by the box's own clock. run_standby is the standby's box. The program
  * that starts the two, kills the primary and compares what the standby took over is trial.c.
+ *
+ * Each box has a sum of its memory for drills (daemon.h): the primary's is kept up to date at every
+ * checkpoint, page by page, and the standby's is taken of the whole memory, where no guest runs.
  */
 
 #include "daemon.h"
@@ -34,6 +37,14 @@ uint32_t accepted(uint64_t answer, const char *call)
     return answer_value(answer);
 }
 
+/* The whole sum once, while no guest runs yet. */
+static void start_sum(struct primary *p)
+{
+    p->sum = accepted(primary_sum(LENT(p->state), LENT(p->memory)), "sum");
+    for (size_t page = 0; page < M; page++)
+        p->parts[page] = accepted(pair_page_sum(LENT(p->memory), U, page), "page sum");
+}
+
 void start_pair(struct primary *p, struct standby *s)
 {
     static const uint64_t settings[SETTINGS_WORDS] = {U, M, D, B, S, Q, L, T};
@@ -46,6 +57,7 @@ void start_pair(struct primary *p, struct standby *s)
                         LENT(s->staged_pages), LENT(s->staged_marks), LENT(s->staged_blocks),
                         LENT(s->area), LENT(p->state), LENT(s->state), s->pending, s->processor),
              "start");
+    start_sum(p);
 }
 
 /* ---- The primary's box. ---- */
@@ -85,6 +97,21 @@ static void run_guest(struct primary *p)
 }
 
 /*
+ * Makes the sum that of memory now: only the parts of the dirty pages are taken, since the guest
+ * stands still meanwhile. A page's old bytes are gone, so its old part was kept. Made again while
+ * the guest waits, it changes nothing.
+ */
+static void update_sum(struct primary *p)
+{
+    for (size_t page = 0; page < M; page++)
+        if (p->dirty[page / 64] >> page % 64 & 1) {
+            uint32_t part = accepted(pair_page_sum(LENT(p->memory), U, page), "page sum");
+            p->sum += part - p->parts[page]; /* modulo 2^32 */
+            p->parts[page] = part;
+        }
+}
+
+/*
  * Where the stream lacks the space, the guest waits until a later call finds it: else the guest
  * could take it with a block that it writes again and again, to which B sets no limit.
  */
@@ -94,12 +121,13 @@ static void make_checkpoint(struct primary *p)
     uint64_t answer;
 
     processor_after(p->steps, processor);
+    update_sum(p); /* first, since the call clears the marks */
     trial_checkpoint(p->state[PRIMARY_EPOCH], p->steps);
     answer = primary_checkpoint(LENT(p->state), LENT(p->memory), LENT(p->dirty), LENT(p->stream),
                                 processor);
     p->guest_waits = answer_number(answer) == NUMBER_STREAM_FULL;
-    if (!p->guest_waits)
-        accepted(answer, "checkpoint");
+    if (!p->guest_waits && accepted(answer, "checkpoint") % DRILL_EPOCHS == 0)
+        trial_primary_sum(p, answer_value(answer));
 }
 
 static void send_stream(struct primary *p)
@@ -227,9 +255,9 @@ static int has_ack_space(const struct connection *k)
 
 /*
  * Reads up to a COMMIT at most, MOST_RECORDS + M + 2 records: then its ACK is sent, and flushes and
- * ticks have their turn, however fast records come.
+ * ticks have their turn, however fast records come. Returns whether it has read a COMMIT.
  */
-static void read_records(struct standby *s)
+static int read_records(struct standby *s)
 {
     struct connection *k = &s->link;
     int committed = 0;
@@ -238,7 +266,7 @@ static void read_records(struct standby *s)
         uint64_t answer = read_record(s);
         if (answer_number(answer) != NUMBER_ACCEPTED) {
             drop(k);
-            return;
+            return 0;
         }
         k->in_length = 0; /* the record was all that had come */
         committed = record_is_commit(answer_value(answer));
@@ -246,6 +274,19 @@ static void read_records(struct standby *s)
             k->out_length += ACK_RECORD;
         trial_record(s, answer_value(answer));
     }
+    return committed;
+}
+
+/*
+ * The whole sum of the checkpoint that was received last: no guest waits for it here. The order is
+ * the standby's own, here the last page first; any that names each page once gives the same sum.
+ */
+static void take_sum(struct standby *s)
+{
+    for (size_t i = 0; i < M; i++)
+        s->order[i] = M - 1 - i;
+    trial_standby_sum(s, accepted(standby_sum(LENT(s->state), s->pending, s->processor,
+                                              LENT(s->memory), LENT(s->order)), "sum"));
 }
 
 /* Whatever made it silent: the primary must not run any more once the standby is active. */
@@ -267,7 +308,10 @@ uint32_t run_standby(struct standby *s)
         int64_t tick_ms = s->link.fd >= 0 ? STANDBY_TICK_MS : LINK_DOWN_TICK_MS;
         wait_until(tick + tick_ms, &s->link, NULL, 0);
         transmit(&s->link); /* first: a record is left unread until there is space for its ACK */
-        read_records(s);
+        if (read_records(s) && s->state[STANDBY_RECEIVED] % DRILL_EPOCHS == 0) {
+            transmit(&s->link); /* the ACK before the sum: the guest's packets wait for it */
+            take_sum(s);
+        }
         if (is_due(&disk, FLUSH_MS))
             flush(s, 1);
         if (is_due(&tick, tick_ms))

@@ -24,6 +24,12 @@ enum { L = LEAST_L > 65536 ? LEAST_L : 65536 };
 
 enum { PORTS = MOST_PORT + 1 };
 
+/*
+ * A drill is made at each checkpoint whose epoch is a multiple of this: the sums of the two
+ * memories are compared. Both boxes know these epochs, so nothing about a drill is on the link.
+ */
+enum { DRILL_EPOCHS = 4 };
+
 /* A network card, by which the packets of one port leave. Each has a cable of its own. */
 struct card {
     int cable;                         /* a socket of packets */
@@ -36,6 +42,7 @@ struct primary {
     uint8_t memory[M * U], disk[D * U], held[Q], stream[L];
     struct connection link;
     struct card cards[PORTS]; /* by port */
+    uint32_t sum, parts[M]; /* of memory at the last checkpoint, and each page's part of it */
     uint64_t steps;  /* that the guest has made */
     int guest_waits; /* for a checkpoint that the stream has no space for yet */
 };
@@ -45,6 +52,7 @@ struct standby {
     uint8_t pending[PROCESSOR_BYTES], processor[PROCESSOR_BYTES];
     uint8_t memory[M * U], disk[D * U], staged_pages[M * U], staged_blocks[S * U];
     uint8_t area[AREA_BYTES];
+    uint64_t order[M]; /* of the pages in a sum */
     struct connection link;
 };
 

@@ -73,6 +73,18 @@ void images_after(uint64_t n, uint8_t memory[M * U], uint8_t disk[D * U])
     }
 }
 
+/* Each byte * (its address + 1), added modulo 2^32. */
+uint32_t sum_after(uint64_t n)
+{
+    static uint8_t memory[M * U], disk[D * U];
+    uint32_t sum = 0;
+
+    images_after(n, memory, disk);
+    for (uint32_t address = 0; address < M * U; address++)
+        sum += memory[address] * (address + 1);
+    return sum;
+}
+
 static int equal(const char *what, const uint8_t *is, const uint8_t *wanted, size_t length)
 {
     for (size_t i = 0; i < length; i++)

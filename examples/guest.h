@@ -39,6 +39,9 @@ uint64_t steps_of(const uint8_t processor[PROCESSOR_BYTES]);
 /* Its memory and disk after n steps, by plain copies. */
 void images_after(uint64_t n, uint8_t memory[M * U], uint8_t disk[D * U]);
 
+/* The sum of its memory after n steps, by document 02's words. */
+uint32_t sum_after(uint64_t n);
+
 /* Whether these are what the guest has after n steps. A difference is printed. */
 int images_equal(uint64_t n, const uint8_t memory[M * U], const uint8_t disk[D * U]);
 int processor_equal(uint64_t n, const uint8_t processor[PROCESSOR_BYTES]);

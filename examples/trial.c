@@ -7,13 +7,15 @@
  * checkpoint. Every packet that had left, by the cable of its port, must have been sent before that
  * checkpoint. No record may have been tested before the bytes had come that were missing at its
  * last test, and every PAGE and COMMIT must have been of the width that the guest's pages call for.
- * A block that the guest wrote again and again in an epoch must have been stored once for it.
+ * A block that the guest wrote again and again in an epoch must have been stored once for it. At
+ * every drill the sums of the primary's, the standby's and the guest's memory must be equal.
  *
  *     daemon N           kills the primary after the standby has read N records
  *     daemon N KIND      the same after N records of a KIND: page, block, state or commit
  *     daemon N stop      stops it after N records: the link stays open, and nothing more comes
  *     daemon random      kills it after a random number of records
  *     daemon .. pieces   any of these, and both ends send a few bytes at a time
+ *     daemon .. damaged  any of these, and the first drill finds a wrong byte at the standby
  *
  * Exit status: 0 all is equal, 1 something differs, was tested too early, is of the wrong width or
  * was stored too often, 2 the program could not do its work.
@@ -51,6 +53,7 @@ enum {
 static unsigned place, place_kind;
 static int place_signal = SIGKILL;
 static size_t most_moved; /* at a time, 0 is any number */
+static int damaged;       /* whether the first drill is to find a wrong byte */
 
 /* How often records were tested: all together, the one under way, and the one tested most. */
 struct tests {
@@ -70,9 +73,16 @@ static struct {
     unsigned stored;    /* blocks that flush has stored */
 } blocks;
 
+/* Drills: all of them, and those that found a difference. */
+static struct {
+    unsigned all, different;
+} drills;
+
 /* What the children tell the parent. */
 static struct {
     uint64_t steps_at[EPOCHS_KEPT]; /* the guest's at each checkpoint */
+    uint32_t sum_at[EPOCHS_KEPT];   /* the primary's at each drill, kept up to date by pages */
+    uint32_t whole_at[EPOCHS_KEPT]; /* and taken of the whole memory */
     uint64_t packet_steps[PORTS];   /* its steps up to the last packet that left by each port */
     unsigned packets[PORTS];
     struct tests ack_tests;         /* at the primary, where each is a call of an end */
@@ -85,6 +95,10 @@ static int read_place(int argc, char **argv)
     unsigned long number;
     char *end;
 
+    if (argc > 2 && strcmp(argv[argc - 1], "damaged") == 0) {
+        damaged = 1;
+        argc--;
+    }
     if (argc > 2 && strcmp(argv[argc - 1], "pieces") == 0) {
         most_moved = PIECE;
         argc--;
@@ -277,6 +291,13 @@ static void count_received_blocks(uint64_t epoch)
     blocks.different += different_blocks(steps_at(epoch - 1), steps_at(epoch));
 }
 
+/* Makes a byte wrong for the first drill, and right again after it: only the drill can tell. */
+static void damage(struct standby *s)
+{
+    if (damaged && s->state[STANDBY_RECEIVED] == DRILL_EPOCHS)
+        s->memory[M * U - 1] ^= 1;
+}
+
 void trial_record(struct standby *s, unsigned kind)
 {
     records[0]++;
@@ -286,8 +307,10 @@ void trial_record(struct standby *s, unsigned kind)
     tests.now = 0;
     if (kind == RECORD_BLOCK)
         blocks.now++;
-    if (record_is_commit(kind))
+    if (record_is_commit(kind)) {
         count_received_blocks(s->state[STANDBY_RECEIVED]);
+        damage(s);
+    }
     if (!lost && records[place_kind] == place)
         lose_primary(s);
 }
@@ -295,6 +318,30 @@ void trial_record(struct standby *s, unsigned kind)
 void trial_flush(uint32_t stored)
 {
     blocks.stored += stored;
+}
+
+/* The guest waits for the whole sum here, and for the trial's sake alone. */
+void trial_primary_sum(const struct primary *p, uint32_t epoch)
+{
+    shared->sum_at[epoch % EPOCHS_KEPT] = p->sum;
+    shared->whole_at[epoch % EPOCHS_KEPT] =
+        accepted(primary_sum(LENT(p->state), LENT(p->memory)), "sum");
+}
+
+void trial_standby_sum(struct standby *s, uint32_t sum)
+{
+    uint32_t epoch = (uint32_t)s->state[STANDBY_RECEIVED];
+    uint32_t kept = shared->sum_at[epoch % EPOCHS_KEPT];
+    uint32_t whole = shared->whole_at[epoch % EPOCHS_KEPT];
+    uint32_t guests = sum_after(steps_at(epoch));
+
+    printf("drill: checkpoint %u: sum %u at the primary, %u at the standby: %s\n", epoch, kept, sum,
+           kept == sum ? "equal" : "different");
+    if (whole != kept || guests != kept)
+        printf("the primary's whole memory has the sum %u, the guest's %u\n", whole, guests);
+    drills.all++;
+    drills.different += sum != kept || whole != kept || guests != kept;
+    damage(s);
 }
 
 void shut_off_primary(void)
@@ -363,6 +410,15 @@ static int slots_reused(void)
     return 1;
 }
 
+/* Whether all drills were made that the received checkpoints call for, and all sums are equal. */
+static int drills_equal(void)
+{
+    if (drills.all == records[RECORD_COMMIT] / DRILL_EPOCHS && drills.different == 0)
+        return 1;
+    printf("%u drills, and %u of them found a difference\n", drills.all, drills.different);
+    return 0;
+}
+
 /* The guest goes on from the processor state taken over; nothing holds its packets any more. */
 static uint64_t run_guest_at_standby(struct standby *s)
 {
@@ -389,8 +445,8 @@ int main(int argc, char **argv)
     uint32_t epoch;
 
     if (!read_place(argc, argv)) {
-        fprintf(stderr, "usage: daemon N [page | block | state | commit | stop] [pieces], "
-                        "daemon random [pieces]\n");
+        fprintf(stderr, "usage: daemon N [page | block | state | commit | stop] [pieces] "
+                        "[damaged], daemon random [pieces] [damaged]\n");
         return 2;
     }
     start_pair(&primary, &standby);
@@ -405,7 +461,7 @@ int main(int argc, char **argv)
            blocks.received, blocks.most, blocks.stored);
     if (end_of(network_process) != 0 || !has_checkpoint(&primary, &standby, epoch) ||
         !few_tests("record", &tests) || !few_tests("ACK", &shared->ack_tests) || !right_width() ||
-        !slots_reused() ||
+        !slots_reused() || !drills_equal() ||
         !images_equal(run_guest_at_standby(&standby), standby.memory, standby.disk))
         return 1;
     printf("took over checkpoint %u: memory, disk and processor state equal; "

@@ -1,6 +1,6 @@
 /*
- * What daemon.c calls of its trial. A daemon has no use for these, but for the last, in place of
- * which it has a power switch or the like.
+ * What daemon.c calls of its trial. A daemon has no use for these, but for the last three: it logs
+ * the sums of a drill for comparison, and it has a power switch or the like.
  */
 
 #ifndef TRIAL_H
@@ -24,6 +24,12 @@ void trial_record(struct standby *s, unsigned kind);
 
 /* The standby has stored so many blocks. */
 void trial_flush(uint32_t stored);
+
+/* A drill: the primary has made this checkpoint, and its sum is that of the checkpoint's memory. */
+void trial_primary_sum(const struct primary *p, uint32_t epoch);
+
+/* The standby has taken this sum of the last received checkpoint's memory. */
+void trial_standby_sum(struct standby *s, uint32_t sum);
 
 /* Returns once the primary does not run any more. */
 void shut_off_primary(void);
