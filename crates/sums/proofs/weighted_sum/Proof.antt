@@ -36,6 +36,9 @@ add-total c =
     let byte = c .shared-slice-known .given (c .before .before .loop .i) .fits in
     record { fits = omega (arith, at .inv .total-high, at .inv .inside, s .pre .0) }
 
+cast-placed : tie.Need-cast-placed Inv-loop μ-loop
+cast-placed c = record { fits = omega (arith, c .before .before .before .pre .0, c .before .loop-test .taken) }
+
 mul-placed : tie.Need-mul-placed Inv-loop μ-loop
 mul-placed c =
     let s = c .before .before .before in
@@ -62,6 +65,12 @@ loop-again c =
     let at = c .before .before .loop in
     let byte = c .shared-slice-known .given (c .before .before .loop .i) .fits in
     added-more (a .a) (a .bytes .now) (at .total) (at .placed) (at .i) (at .inv) (c .before .loop-test .taken) (s .pre .0) byte
+
+cast-result : tie.Need-cast-result Inv-loop μ-loop
+cast-result c = search needs
+
+cast-result-2 : tie.Need-cast-result-2 Inv-loop μ-loop
+cast-result-2 c = search needs
 
 mul-result : tie.Need-mul-result Inv-loop μ-loop
 mul-result c =
@@ -95,10 +104,13 @@ weighted-sum-spec =
     cast-b
     add-i
     add-total
+    cast-placed
     mul-placed
     add-placed
     loop-less
     loop-again
+    cast-result
+    cast-result-2
     mul-result
     add-result
     returns)
