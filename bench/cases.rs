@@ -8,6 +8,8 @@ mod mark;
 mod primary;
 #[path = "standby_cases.rs"]
 mod standby;
+#[path = "sum_cases.rs"]
+mod sum;
 #[path = "tick_cases.rs"]
 mod tick;
 
@@ -17,6 +19,7 @@ use block::{BlockReads, Blocks, DiskWrites};
 use mark::Marks;
 use primary::{Checkpoint, Drain, Packets, ROUNDS};
 use standby::{Commit, Flush, PageReads};
+use sum::{PageSums, PrimarySum, StandbySum};
 use tick::{PrimaryTicks, StandbyTicks};
 
 /// Bytes that are not all alike.
@@ -63,6 +66,9 @@ const PACKETS: [(usize, usize, usize); 7] =
 
 /// What a disk write and a read of BLOCK find in the epoch: how many blocks, and whether the last of them comes again.
 const BLOCKS: [(usize, bool); 3] = [(0, false), (63, false), (63, true)];
+
+/// The sizes of a sum, U and M: 16 MiB of either width, and few bytes, which show what the call itself costs.
+const SUMS: [(usize, usize); 3] = [(64, 64), (256, MOST_PAGES), (4096, 4096)];
 
 fn blocks() -> impl Iterator<Item = Blocks> {
     [64, 4096].into_iter().flat_map(|u| BLOCKS.map(|(had, again)| Blocks { u, had, again }))
@@ -126,6 +132,15 @@ pub fn interface(mut each: impl FnMut(&mut (dyn Interface + 'static))) {
         each(&mut BlockReads::new(blocks));
     }
     each(&mut StandbyTicks::new());
+    for (u, m) in SUMS {
+        each(&mut PrimarySum::new(u, m));
+    }
+    for (u, m) in SUMS {
+        each(&mut StandbySum::new(u, m));
+    }
+    for u in [64, 4096] {
+        each(&mut PageSums::new(u));
+    }
 }
 
 /// Every case of the marks in turn.

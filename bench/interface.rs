@@ -7,6 +7,11 @@ mod capi;
 use crate::library::Lent;
 use crate::model;
 
+// No call of an end, so that tests/calls/capi.rs has it not.
+extern "C" {
+    fn pair_page_sum(memory: *const u8, memory_len: usize, u: usize, page: usize) -> u64;
+}
+
 pub const PRIMARY_WORDS: usize = 272;
 pub const STANDBY_WORDS: usize = 80;
 
@@ -103,6 +108,10 @@ pub fn primary_tick(state: &mut PrimaryWords) -> model::Reply {
     answered(unsafe { capi::primary_tick(state.as_mut_ptr(), state.len()) })
 }
 
+pub fn primary_sum(state: &PrimaryWords, memory: &[u8]) -> model::Reply {
+    answered(unsafe { capi::primary_sum(state.as_ptr(), state.len(), memory.as_ptr(), memory.len()) })
+}
+
 pub fn read(s: &mut Standby, lent: &mut Lent, bytes: &[u8]) -> model::Reply {
     answered(unsafe {
         capi::standby_read(
@@ -138,4 +147,24 @@ pub fn standby_tick(s: &mut Standby, marks: &mut [u64]) -> model::Reply {
             n,
         )
     })
+}
+
+pub fn standby_sum(s: &Standby, memory: &[u8], order: &[u64]) -> model::Reply {
+    answered(unsafe {
+        capi::standby_sum(
+            s.words.as_ptr(),
+            s.words.len(),
+            s.pending.as_ptr(),
+            s.processor.as_ptr(),
+            memory.as_ptr(),
+            memory.len(),
+            order.as_ptr(),
+            order.len(),
+        )
+    })
+}
+
+/// Of one page, at either end.
+pub fn page_sum(memory: &[u8], u: usize, page: usize) -> model::Reply {
+    answered(unsafe { pair_page_sum(memory.as_ptr(), memory.len(), u, page) })
 }

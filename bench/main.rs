@@ -176,10 +176,11 @@ fn row(case: &mut (dyn Case + 'static)) -> Row {
     row
 }
 
-/// What the C interface adds to a call, in nanoseconds.
+/// What the C interface adds to a call, in nanoseconds, and the whole call's time to the model's.
 struct Added {
     name: String,
     ns: f64,
+    to_model: f64,
 }
 
 /// The name of a case of the C interface.
@@ -194,10 +195,10 @@ fn added(case: &mut (dyn Interface + 'static)) -> Added {
     assert_eq!(case.in_c(), case.wanted(), "the call in C: {name}");
     let per = case.operations() as f64;
     let [in_c, ours, model] = times(TIMED_IN_C, case).map(|time| time / per);
-    let ns = (in_c - ours) / case.calls() as f64;
+    let (ns, to_model) = ((in_c - ours) / case.calls() as f64, in_c / model);
     let inlined = if case.is_inlined() { format!("{ours:.0}") } else { "none".to_string() };
-    println!("| {name} | {in_c:.0} | {inlined} | {model:.0} | {:.2} | {} | {ns:.0} |", in_c / model, case.calls());
-    Added { name, ns }
+    println!("| {name} | {in_c:.0} | {inlined} | {model:.0} | {to_model:.2} | {} | {ns:.0} |", case.calls());
+    Added { name, ns, to_model }
 }
 
 /// A part of a call has no limit of its own.
@@ -237,15 +238,20 @@ fn limits(rows: &[Row]) {
     limit("packet and take under 1,000 ns", over(|r| r.name.starts_with("packet") && r.ns >= 1000.0));
 }
 
-/// The wanted bound is of the primary's calls: the guest waits for them.
+/// The wanted bound is of the primary's calls: the guest waits for them. A sum is not among them, since nearly all its
+/// time is the bytes': the whole call of the largest has a bound.
 fn limits_in_c(rows: &[Added]) {
     if rows.is_empty() {
         return;
     }
+    let sum = |r: &&Added| r.name.contains("sum ");
     let primary = |r: &&Added| ["packet", "primary", "disk write"].iter().any(|call| r.name.contains(call));
-    let over = rows.iter().filter(primary).filter(|r| r.ns >= 100.0).map(|r| &r.name);
+    let over = rows.iter().filter(|r| primary(r) && !sum(r) && r.ns >= 100.0).map(|r| &r.name);
     println!();
     limit("the C interface adds under 100 ns to a primary's call", over);
+    let largest = |r: &&Added| ["U 256, M 65536", "U 4096, M 4096"].iter().any(|size| r.name.contains(size));
+    let over = rows.iter().filter(|r| sum(r) && largest(r) && r.to_model > 1.5).map(|r| &r.name);
+    limit("sums of 16 MiB within 1.5 times the model", over);
 }
 
 fn main() {
