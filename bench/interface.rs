@@ -7,7 +7,7 @@ mod capi;
 use crate::library::Lent;
 use crate::model;
 
-// No call of an end, so that tests/calls/capi.rs has it not.
+// Not a call of an end, and so not in tests/calls/capi.rs.
 extern "C" {
     fn pair_page_sum(memory: *const u8, memory_len: usize, u: usize, page: usize) -> u64;
 }

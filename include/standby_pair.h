@@ -467,7 +467,8 @@ uint64_t standby_sum(const uint64_t *state, size_t state_len, const uint8_t *pen
  * + 1), added modulo 2^32. The parts of all pages, added modulo 2^32, are the sum. So a sum is kept
  * up to date by taking a page's part off before the page is written and adding its part after; and
  * a first sum can be made page by page, the guest writing memory between the calls and not during
- * one. Not a call of an end: no state is lent.
+ * one, where the parts that are added already are kept up to date so. Not a call of an end: no
+ * state is lent.
  * Gives 1 2. 1: u is not a multiple of 64 from 64 to 4096, or memory_len is not that of 1 to 65536
  * pages. 2: page is not below memory_len / u. Value: the part. Changes nothing.
  */

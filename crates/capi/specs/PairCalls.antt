@@ -70,8 +70,8 @@ lentBuffers memory disk dirty held stream standbyMemory standbyDisk stagedPages 
 abbrev pub choiceWord : Choice → ℕ
 choiceWord c = replyWord (choiceNumber c) (diskOf c)
 
--- ---- a page's own part of a sum, at either end. 1: u is no page size, or the image is not of 1 to 65,536 pages; 2: the
--- page is none of them
+-- ---- a page's own part of a sum, at either end. 1: u is no page size, or the image is not of 1 to 65,536 pages;
+-- 2: the page is none of them
 abbrev pub pageSumTests : (u image page : ℕ) → List Test
 pageSumTests u image page =
     test outOfRange (unitOk u && eqb (image % u) 0 && memoryPagesOk (image / u))

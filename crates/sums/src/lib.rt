@@ -11,8 +11,8 @@ const MODULUS: u64 = 4294967296;
 // The words of marks for the most pages that there are.
 const WORDS: usize = 1024;
 
-// Each byte × (its address + 1), of bytes that stand from address a on. The bytes are added by themselves and by their
-// place: both sums fit 32 bits, so that the compiler adds several bytes at once.
+// Each byte × (its address + 1), of bytes that stand from address a on: the sum of each byte × its place, from 1 on, and
+// a × the sum of the bytes. Both fit 32 bits, so that the compiler adds several bytes at once.
 fn weighted_sum(bytes: &[u8], a: u64) -> u64
     requires { ⌜ (length (now bytes) ≤ 4096) × (a ≤ 268435456) ⌝ }
     ensures { λ r. ⌜ r ≡ weighted a (now (bytes .entry)) ⌝ }

@@ -31,7 +31,6 @@ add-i c = search needs
 add-total : tie.Need-add-total Inv-loop μ-loop
 add-total c =
     let s = c .before .before .before in
-    let a = s .args in
     let at = c .before .before .loop in
     let byte = c .shared-slice-known .given (c .before .before .loop .i) .fits in
     record { fits = omega (arith, at .inv .total-high, at .inv .inside, s .pre .0) }
