@@ -309,7 +309,7 @@ uint32_t run_standby(struct standby *s)
         wait_until(tick + tick_ms, &s->link, NULL, 0);
         transmit(&s->link); /* first: a record is left unread until there is space for its ACK */
         if (read_records(s) && s->state[STANDBY_RECEIVED] % DRILL_EPOCHS == 0) {
-            transmit(&s->link); /* the ACK before the sum: the guest's packets wait for it */
+            transmit(&s->link); /* the ACK first: the guest's packets wait for it */
             take_sum(s);
         }
         if (is_due(&disk, FLUSH_MS))

@@ -1,6 +1,6 @@
 /*
- * What daemon.c calls of its trial. A daemon has no use for these, but for the last three: it logs
- * the sums of a drill for comparison, and it has a power switch or the like.
+ * What daemon.c calls of its trial. A daemon has no use for these. In place of the last three it
+ * logs the sums of a drill for comparison, and has a power switch or the like.
  */
 
 #ifndef TRIAL_H

@@ -1,4 +1,5 @@
-//! The functions of libcapi.a. A pointer and a count behind it are one lent slice; a pointer alone is 64 bytes.
+//! The functions of libcapi.a that have a code in FORM.md. A pointer and a count behind it are one lent slice; a
+//! pointer alone is 64 bytes.
 //! Every function answers with one word (call.rs says how it is read).
 
 extern "C" {

@@ -5,6 +5,7 @@ use crate::checker::{demand, Check};
 use crate::items::{code, Item, PACKET_WORDS, PRIMARY_FIRST_WORDS, WRITTEN_AT};
 use crate::lent::Lent;
 use crate::model::PORTS;
+use crate::sorts;
 use std::collections::BTreeMap;
 
 /// A take that was judged by its own port's packet, where another port's would have been judged otherwise. The oldest
@@ -115,8 +116,7 @@ impl Ports {
         for (which, name) in [(code::PACKET, "packets"), (code::TAKE, "takes")] {
             println!("  {name}: {} and {}", sum(&self.apart, which), sum(&self.no_port, which));
         }
-        println!("takes that another port's packet would have changed:");
-        TAKES.iter().zip(self.takes).for_each(|(name, count)| println!("  {name}: {count}"));
+        sorts::print(&[("takes that another port's packet would have changed", &TAKES, &self.takes)]);
     }
 
     /// Whether everything came: both calls accepted at each port, refused at each of `NO_PORTS`, and each sort of take.

@@ -1159,8 +1159,8 @@ static void refused_parts(void)
         page_gives(p.memory, M * U, units[i], 0, NUMBER_OUT_OF_RANGE);
     for (size_t i = 0; i < sizeof pages / sizeof pages[0]; i++)
         page_gives(p.memory, M * U, U, pages[i], NUMBER_NO_SUCH_UNIT);
-    page_gives(p.memory, M * U - 1, U, 0, NUMBER_OUT_OF_RANGE); /* 1 before 2 */
-    page_gives(p.memory, M * U - 1, U, M, NUMBER_OUT_OF_RANGE);
+    page_gives(p.memory, M * U - 1, U, 0, NUMBER_OUT_OF_RANGE);
+    page_gives(p.memory, M * U - 1, U, M, NUMBER_OUT_OF_RANGE); /* 1 before 2 */
     page_gives(p.memory, U - 1, U, 0, NUMBER_OUT_OF_RANGE);
     page_gives(p.memory, U, U, 0, 0);
     page_gives(p.memory, U, U, 1, NUMBER_NO_SUCH_UNIT);
