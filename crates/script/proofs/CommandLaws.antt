@@ -2,72 +2,49 @@
 use mathlib.Core.Path.{_≡_, refl, ap, ap₂, _∙_}
 use mathlib.Core.Bool.{Bool, true, false, cond, _&&_}
 use mathlib.Core.List.{List}
-use Prim.Native.Nat.{ℕ, _<_, min}
+use Prim.Native.Nat.{ℕ, _<_}
 use native.Mathlib.Omega.{arith}
 use lib.Dec.{eqb, leb}
 use lib.ListN.{length}
 use mir.Val.{Fits}
 use mir.Syntax.{w8}
-use borrow.Author.Tests.{eqb-true, eq-eqb, leb-true}
-use Rattle.lists.proofs.TestLaws.{agree, both}
-use Rattle.text.specs.Line.{wordsOf}
-use Rattle.text.specs.Decimal.{isNumber, valueOf}
+use borrow.Author.Tests.{leb-true}
+use Rattle.lists.proofs.TestLaws.{both}
+use Rattle.text.specs.Line.{wordsOf, word}
+use Rattle.text.specs.Decimal.{isNumber, valueOf, mostNumber}
 use Rattle.text.specs.declared.Number.{Number}
 use Rattle.text.specs.Kept.{tooLarge, noLine, lineWithAll, numberIs}
-use Rattle.text.proofs.NumberLaws.{kept-number}
 use Rattle.text.proofs.KeptLaws.{keptOf, kept-line}
+use Rattle.text.proofs.WordLaws.{kept-count, first-test, second-test, first-value, second-value}
 use Rattle.script.specs.declared.Command.{Command}
 use Rattle.script.specs.declared.Command.the-variants.{Write, Disk, Send, Close, Move, Acknowledge, Take, Flush, Takeover, Other}
-use Rattle.script.specs.Command.{letterW, letterD, letterS, letterC, letterM, letterA, letterT, letterF, letterK, mostByte, mostNumber, word, isLine, isKeptLine, commandOfWords, commandOf, commandOfLine}
-
--- a count that is kept up to a limit equals what is below the limit where the count does
-kept-count : (limit k n : ℕ) → n < limit → eqb (min limit k) n ≡ eqb k n
-kept-count limit k n h =
-    agree (eqb (min limit k) n) (eqb k n)
-    (λ e. let p = eqb-true (min limit k) n e in eq-eqb k n (omega arith))
-    (λ e. let p = eqb-true k n e in eq-eqb (min limit k) n (omega arith))
+use Rattle.script.specs.Command.{letterW, letterD, letterS, letterC, letterM, letterA, letterT, letterF, letterK, mostByte, isLine, isKeptLine, commandOfWords, commandOf, commandOfLine}
 
 module _ (ws : List (List ℕ)) where
   line-test : (letter n : ℕ) → n < 4 → isKeptLine letter n (keptOf ws) ≡ isLine letter n ws
   unfolding keptOf
   line-test letter n h = rw (kept-count 4 (length ws) n h, kept-count 2 (length (word ws 0)) 1 (omega arith))
 
-  first-test : (most : ℕ) → most < tooLarge → numberIs most (keptOf ws .first) ≡ isNumber most (word ws 1)
-  unfolding keptOf
-  first-test most h = kept-number (word ws 1) .is-number most h
-
-  second-test : (most : ℕ) → most < tooLarge → numberIs most (keptOf ws .second) ≡ isNumber most (word ws 2)
-  unfolding keptOf
-  second-test most h = kept-number (word ws 2) .is-number most h
-
-  first-value : (most : ℕ) → most < tooLarge → isNumber most (word ws 1) ≡ true → keptOf ws .first .value ≡ valueOf (word ws 1)
-  unfolding keptOf
-  first-value most h e = kept-number (word ws 1) .number-value most h e
-
-  second-value : (most : ℕ) → most < tooLarge → isNumber most (word ws 2) ≡ true → keptOf ws .second .value ≡ valueOf (word ws 2)
-  unfolding keptOf
-  second-value most h e = kept-number (word ws 2) .number-value most h e
-
   -- a line of a letter and a number of at most most: the test, and the value where it holds
   one-test : (letter most : ℕ) → most < tooLarge
       → (isKeptLine letter 2 (keptOf ws) && numberIs most (keptOf ws .first)) ≡ (isLine letter 2 ws && isNumber most (word ws 1))
-  one-test letter most h = ap₂ _&&_ (line-test letter 2 (omega arith)) (first-test most h)
+  one-test letter most h = ap₂ _&&_ (line-test letter 2 (omega arith)) (first-test ws most h)
 
   one-value : (make : ℕ → Command) (letter most : ℕ) → most < tooLarge → (isLine letter 2 ws && isNumber most (word ws 1)) ≡ true
       → make (keptOf ws .first .value) ≡ make (valueOf (word ws 1))
-  one-value make letter most h e = ap make (first-value most h (both (isLine letter 2 ws) (isNumber most (word ws 1)) e .1))
+  one-value make letter most h e = ap make (first-value ws most h (both (isLine letter 2 ws) (isNumber most (word ws 1)) e .1))
 
   -- the same of a letter, a number and a byte
   two-test : (letter : ℕ) → (isKeptLine letter 3 (keptOf ws) && numberIs mostNumber (keptOf ws .first) && numberIs mostByte (keptOf ws .second))
       ≡ (isLine letter 3 ws && isNumber mostNumber (word ws 1) && isNumber mostByte (word ws 2))
-  two-test letter = ap₂ _&&_ (ap₂ _&&_ (line-test letter 3 (omega arith)) (first-test mostNumber (omega arith))) (second-test mostByte (omega arith))
+  two-test letter = ap₂ _&&_ (ap₂ _&&_ (line-test letter 3 (omega arith)) (first-test ws mostNumber (omega arith))) (second-test ws mostByte (omega arith))
 
   two-value : (make : ℕ → ℕ → Command) (letter : ℕ) → (isLine letter 3 ws && isNumber mostNumber (word ws 1) && isNumber mostByte (word ws 2)) ≡ true
       → make (keptOf ws .first .value) (keptOf ws .second .value) ≡ make (valueOf (word ws 1)) (valueOf (word ws 2))
   two-value make letter e =
       let p = both (isLine letter 3 ws && isNumber mostNumber (word ws 1)) (isNumber mostByte (word ws 2)) e in
       let q = both (isLine letter 3 ws) (isNumber mostNumber (word ws 1)) (p .0) in
-      ap₂ make (first-value mostNumber (omega arith) (q .1)) (second-value mostByte (omega arith) (p .1))
+      ap₂ make (first-value ws mostNumber (omega arith) (q .1)) (second-value ws mostByte (omega arith) (p .1))
 
 -- one test of a row of tests, with what it gives
 choose : (s t : Bool) (x y u v : Command) → s ≡ t → (t ≡ true → x ≡ y) → u ≡ v → cond s x u ≡ cond t y v

@@ -1,11 +1,11 @@
 -- The commands of the program `pair`, one a line. Assumes nothing.
 use Prim.Native.Nat.{ℕ}
 use mathlib.Core.Bool.{Bool, cond, _&&_}
-use mathlib.Core.List.{List, []}
+use mathlib.Core.List.{List}
 use lib.Dec.{eqb}
 use lib.ListN.{length, getD}
-use Rattle.text.specs.Line.{wordsOf}
-use Rattle.text.specs.Decimal.{isNumber, valueOf}
+use Rattle.text.specs.Line.{wordsOf, word}
+use Rattle.text.specs.Decimal.{isNumber, valueOf, mostNumber}
 use Rattle.text.specs.declared.Line.{Line}
 use Rattle.text.specs.Kept.{numberIs}
 use Rattle.script.specs.declared.Command.{Command}
@@ -42,15 +42,9 @@ letterK = 107
 abbrev pub questionMark : ℕ
 questionMark = 63
 
--- "v is 0 to 255, other numbers at most 4,294,967,295"
+-- "v is 0 to 255, other numbers at most 4,294,967,295" (text/specs/Decimal.antt)
 abbrev pub mostByte : ℕ
 mostByte = 255
-
-abbrev pub mostNumber : ℕ
-mostNumber = 4294967295
-
-abbrev pub word : List (List ℕ) → ℕ → List ℕ
-word ws i = getD ws i []
 
 -- a line of this letter and this many words
 abbrev pub isLine : ℕ → ℕ → List (List ℕ) → Bool

@@ -14,7 +14,7 @@ const MOST_NUMBER: u64 = 4294967295;
 
 // The command of a line of one word, which is this letter.
 fn letter_command(letter: u8) -> Command
-    ensures { λ r. ⌜ r ≡ commandOfLine (record { words = 1; letters = 1; letter = letter; first = noNumber; second = noNumber }) ⌝ }
+    ensures { λ r. ⌜ r ≡ commandOfLine (record { words = 1; letters = 1; letter = letter; lead = noNumber; first = noNumber; second = noNumber }) ⌝ }
 {
     match letter {
         b'm' => Command::Move,
@@ -28,7 +28,7 @@ fn letter_command(letter: u8) -> Command
 
 // The command of a line of this letter and one word more.
 fn number_command(letter: u8, n: Number) -> Command
-    ensures { λ r. ⌜ r ≡ commandOfLine (record { words = 2; letters = 1; letter = letter; first = n; second = noNumber }) ⌝ }
+    ensures { λ r. ⌜ r ≡ commandOfLine (record { words = 2; letters = 1; letter = letter; lead = noNumber; first = n; second = noNumber }) ⌝ }
 {
     let value = n.value;
     if letter == b's' {
@@ -48,7 +48,7 @@ fn number_command(letter: u8, n: Number) -> Command
 
 // The command of a line of this letter and two words more.
 fn pair_command(letter: u8, first: Number, second: Number) -> Command
-    ensures { λ r. ⌜ r ≡ commandOfLine (record { words = 3; letters = 1; letter = letter; first = first; second = second }) ⌝ }
+    ensures { λ r. ⌜ r ≡ commandOfLine (record { words = 3; letters = 1; letter = letter; lead = noNumber; first = first; second = second }) ⌝ }
 {
     let at = first.value;
     let value = second.value;

@@ -28,13 +28,14 @@ module _ (l : Line) (bytes : List ℕ) (i : ℕ) where
   line-with-none h = rw (drop-of-length-le bytes h)
 
 -- ---- what is kept of words
--- how many there are, up to 4; of the first its length, up to 2, and its first byte; the second and the third
+-- how many there are, up to 4; of the first its length, up to 2, its first byte and its number; the second and the third
 unfoldable pub keptOf : List (List ℕ) → Line
 keptOf ws =
     record {
       words = min 4 (length ws);
       letters = min 2 (length (getD ws 0 []));
       letter = getD (getD ws 0 []) 0 0;
+      lead = kept (getD ws 0 []);
       first = kept (getD ws 1 []);
       second = kept (getD ws 2 []);
     }
@@ -64,7 +65,7 @@ letters-more (x ∷ y ∷ w) b =
 -- another byte goes to the end of the last word
 kept-byte : (ws : List (List ℕ)) (w : List ℕ) (b : ℕ) → eqb b space ≡ false → lineWith (keptOf (ws ++ (w ∷ []))) b ≡ keptOf (ws ++ ((w ++ (b ∷ [])) ∷ []))
 unfolding keptOf lineWith
-kept-byte [] w b e = let m = letters-more w b in rw (e, m .0, m .1)
+kept-byte [] w b e = let m = letters-more w b in rw (e, m .0, m .1, number-with-last _ w b)
 kept-byte (a ∷ []) w b e = rw (e, number-with-last _ w b)
 kept-byte (a ∷ c ∷ []) w b e = rw (e, number-with-last _ w b)
 kept-byte (a ∷ c ∷ d ∷ ws) w b e = rw (e, four ws w, four ws (w ++ (b ∷ [])))

@@ -4,3 +4,5 @@ pub mod SplitLaws
 pub mod DecimalLaws
 pub mod NumberLaws
 pub mod KeptLaws
+pub mod WordLaws
+pub mod RowLaws

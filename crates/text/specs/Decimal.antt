@@ -29,6 +29,10 @@ valueOf word = valueFrom 0 word
 unfoldable pub isNumber : ℕ → List ℕ → Bool
 isNumber most word = ltb 0 (length word) && allDigits word && leb (valueOf word) most
 
+-- "other numbers at most 4,294,967,295"
+abbrev pub mostNumber : ℕ
+mostNumber = 4294967295
+
 -- the digits of a number below 10 ^ k, in front of what is given
 unfoldable pub digitsBefore : ℕ → ℕ → List ℕ → List ℕ
 digitsBefore zero n rest = rest

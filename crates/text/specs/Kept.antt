@@ -27,11 +27,11 @@ abbrev pub numberIs : ℕ → Number → Bool
 numberIs most n = n .some && n .digits && leb (n .value) most
 
 abbrev pub noLine : Line
-noLine = record { words = 1; letters = 0; letter = 0; first = noNumber; second = noNumber }
+noLine = record { words = 1; letters = 0; letter = 0; lead = noNumber; first = noNumber; second = noNumber }
 
 -- a space: the next word begins
 abbrev pub nextWord : Line → Line
-nextWord l = record { words = cond (ltb (l .words) 4) (l .words + 1) 4; letters = l .letters; letter = l .letter; first = l .first; second = l .second }
+nextWord l = record { words = cond (ltb (l .words) 4) (l .words + 1) 4; letters = l .letters; letter = l .letter; lead = l .lead; first = l .first; second = l .second }
 
 -- a byte of the first word, of the second and of the third
 abbrev pub withLetter : Line → ℕ → Line
@@ -40,15 +40,16 @@ withLetter l b =
       words = l .words;
       letters = cond (ltb (l .letters) 2) (l .letters + 1) 2;
       letter = cond (eqb (l .letters) 0) b (l .letter);
+      lead = numberWith (l .lead) b;
       first = l .first;
       second = l .second;
     }
 
 abbrev pub withFirstNumber : Line → ℕ → Line
-withFirstNumber l b = record { words = l .words; letters = l .letters; letter = l .letter; first = numberWith (l .first) b; second = l .second }
+withFirstNumber l b = record { words = l .words; letters = l .letters; letter = l .letter; lead = l .lead; first = numberWith (l .first) b; second = l .second }
 
 abbrev pub withSecondNumber : Line → ℕ → Line
-withSecondNumber l b = record { words = l .words; letters = l .letters; letter = l .letter; first = l .first; second = numberWith (l .second) b }
+withSecondNumber l b = record { words = l .words; letters = l .letters; letter = l .letter; lead = l .lead; first = l .first; second = numberWith (l .second) b }
 
 -- one byte more of a line; of a fourth word nothing is kept
 unfoldable pub lineWith : Line → ℕ → Line

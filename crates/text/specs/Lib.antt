@@ -1,3 +1,4 @@
 pub mod Line
 pub mod Decimal
 pub mod Kept
+pub mod Row

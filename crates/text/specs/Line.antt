@@ -3,6 +3,7 @@ use Prim.Native.Nat.{ℕ}
 use mathlib.Core.Bool.{cond}
 use mathlib.Core.List.{List, [], _∷_}
 use lib.Dec.{eqb}
+use lib.ListN.{getD}
 
 -- b in front of the first part
 abbrev pub withFirst : ℕ → List (List ℕ) → List (List ℕ)
@@ -39,3 +40,6 @@ linesOf text = dropEmptyLast (split newline text)
 -- the words of a line, parted by single spaces
 abbrev pub wordsOf : List ℕ → List (List ℕ)
 wordsOf line = split space line
+
+abbrev pub word : List (List ℕ) → ℕ → List ℕ
+word ws i = getD ws i []

@@ -18,6 +18,7 @@ pub fn no_line() -> Line
         words: 1,
         letters: 0,
         letter: 0,
+        lead: none,
         first: none,
         second: none,
     }
@@ -76,7 +77,10 @@ fn with_letter(l: Line, b: u8) -> Line
     ensures { λ r. ⌜ r ≡ withLetter l b ⌝ }
 {
     let letters = l.letters;
+    let word = l.lead;
+    let grown = number_with(word, b);
     let mut next = l;
+    next.lead = grown;
     if letters == 0 {
         next.letters = 1;
         next.letter = b;

@@ -2,6 +2,7 @@
 pub mod decimal;
 pub mod kept;
 pub mod lines;
+pub mod rows;
 
 // What is kept of a word that may be a number.
 pub struct Number {
@@ -19,6 +20,8 @@ pub struct Line {
     // how many bytes the first word has, at most 2, and the first of them
     pub letters: usize,
     pub letter: u8,
+    // the first word, as a number
+    pub lead: Number,
     // the second word and the third
     pub first: Number,
     pub second: Number,

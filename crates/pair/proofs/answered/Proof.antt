@@ -28,7 +28,10 @@ no-line-requires : tie.Need-no-line-requires
 no-line-requires c κs = search needs
 
 add-t18 : tie.Need-add-t18
-add-t18 c = search needs
+add-t18 c =
+    let a = c .before .before .before .before .before .before .before .before .answer in
+    let start = c .before .before .before .before .before .before .before .before .before .before .before .before in
+    record { fits = omega (arith, start .pre .1, start .good .1 .0, a .ensures .1 .1 .1) }
 
 same-length : tie.Need-same-length
 same-length c = search needs

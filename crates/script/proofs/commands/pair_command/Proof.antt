@@ -4,8 +4,9 @@ use mathlib.Core.Bool.{true}
 use borrow.Author.Needs.{needs}
 use borrow.Author.Tests.{ne-eqb, not-true, not-false}
 use Rattle.lists.proofs.TestLaws.{and-false}
+use Rattle.text.specs.Decimal.{mostNumber}
 use Rattle.text.specs.Kept.{numberIs}
-use Rattle.script.specs.Command.{mostByte, mostNumber, commandOfLine}
+use Rattle.script.specs.Command.{mostByte, commandOfLine}
 use Rattle.script.proofs.CommandLaws.{byte-fits}
 use Rattle.script.proofs.commands.pair_command.Statement.{statement}
 use Rattle.script.proofs.commands.pair_command.Tie as tie
