@@ -6,8 +6,10 @@ ghost use Prim.Native.Nat.{_+_, _-_, _≤_, _<_};
 ghost use lib.ListN.{length};
 ghost use Rattle.lists.specs.Part.{part, PutDone};
 ghost use Rattle.text.specs.Line.{newline};
-ghost use Rattle.script.specs.Feed.{fedAll, fedAllPrinted, endPrinted, firstReading};
-ghost use Rattle.pair.specs.Run.{readingOf, turnNext, turnPrinted, turnMore, SomeTurn, SomeTurns};
+ghost use Rattle.text.specs.Feed.{fedAll, fedAllPrinted, endPrinted, firstReading};
+ghost use Rattle.text.specs.Turns.{turnNext, turnPrinted, turnMore, SomeTurn, SomeTurns};
+ghost use Rattle.script.specs.Output.{pairProgram};
+ghost use Rattle.pair.specs.Run.{readingOf};
 use libc::STDIN_FILENO;
 use libc::STDOUT_FILENO;
 use script::Site;
@@ -37,8 +39,8 @@ struct Next {
 // The newline of a line: its answer goes into out from written on.
 fn answered(run: Run, out: &mut [u8], written: usize) -> Step
     requires { ⌜ (run .over ≡ false) × (written + 44 ≤ length (now out)) ⌝ }
-    ensures { λ r. ⌜ readingOf (r .run) ≡ fedAll (readingOf run) (newline ∷ []) ⌝ }
-    ensures { λ r. ⌜ PutDone (fedAllPrinted (readingOf run) (newline ∷ [])) (now (out .entry)) written (now (out .exit)) (r .written) ⌝ }
+    ensures { λ r. ⌜ readingOf (r .run) ≡ fedAll pairProgram (readingOf run) (newline ∷ []) ⌝ }
+    ensures { λ r. ⌜ PutDone (fedAllPrinted pairProgram (readingOf run) (newline ∷ [])) (now (out .entry)) written (now (out .exit)) (r .written) ⌝ }
     ensures { λ r. ⌜ r .written ≤ written + 44 ⌝ }
 {
     let site = run.site;
@@ -66,8 +68,8 @@ fn answered(run: Run, out: &mut [u8], written: usize) -> Step
 fn fed_line(run: Run, input: &[u8], from: usize, out: &mut [u8], written: usize) -> Step
     requires { ⌜ (run .over ≡ false) × (from < length (now input)) × (written + 44 ≤ length (now out)) × (length (now input) ≤ 1024) ⌝ }
     ensures { λ r. ⌜ (from < r .read) × (r .read ≤ length (now (input .entry))) × (r .written ≤ written + 44) ⌝ }
-    ensures { λ r. ⌜ readingOf (r .run) ≡ fedAll (readingOf run) (part from (r .read - from) (now (input .entry))) ⌝ }
-    ensures { λ r. ⌜ PutDone (fedAllPrinted (readingOf run) (part from (r .read - from) (now (input .entry)))) (now (out .entry)) written (now (out .exit)) (r .written) ⌝ }
+    ensures { λ r. ⌜ readingOf (r .run) ≡ fedAll pairProgram (readingOf run) (part from (r .read - from) (now (input .entry))) ⌝ }
+    ensures { λ r. ⌜ PutDone (fedAllPrinted pairProgram (readingOf run) (part from (r .read - from) (now (input .entry)))) (now (out .entry)) written (now (out .exit)) (r .written) ⌝ }
 {
     let site = run.site;
     let end = text::lines::line_end(input, from);
@@ -98,8 +100,8 @@ fn fed_line(run: Run, input: &[u8], from: usize, out: &mut [u8], written: usize)
 // A part of the input, of at most 1,024 bytes: what is printed of it, at most 44 bytes for each newline, goes to the head of out.
 fn fed(run: Run, input: &[u8], out: &mut [u8]) -> Step
     requires { ⌜ (length (now input) ≤ 1024) × (45056 ≤ length (now out)) ⌝ }
-    ensures { λ r. ⌜ readingOf (r .run) ≡ fedAll (readingOf run) (now (input .entry)) ⌝ }
-    ensures { λ r. ⌜ PutDone (fedAllPrinted (readingOf run) (now (input .entry))) (now (out .entry)) 0 (now (out .exit)) (r .written) ⌝ }
+    ensures { λ r. ⌜ readingOf (r .run) ≡ fedAll pairProgram (readingOf run) (now (input .entry)) ⌝ }
+    ensures { λ r. ⌜ PutDone (fedAllPrinted pairProgram (readingOf run) (now (input .entry))) (now (out .entry)) 0 (now (out .exit)) (r .written) ⌝ }
     ensures { λ r. ⌜ r .written ≤ length (now (out .exit)) ⌝ }
 {
     let mut run = run;
@@ -119,7 +121,7 @@ fn fed(run: Run, input: &[u8], out: &mut [u8]) -> Step
 // The end of the input: a last line without its newline is answered too.
 fn ended(run: Run, out: &mut [u8]) -> usize
     requires { ⌜ 44 ≤ length (now out) ⌝ }
-    ensures { λ r. ⌜ PutDone (endPrinted (readingOf run)) (now (out .entry)) 0 (now (out .exit)) r ⌝ }
+    ensures { λ r. ⌜ PutDone (endPrinted pairProgram (readingOf run)) (now (out .entry)) 0 (now (out .exit)) r ⌝ }
     ensures { λ r. ⌜ r ≤ length (now (out .exit)) ⌝ }
 {
     let line = run.line;
@@ -138,10 +140,10 @@ fn ended(run: Run, out: &mut [u8]) -> usize
 // is read after the end of the input nor after `k`.
 fn turn(run: Run, input: &[u8], out: &mut [u8]) -> Next
     requires { ⌜ (length (now input) ≤ 1024) × (45056 ≤ length (now out)) ⌝ }
-    ensures { λ r. ⌜ readingOf (r .run) ≡ turnNext (readingOf run) (now (input .entry)) ⌝ }
-    ensures { λ r. ⌜ PutDone (turnPrinted (readingOf run) (now (input .entry))) (now (out .entry)) 0 (now (out .exit)) (r .written) ⌝ }
+    ensures { λ r. ⌜ readingOf (r .run) ≡ turnNext pairProgram (readingOf run) (now (input .entry)) ⌝ }
+    ensures { λ r. ⌜ PutDone (turnPrinted pairProgram (readingOf run) (now (input .entry))) (now (out .entry)) 0 (now (out .exit)) (r .written) ⌝ }
     ensures { λ r. ⌜ r .written ≤ length (now (out .exit)) ⌝ }
-    ensures { λ r. ⌜ r .more ≡ turnMore (readingOf run) (now (input .entry)) ⌝ }
+    ensures { λ r. ⌜ r .more ≡ turnMore pairProgram (readingOf run) (now (input .entry)) ⌝ }
 {
     if input.len() == 0 {
         let written = ended(run, out);
@@ -164,7 +166,7 @@ fn turn(run: Run, input: &[u8], out: &mut [u8]) -> Next
 
 // Before any input: the pair started, no line begun.
 fn first() -> Run
-    ensures { λ r. ⌜ readingOf r ≡ firstReading ⌝ }
+    ensures { λ r. ⌜ readingOf r ≡ firstReading pairProgram ⌝ }
 {
     let site = script::sites::started();
     let line = text::kept::no_line();
@@ -179,7 +181,7 @@ fn first() -> Run
 // the input. No contract of read or write says which bytes they move: that the part is what was read, and that the head of
 // out is written, is to be seen here.
 fn next_part(run: Run) -> Next
-    ensures { λ r. ⌜ SomeTurn (readingOf run) (readingOf (r .run)) (r .more) ⌝ }
+    ensures { λ r. ⌜ SomeTurn pairProgram (readingOf run) (readingOf (r .run)) (r .more) ⌝ }
 {
     let mut input = [0u8; 1024];
     let mut out = [0u8; 45056];
@@ -193,7 +195,7 @@ fn next_part(run: Run) -> Next
 
 // Part after part, while more is to be read; the bound on the turns is the largest number, since a loop has to end.
 fn all(run: Run) -> Run
-    ensures { λ r. ⌜ SomeTurns (readingOf run) (readingOf r) ⌝ }
+    ensures { λ r. ⌜ SomeTurns pairProgram (readingOf run) (readingOf r) ⌝ }
 {
     let mut run = run;
     let mut more = true;

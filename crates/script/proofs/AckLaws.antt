@@ -23,7 +23,7 @@ use Rattle.rules.specs.Reply.{answerOf, usedOf}
 use Rattle.rules.specs.Stream.{ackReply}
 use Rattle.rules.proofs.ReplyLaws.{answers}
 use Rattle.rules.proofs.StreamLaws.{ack-cases}
-use Rattle.script.specs.Pair.{isEmpty}
+use Rattle.text.specs.Line.{isEmpty}
 use Rattle.script.specs.Site.{acksFrom, acksBetween}
 
 -- ---- the first of them

@@ -1,6 +1,5 @@
 pub mod CommandLaws
 pub mod FeedLaws
-pub mod FeedPartLaws
 pub mod PrintLaws
 pub mod AnswerLaws
 pub mod SiteLaws

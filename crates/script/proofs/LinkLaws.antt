@@ -39,7 +39,8 @@ use Rattle.rules.proofs.JudgeLaws.{JudgedFacts, judged-cases, judged-facts}
 use Rattle.script.specs.declared.StandbyBox.{StandbyBox}
 use Rattle.script.specs.declared.Site.{Site}
 use Rattle.script.specs.declared.StandbyRead.{StandbyRead}
-use Rattle.script.specs.Pair.{isEmpty, firstRecordLength, drained, done, ackBytes}
+use Rattle.text.specs.Line.{isEmpty}
+use Rattle.script.specs.Pair.{firstRecordLength, drained, done, ackBytes}
 use Rattle.script.specs.Site.{primaryOf, standbyOf, acksBetween, worldOf, doneOf, linkBytes, isCommit, boxLent, standbyRead}
 use Rattle.script.proofs.AckLaws.{take-between, acks-next, ack-used, acks-used}
 

@@ -2,4 +2,3 @@ pub mod Command
 pub mod Pair
 pub mod Output
 pub mod Site
-pub mod Feed

@@ -1,35 +1,39 @@
 -- What `pair` prints for its input. Assumes nothing.
 use Prim.Native.Nat.{ℕ}
-use mathlib.Core.Bool.{Bool, false, cond, _||_}
-use mathlib.Core.List.{List, [], _∷_, _++_, dropLast}
+use mathlib.Core.Bool.{Bool, false, _||_}
+use mathlib.Core.List.{List, [], _∷_, _++_}
 use lib.Dec.{eqb}
-use Rattle.text.specs.Line.{split, linesOf, space, newline}
+use Rattle.text.specs.Line.{space, newline}
 use Rattle.text.specs.Decimal.{decimal}
+use Rattle.text.specs.Feed.{Answered, Program, output}
 use Rattle.rules.specs.World.{World}
 use Rattle.rules.specs.Step.{Outcome}
-use Rattle.script.specs.Command.{commandOf, letterOf, letterK}
+use Rattle.script.specs.declared.Command.{Command}
+use Rattle.script.specs.Command.{commandOf, commandOfLine, letterOf, letterK}
 use Rattle.script.specs.Pair.{perform, pairStart}
 
 -- "letter, number (0 accepted), value"
 unfoldable pub printed : ℕ → Outcome → List ℕ
 printed letter o = letter ∷ space ∷ (decimal (o .number) ++ (space ∷ (decimal (o .value) ++ (newline ∷ []))))
 
--- line after line, up to the end or to `k`
-unfoldable pub printedAll : World → List (List ℕ) → List ℕ
-printedAll w [] = []
-printedAll w (line ∷ lines) =
-    let c = commandOf line in
+-- a command's answer: the world after it, its line of output, and whether it is the last
+abbrev pub commandAnswer : World → Command → Answered World
+commandAnswer w c =
     let d = perform w c in
-    printed (letterOf c) (d .outcome) ++ cond (d .last) [] (printedAll (d .next) lines)
+    record { next = d .next; printed = printed (letterOf c) (d .outcome); last = d .last }
+
+-- the program: it answers each line's command, up to the end or to `k`, and prints nothing at the end of its input
+abbrev pub pairProgram : Program World
+pairProgram =
+    record {
+      start = pairStart;
+      answer = λ w line. commandAnswer w (commandOf line);
+      answerKept = λ w l. commandAnswer w (commandOfLine l);
+      finish = λ w. [];
+    }
 
 unfoldable pub outputOf : List ℕ → List ℕ
-outputOf input = printedAll pairStart (linesOf input)
-
--- ---- where the program ends before its input does
-
--- the lines that have come with their newline: the parts between the newlines but the last, which is under way
-abbrev pub endedLines : List ℕ → List (List ℕ)
-endedLines input = dropLast (split newline input)
+outputOf input = output pairProgram input
 
 -- whether one of the lines is `k`
 unfoldable pub anyTakeover : List (List ℕ) → Bool

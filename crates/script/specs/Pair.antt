@@ -5,6 +5,7 @@ use mathlib.Core.List.{List, [], _∷_}
 use lib.Dec.{eqb}
 use lib.ListN.{length, replicate, length-replicate}
 use Rattle.lists.specs.LittleEndian.{leAt}
+use Rattle.text.specs.Line.{isEmpty}
 use Rattle.records.specs.Kind.{ACK, headerLength, processorBytes, recordLength}
 use Rattle.records.specs.Area.{areaLength}
 use Rattle.settings.specs.declared.Settings.{Settings}
@@ -57,9 +58,6 @@ done s = record { next = s .next; outcome = s .outcome; last = false }
 
 abbrev pub refused : World → ℕ → Done
 refused w number = record { next = w; outcome = outcome number 0; last = false }
-
-abbrev pub isEmpty : List ℕ → Bool
-isEmpty l = eqb (length l) 0
 
 -- a packet longer than 1,514 is refused whatever its length: so many bytes are lent at the most
 abbrev pub mostLent : ℕ

@@ -1,9 +1,8 @@
 // A line's command, performed and printed.
 ghost use mathlib.Core.Path.{_≡_};
-ghost use mathlib.Core.Bool.{false};
 ghost use Prim.Native.Nat.{_≤_};
 ghost use lib.ListN.{length, take};
-ghost use Rattle.script.specs.Feed.{reading, lineDone, linePrinted};
+ghost use Rattle.script.specs.Output.{pairProgram};
 ghost use Rattle.script.specs.Site.{worldOf, doneOf};
 ghost use Rattle.script.specs.Pair.{perform as performed};
 use crate::Answered;
@@ -43,9 +42,9 @@ pub fn perform(s: Site, c: Command) -> Performed
 
 // The answer to a line: the site after it, and what is printed.
 pub fn answer(s: Site, l: Line) -> Answered
-    ensures { λ r. ⌜ worldOf (r .site) ≡ lineDone (reading (worldOf s) l false) .next ⌝ }
-    ensures { λ r. ⌜ r .last ≡ lineDone (reading (worldOf s) l false) .last ⌝ }
-    ensures { λ r. ⌜ (take (r .length) (r .bytes) ≡ linePrinted (reading (worldOf s) l false)) × (r .length ≤ 44) × (length (r .bytes) ≡ 44) ⌝ }
+    ensures { λ r. ⌜ worldOf (r .site) ≡ pairProgram .answerKept (worldOf s) l .next ⌝ }
+    ensures { λ r. ⌜ r .last ≡ pairProgram .answerKept (worldOf s) l .last ⌝ }
+    ensures { λ r. ⌜ (take (r .length) (r .bytes) ≡ pairProgram .answerKept (worldOf s) l .printed) × (r .length ≤ 44) × (length (r .bytes) ≡ 44) ⌝ }
 {
     let c = command_of(l);
     let letter = printing::letter_of(c);

@@ -6,3 +6,7 @@ pub mod NumberLaws
 pub mod KeptLaws
 pub mod WordLaws
 pub mod RowLaws
+pub mod FeedPartLaws
+pub mod FeedLaws
+pub mod RunLaws
+pub mod TurnLaws

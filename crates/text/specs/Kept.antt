@@ -8,7 +8,7 @@ use Rattle.text.specs.Line.{space}
 use Rattle.text.specs.declared.Number.{Number}
 use Rattle.text.specs.declared.Line.{Line}
 
--- the least number above every limit of a command's numbers
+-- the least number above every limit of a command's or a row's numbers
 abbrev pub tooLarge : ℕ
 tooLarge = 4294967296
 
@@ -33,7 +33,7 @@ noLine = record { words = 1; letters = 0; letter = 0; lead = noNumber; first = n
 abbrev pub nextWord : Line → Line
 nextWord l = record { words = cond (ltb (l .words) 4) (l .words + 1) 4; letters = l .letters; letter = l .letter; lead = l .lead; first = l .first; second = l .second }
 
--- a byte of the first word, of the second and of the third
+-- a byte of the first word, which is kept as a letter and as a number (lead), of the second and of the third
 abbrev pub withLetter : Line → ℕ → Line
 withLetter l b =
     record {

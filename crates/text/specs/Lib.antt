@@ -2,3 +2,5 @@ pub mod Line
 pub mod Decimal
 pub mod Kept
 pub mod Row
+pub mod Feed
+pub mod Turns

@@ -1,9 +1,12 @@
 -- Lines and words of a text of bytes. Assumes nothing.
 use Prim.Native.Nat.{ℕ}
-use mathlib.Core.Bool.{cond}
+use mathlib.Core.Bool.{Bool, cond}
 use mathlib.Core.List.{List, [], _∷_}
 use lib.Dec.{eqb}
-use lib.ListN.{getD}
+use lib.ListN.{length, getD}
+
+abbrev pub isEmpty : List ℕ → Bool
+isEmpty l = eqb (length l) 0
 
 -- b in front of the first part
 abbrev pub withFirst : ℕ → List (List ℕ) → List (List ℕ)

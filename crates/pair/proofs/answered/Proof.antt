@@ -2,7 +2,8 @@
 use mathlib.Core.Path.{sym}
 use native.Mathlib.Omega.{arith}
 use borrow.Author.Needs.{needs}
-use Rattle.pair.proofs.RunLaws.{taken-length, answered-run, answered-put}
+use Rattle.script.specs.Output.{pairProgram}
+use Rattle.text.proofs.RunLaws.{taken-length, answered-run, answered-put}
 use Rattle.pair.proofs.answered.Statement.{statement}
 use Rattle.pair.proofs.answered.Tie as tie
 
@@ -15,13 +16,13 @@ array-share-prefix-bytes c = search needs
 slice-aggregate-copy-into : tie.Need-slice-aggregate-copy-into
 slice-aggregate-copy-into c =
     let e = c .before .before .before .answer .ensures .1 .1 in
-    sym (taken-length _ _ (e .1) (e .2))
+    sym (taken-length 44 _ _ (e .1) (e .2))
 
 copy-into-requires : tie.Need-copy-into-requires
 copy-into-requires c κs =
     let a = c .before .before .before .answer in
     let e = a .ensures .1 .1 in
-    let l = taken-length (a .result .length) (a .result .bytes) (e .1) (e .2) in
+    let l = taken-length 44 (a .result .length) (a .result .bytes) (e .1) (e .2) in
     rw l (omega (arith, c .before .before .before .before .before .before .before .pre .1, e .1))
 
 no-line-requires : tie.Need-no-line-requires
@@ -41,9 +42,9 @@ returns c =
     let a = c .before .before .before .before .before .before .before .before .answer in
     let start = c .before .before .before .before .before .before .before .before .before .before .before .before in
     let e = a .ensures .1 .1 in
-    let long = taken-length (a .result .length) (a .result .bytes) (e .1) (e .2) in (
-      answered-run _ _ _ (start .pre .0) _ _ _ (a .ensures .0) (c .no-line .ensures) (a .ensures .1 .0),
-      (answered-put _ _ _ (start .pre .0) _ _ _ _ _ (e .0) (sym long) (c .before .before .before .before .copy-into .ensures), omega arith),
+    let long = taken-length 44 (a .result .length) (a .result .bytes) (e .1) (e .2) in (
+      answered-run pairProgram _ _ _ (start .pre .0) _ _ _ (a .ensures .0) (c .no-line .ensures) (a .ensures .1 .0),
+      (answered-put pairProgram _ _ _ (start .pre .0) _ _ _ _ _ (e .0) (sym long) (c .before .before .before .before .copy-into .ensures), omega arith),
     )
 
 pub answered-spec : {M : Type 1} → statement M

@@ -6,28 +6,29 @@ use native.Mathlib.Omega.{arith}
 use lib.ListN.{length}
 use borrow.Author.Tests.{not-true, not-false}
 use Rattle.script.specs.Site.{worldOf}
-use Rattle.script.specs.Feed.{reading}
+use Rattle.text.specs.Feed.{reading}
+use Rattle.script.specs.Output.{pairProgram}
 use Rattle.pair.specs.Run.{readingOf}
-use Rattle.pair.proofs.RunLaws.{Progress, progress-none, progress-room, progress-fits, progress-more, progress-over, progress-end}
+use Rattle.text.proofs.RunLaws.{Progress, progress-none, progress-room, progress-fits, progress-more, progress-over, progress-end}
 use Rattle.pair.proofs.fed.Statement.{statement}
 use Rattle.pair.proofs.fed.Tie as tie
 
 abbrev Inv-loop : tie.InvT-loop
 Inv-loop input out₀ run₀ over₀ read₀ written₀ out run over read written =
-    (over ≡ run .over) × Progress (readingOf run₀) input out₀ (readingOf run) read out written
+    (over ≡ run .over) × Progress pairProgram 44 (readingOf run₀) input out₀ (readingOf run) read out written
 
 abbrev μ-loop : tie.MeasureT-loop
 μ-loop input out₀ run₀ over₀ read₀ written₀ out run over read written = length input - read
 
 loop-holds : tie.Need-loop-holds Inv-loop μ-loop
-loop-holds c = (refl, progress-none _ _ _ (c .before .before .pre .0) (c .before .before .pre .1))
+loop-holds c = (refl, progress-none pairProgram 44 1024 _ _ _ (c .before .before .pre .0) (c .before .before .pre .1))
 
 fed-line-requires : tie.Need-fed-line-requires Inv-loop μ-loop
 fed-line-requires c κs =
     let at = c .before .before .before .loop in
     let start = c .before .before .before .before .before .before in
     let h = c .before .before .loop-test .taken in
-    (sym (at .inv .0) ∙ not-true (at .over) (c .before .if1 .taken), h, progress-room _ _ _ (start .pre .0) (start .pre .1) _ _ _ _ (at .inv .1) h, start .pre .0)
+    (sym (at .inv .0) ∙ not-true (at .over) (c .before .if1 .taken), h, progress-room pairProgram 44 1024 _ _ _ (start .pre .0) (start .pre .1) _ _ _ _ (at .inv .1) h, start .pre .0)
 
 loop-less : tie.Need-loop-less Inv-loop μ-loop
 loop-less c =
@@ -40,7 +41,7 @@ loop-again c =
     let at = c .before .before .before .before .before .before .before .loop in
     let start = c .before .before .before .before .before .before .before .before .before .before in
     let e = c .before .before .before .fed-line .ensures in
-    (refl, progress-more _ _ _ (start .pre .0) (start .pre .1) _ _ _ _ (at .inv .1) _ _ _ _ (e .0 .0) (e .0 .1) (e .0 .2) (e .1 .0) (e .1 .1))
+    (refl, progress-more pairProgram 44 1024 _ _ _ (start .pre .0) (start .pre .1) _ _ _ _ (at .inv .1) _ _ _ _ (e .0 .0) (e .0 .1) (e .0 .2) (e .1 .0) (e .1 .1))
 
 same-length : tie.Need-same-length Inv-loop μ-loop
 same-length c = c .before .before .loop .inv .1 .long
@@ -50,8 +51,8 @@ returns c =
     let at = c .before .before .loop in
     let start = c .before .before .before .before .before in
     let over : at .run .over ≡ true = sym (at .inv .0) ∙ not-false (at .over) (c .if1 .left) in
-    let e = progress-over _ _ _ (start .pre .0) (start .pre .1) _ _ _ _ (at .inv .1) (worldOf (at .run .site)) (at .run .line) (ap (reading (worldOf (at .run .site)) (at .run .line)) over) in
-    (e .0, (e .1, progress-fits _ _ _ (start .pre .0) (start .pre .1) _ _ _ _ (at .inv .1)))
+    let e = progress-over pairProgram 44 1024 _ _ _ (start .pre .0) (start .pre .1) _ _ _ _ (at .inv .1) (worldOf (at .run .site)) (at .run .line) (ap (reading (worldOf (at .run .site)) (at .run .line)) over) in
+    (e .0, (e .1, progress-fits pairProgram 44 1024 _ _ _ (start .pre .0) (start .pre .1) _ _ _ _ (at .inv .1)))
 
 same-length-2 : tie.Need-same-length-2 Inv-loop μ-loop
 same-length-2 c = c .before .loop .inv .1 .long
@@ -59,8 +60,8 @@ same-length-2 c = c .before .loop .inv .1 .long
 returns-2 : tie.Need-returns-2 Inv-loop μ-loop
 returns-2 c =
     let start = c .before .before .before .before in
-    let e = progress-end _ _ _ (start .pre .0) (start .pre .1) _ _ _ _ (c .before .loop .inv .1) (c .loop-test .left) in
-    (e .0, (e .1, progress-fits _ _ _ (start .pre .0) (start .pre .1) _ _ _ _ (c .before .loop .inv .1)))
+    let e = progress-end pairProgram 44 1024 _ _ _ (start .pre .0) (start .pre .1) _ _ _ _ (c .before .loop .inv .1) (c .loop-test .left) in
+    (e .0, (e .1, progress-fits pairProgram 44 1024 _ _ _ (start .pre .0) (start .pre .1) _ _ _ _ (c .before .loop .inv .1)))
 
 pub fed-spec : {M : Type 1} → statement M
 fed-spec =

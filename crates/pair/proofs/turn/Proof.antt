@@ -2,9 +2,11 @@
 use mathlib.Core.Path.{ap, _∙_}
 use mathlib.Core.Bool.{not}
 use borrow.Author.Needs.{needs}
-use Rattle.script.specs.Feed.{Reading}
+use Rattle.rules.specs.World.{World}
+use Rattle.text.specs.Feed.{Reading}
+use Rattle.script.specs.Output.{pairProgram}
 use Rattle.pair.specs.Run.{readingOf}
-use Rattle.pair.proofs.TurnLaws.{end-next, end-put, end-more, part-put, part-more}
+use Rattle.text.proofs.TurnLaws.{end-next, end-put, end-more, part-put, part-more}
 use Rattle.pair.proofs.turn.Statement.{statement}
 use Rattle.pair.proofs.turn.Tie as tie
 
@@ -19,8 +21,8 @@ returns c =
     let a = c .before .before .before .before .before .before .before .args in
     let h = c .before .before .before .before .if1 .taken in
     let e = c .before .before .ended .ensures in (
-      end-next (readingOf (a .run)) (a .input .now) h,
-      (end-put (readingOf (a .run)) (a .input .now) h _ _ _ (e .0), (e .1, end-more (readingOf (a .run)) (a .input .now) h)),
+      end-next pairProgram (readingOf (a .run)) (a .input .now) h,
+      (end-put pairProgram (readingOf (a .run)) (a .input .now) h _ _ _ (e .0), (e .1, end-more pairProgram (readingOf (a .run)) (a .input .now) h)),
     )
 
 fed-requires : tie.Need-fed-requires
@@ -35,7 +37,7 @@ returns-2 c =
     let h = c .before .before .before .before .before .if1 .left in
     let e = c .before .before .before .fed .ensures in (
       e .0,
-      (part-put (readingOf (a .run)) (a .input .now) h _ _ _ (e .1 .0), (e .1 .1, ap (λ (r : Reading). not (r .over)) (e .0) ∙ part-more (readingOf (a .run)) (a .input .now) h)),
+      (part-put pairProgram (readingOf (a .run)) (a .input .now) h _ _ _ (e .1 .0), (e .1 .1, ap (λ (r : Reading World). not (r .over)) (e .0) ∙ part-more pairProgram (readingOf (a .run)) (a .input .now) h)),
     )
 
 pub turn-spec : {M : Type 1} → statement M

@@ -4,7 +4,8 @@ use mathlib.Core.Path.{sym, ap, _∙_}
 use native.Mathlib.Omega.{arith}
 use borrow.Author.Needs.{needs}
 use Rattle.lists.proofs.TestLaws.{cond-true, cond-false}
-use Rattle.script.specs.Pair.{isEmpty, perform, acknowledgeDone}
+use Rattle.text.specs.Line.{isEmpty}
+use Rattle.script.specs.Pair.{perform, acknowledgeDone}
 use Rattle.script.specs.Site.{worldOf}
 use Rattle.script.proofs.AckLaws.{acks-none, acks-some}
 use Rattle.script.proofs.link.acknowledge.Statement.{statement}

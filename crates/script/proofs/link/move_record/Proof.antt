@@ -11,7 +11,8 @@ use Rattle.lists.proofs.TestLaws.{join, and-false, cond-true, cond-false}
 use Rattle.rules.specs.World.{World}
 use Rattle.rules.specs.World as call
 use Rattle.rules.specs.Step.{step}
-use Rattle.script.specs.Pair.{isEmpty, ackBytes, done, perform, moveDone}
+use Rattle.text.specs.Line.{isEmpty}
+use Rattle.script.specs.Pair.{ackBytes, done, perform, moveDone}
 use Rattle.script.specs.Site.{worldOf}
 use Rattle.script.proofs.LinkLaws.{empty-link, full-link}
 use Rattle.script.proofs.link.move_record.Statement.{statement}
