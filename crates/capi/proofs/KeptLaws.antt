@@ -1,10 +1,10 @@
--- The calls that leave the packets and the block numbers as they are, the one that stores a packet, and the one that
--- stores a block number: what differs from the state lent is one of each at most. Assumes nothing.
+-- What differs from the state lent is one packet and one block number at most: nothing where a call keeps both, a packet
+-- where it stores one, a block number where it remembers one. Assumes nothing.
 use mathlib.Core.Path.{_≡_, refl, sym, ap, ap₂, _∙_}
 use mathlib.Core.List.{List}
 use mathlib.Core.Bool.{cond}
 use mathlib.Core.Logic.{⊎-elim}
-use Prim.Native.Nat.{ℕ, _-_, _≤_, _<_}
+use Prim.Native.Nat.{ℕ, _≤_, _<_}
 use native.Mathlib.Omega.{arith}
 use lib.Dec.{ltb}
 use lib.ListN.{length, getD, set}
@@ -12,32 +12,23 @@ use lib.Seq.{set-getD, set-out, getD-set-same}
 use borrow.Author.Tests.{ltb-true, ltb-false, eq-eqb, ne-eqb}
 use Rattle.lists.specs.Refusal.{pick}
 use Rattle.lists.proofs.TestLaws.{by-test, eq-or-ne}
-use Rattle.records.specs.declared.Record.{Record}
-use Rattle.records.proofs.ReadLaws.{on-ack}
 use Rattle.settings.specs.Range.{mostPackets, mostAllowance}
-use Rattle.detector.specs.Tick.{expired, ticked}
 use Rattle.queue.specs.declared.Packet.{Packet}
 use Rattle.queue.specs.Held.{noPacket, packetAt, added}
 use Rattle.rules.specs.declared.Primary.{Primary}
 use Rattle.rules.specs.declared.PrimaryReply.{PrimaryReply}
-use Rattle.rules.specs.PrimaryState.{isWritten, withWaiting}
-use Rattle.rules.specs.PrimaryWrites.{memoryWriteRefusal, memoryWriteReply, diskWriteRefusal, withBlockAppended, diskWriteState, diskWriteReply}
+use Rattle.rules.specs.PrimaryState.{isWritten}
+use Rattle.rules.specs.PrimaryWrites.{diskWriteRefusal, withBlockAppended, diskWriteState, diskWriteReply}
 use Rattle.rules.specs.Packets.{packetRefusal, packetReply}
-use Rattle.rules.specs.Checkpoint.{checkpointRefusal, checkpointState, checkpointReply}
-use Rattle.rules.specs.Stream.{drainCount, drainRefusal, drainReply, ackState, ackJudged, ackReply}
-use Rattle.rules.specs.PrimaryTick.{outstanding, primaryTickRefusal, primaryTickState, primaryTickReply}
 use Rattle.rules.proofs.ReplyLaws.{pick-cases}
 use Rattle.rules.proofs.PacketLaws.{packet-accepted}
+use Rattle.rules.proofs.QueueLaws.{Kept}
 
 -- the next state differs from the one lent in this packet and in this block number at most, as `store_one` asks
 abbrev pub OneDiffers : (lent next : Primary) (i j : ℕ) → Type 0
 OneDiffers lent next i j =
     (i < 64) × (next .queue .packets ≡ set (lent .queue .packets) i (packetAt (next .queue) i))
     × (j < 64) × (next .numbers ≡ set (lent .numbers) j (getD (next .numbers) j 0))
-
--- ---- calls that leave the packets and the block numbers
-abbrev pub Kept : (old new : Primary) → Type 0
-Kept old new = (new .queue ≡ old .queue) × (new .numbers ≡ old .numbers)
 
 -- by what the code has: the state read, and that of the reply
 pub kept-stores : (lent p made next : Primary) → p ≡ lent → Kept p made → next ≡ made → OneDiffers lent next 0 0
@@ -46,36 +37,7 @@ kept-stores lent p made next is k e =
     let n : next .numbers ≡ lent .numbers = ap (λ (x : Primary). x .numbers) e ∙ k .1 ∙ ap (λ (x : Primary). x .numbers) is in
     (omega arith, rw q (sym (set-getD (lent .queue .packets) 0 noPacket)), omega arith, rw n (sym (set-getD (lent .numbers) 0 0)))
 
-kept : (number : ℕ) (old new : Primary) → Kept old new → Kept old (pick number new old)
-kept number old new k = pick-cases (Kept old) number new old (λ z. k) (λ z. (refl, refl))
-
 module _ (p : Primary) where
-  pub memory-write-kept : (memory dirty page offset n : ℕ) → Kept p (memoryWriteReply p memory dirty page offset n .state)
-  unfolding memoryWriteReply
-  memory-write-kept memory dirty page offset n = kept (memoryWriteRefusal p memory dirty page offset n) p p (refl, refl)
-
-  pub checkpoint-kept : (memory dirty stream pages : ℕ) → Kept p (checkpointReply p memory dirty stream pages .state)
-  unfolding checkpointReply checkpointState
-  checkpoint-kept memory dirty stream pages = kept (checkpointRefusal p memory dirty stream pages) p (checkpointState p pages) (refl, refl)
-
-  pub drain-kept : (stream n destination : ℕ) → Kept p (drainReply p stream n destination .state)
-  unfolding drainReply
-  drain-kept stream n destination = kept (drainRefusal p stream) p (withWaiting p (p .waiting - drainCount p n destination)) (refl, refl)
-
-  pub tick-kept : Kept p (primaryTickReply p .state)
-  unfolding primaryTickReply primaryTickState
-  tick-kept =
-      let d = ticked (p .detector) (outstanding p) in
-      kept (primaryTickRefusal p) p (primaryTickState p)
-      (⊎-elim (λ e. rw e (refl, refl)) (λ e. rw e (⊎-elim (λ x. rw x (refl, refl)) (λ x. rw x (refl, refl)) (by-test (expired d)))) (by-test (p .alone)))
-
-  on-ack-kept : (r : Record) → Kept p (ackState p r)
-  on-ack-kept r = on-ack (Kept p) _ p r (λ e c q. (refl, refl)) (refl, refl)
-
-  pub ack-kept : (bytes : List ℕ) → Kept p (ackReply p bytes .state)
-  unfolding ackReply
-  ack-kept bytes = on-ack-kept (ackJudged p bytes)
-
   -- ---- a disk write: one block number is new, at the place of the next one
   disk-write-one : (disk stream block n : ℕ) → length (p .numbers) ≡ mostAllowance
       → OneDiffers p (diskWriteReply p disk stream block n .state) 0 (cond (ltb (p .blocks) mostAllowance) (p .blocks) 0)

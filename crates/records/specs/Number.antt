@@ -86,3 +86,7 @@ blocksDue = 20
 -- the port is above 3 (document 02, Job 6)
 abbrev pub noSuchPort : ℕ
 noSuchPort = 23
+
+-- the interval or the link rate of a trial is 0 (document 02, Job 12)
+abbrev pub noPlan : ℕ
+noPlan = 27

@@ -64,3 +64,6 @@ pub const BLOCKS_DUE: u64 = 20;
 
 // the port is above 3 (document 02, Job 6)
 pub const NO_SUCH_PORT: u64 = 23;
+
+// the interval or the link rate of a trial is 0 (document 02, Job 12)
+pub const NO_PLAN: u64 = 27;

@@ -10,6 +10,7 @@ pub mod PortLaws
 pub mod CheckpointLaws
 pub mod StreamLaws
 pub mod PrimaryTickLaws
+pub mod QueueLaws
 pub mod StandbyFacts
 pub mod JudgeLaws
 pub mod ReadLaws

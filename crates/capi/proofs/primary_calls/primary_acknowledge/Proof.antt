@@ -4,7 +4,8 @@ use mathlib.Core.Bool.{true, false}
 use borrow.Author.Tests.{not-true, not-false}
 use Rattle.capi.specs.PrimaryWords.{primaryWordsOk}
 use Rattle.capi.proofs.PrimaryWordLaws.{primary-many}
-use Rattle.capi.proofs.KeptLaws.{kept-stores, ack-kept}
+use Rattle.rules.proofs.QueueLaws.{ack-kept}
+use Rattle.capi.proofs.KeptLaws.{kept-stores}
 use Rattle.capi.proofs.DoneLaws.{primary-old, primary-new}
 use borrow.Author.Needs.{needs}
 use Rattle.capi.proofs.primary_calls.primary_acknowledge.Statement.{statement}

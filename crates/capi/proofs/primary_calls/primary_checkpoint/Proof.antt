@@ -4,7 +4,8 @@ use mathlib.Core.Bool.{true, false}
 use borrow.Author.Tests.{not-true, not-false}
 use Rattle.capi.specs.PrimaryWords.{primaryWordsOk}
 use Rattle.capi.proofs.PrimaryWordLaws.{primary-many}
-use Rattle.capi.proofs.KeptLaws.{kept-stores, checkpoint-kept}
+use Rattle.rules.proofs.QueueLaws.{checkpoint-kept}
+use Rattle.capi.proofs.KeptLaws.{kept-stores}
 use Rattle.capi.proofs.DoneLaws.{leaves-old, primary-old, leaves-new, primary-new}
 use borrow.Author.Needs.{needs}
 use Rattle.capi.proofs.primary_calls.primary_checkpoint.Statement.{statement}
