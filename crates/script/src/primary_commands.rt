@@ -1,7 +1,8 @@
-// The commands that are calls of the primary: w d s c t.
+// The commands that are calls of the primary: w d s c t; and its tick.
 ghost use mathlib.Core.Path.{_≡_};
 ghost use Prim.Native.Nat.{min};
-ghost use Rattle.rules.specs.Step.{atPrimary, stepped};
+ghost use Rattle.rules.specs.Step.{atPrimary, step, stepped};
+ghost use Rattle.rules.specs.World as call;
 ghost use Rattle.script.specs.declared.Command.the-variants.{Write, Disk, Send, Close, Take};
 ghost use Rattle.script.specs.Pair.{done, mostLent, perform};
 ghost use Rattle.script.specs.Site.{worldOf, doneOf};
@@ -116,4 +117,15 @@ pub fn take(s: Site) -> Performed
     let r = primary::packets::take(p.state, &mut held, PORT, &mut destination);
     p.held = held;
     replied(s, p, r)
+}
+
+// One tick of the primary.
+pub fn primary_ticked(s: Site) -> Site
+    ensures { λ r. ⌜ worldOf r ≡ step (worldOf s) call.primaryTick .next ⌝ }
+{
+    let mut p = s.primary;
+    let r = primary::tick::tick(p.state);
+    let state = r.state;
+    p.state = state;
+    with_primary(s, p)
 }

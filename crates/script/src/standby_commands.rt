@@ -1,4 +1,4 @@
-// The commands that are calls of the standby: f, and k with its three ticks, flush of all due and activation.
+// The commands that are calls of the standby: f, and k with its three ticks, flush of all due and activation, each of which is a call of its own too.
 ghost use mathlib.Core.Path.{_≡_};
 ghost use mathlib.Core.Bool.{true};
 ghost use Rattle.rules.specs.Step.{step, outcome};
@@ -39,7 +39,7 @@ pub fn flush(s: Site) -> Performed
 }
 
 // A flush of all due.
-fn flushed_all(s: Site) -> Site
+pub fn flushed_all(s: Site) -> Site
     ensures { λ r. ⌜ worldOf r ≡ step (worldOf s) (call.flush (worldOf s .standby .state .slots .due)) .next ⌝ }
 {
     let b = s.standby;
@@ -52,7 +52,7 @@ fn flushed_all(s: Site) -> Site
 }
 
 // One tick of the standby.
-fn ticked(s: Site) -> Site
+pub fn ticked(s: Site) -> Site
     ensures { λ r. ⌜ worldOf r ≡ step (worldOf s) call.standbyTick .next ⌝ }
 {
     let mut b = s.standby;
@@ -65,7 +65,7 @@ fn ticked(s: Site) -> Site
 }
 
 // Activation, the last call.
-fn activated(s: Site) -> Performed
+pub fn activated(s: Site) -> Performed
     ensures { λ r. ⌜ worldOf (r .site) ≡ step (worldOf s) call.activation .next ⌝ }
     ensures { λ r. ⌜ outcome (r .number) (r .value) ≡ step (worldOf s) call.activation .outcome ⌝ }
     ensures { λ r. ⌜ r .last ≡ true ⌝ }
