@@ -18,9 +18,13 @@ use Rattle.rules.specs.Step.{Outcome, Stepped, step, outcome}
 use Rattle.script.specs.declared.Command.{Command}
 use Rattle.script.specs.declared.Command.the-variants as command
 
--- "Settings: U 64, M 4, D 4, B 2, S 4, Q 256, L 1,024, T 3"
+-- "Settings: U 64, M 4, D 4, B 2, S 4, Q 256, L 1,024", and this T
+abbrev pub settingsWith : ℕ → Settings
+settingsWith t = record { u = 64; m = 4; d = 4; b = 2; s = 4; q = 256; l = 1024; t = t }
+
+-- "T 3"
 abbrev pub pairSettings : Settings
-pairSettings = record { u = 64; m = 4; d = 4; b = 2; s = 4; q = 256; l = 1024; t = 3 }
+pairSettings = settingsWith 3
 
 -- a processor state "all v"
 abbrev pub processorOf : ℕ → Processor
@@ -44,8 +48,11 @@ zeroBuffers g =
     }
 
 -- "all zeros at start"
+abbrev pub startedWith : ℕ → World
+startedWith t = startWorld (settingsWith t) (processorOf 0) (zeroBuffers (settingsWith t))
+
 abbrev pub pairStart : World
-pairStart = startWorld pairSettings (processorOf 0) (zeroBuffers pairSettings)
+pairStart = startedWith 3
 
 -- the world after a command, what is printed of it, and whether it is the last
 pub record Done : Type 0 where

@@ -50,6 +50,12 @@ pub struct Site {
     pub unread: u64,
 }
 
+// What start gives: the site, and the number of its refusal, 0 where it is accepted.
+pub struct StartedSite {
+    pub site: Site,
+    pub number: u64,
+}
+
 // What a read at the standby gives: its box after it, the answer, and the reply buffer of an ACK's bytes.
 pub struct StandbyRead {
     pub standby: StandbyBox,

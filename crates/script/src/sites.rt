@@ -2,20 +2,25 @@
 ghost use mathlib.Core.Path.{_≡_};
 ghost use lib.ListN.{replicate};
 ghost use Rattle.rules.specs.Step.{atPrimary, atStandby};
-ghost use Rattle.script.specs.Pair.{pairSettings, pairStart};
+ghost use Rattle.rules.specs.World.{startNumber};
+ghost use Rattle.script.specs.Pair.{pairStart, settingsWith, startedWith, zeroBuffers};
 ghost use Rattle.script.specs.Site.{primaryOf, standbyOf, worldOf};
 use crate::PrimaryBox;
 use crate::STREAM_BYTES;
 use crate::Site;
 use crate::StandbyBox;
+use crate::StartedSite;
 use records::AREA_LENGTH;
 use records::PROCESSOR_BYTES;
 use rules::Primary;
 use settings::Settings;
 
-// "Settings: U 64, M 4, D 4, B 2, S 4, Q 256, L 1,024, T 3".
-fn pair_settings() -> Settings
-    ensures { λ r. ⌜ r ≡ pairSettings ⌝ }
+// T, which `pair` is started with.
+const PAIR_T: u32 = 3;
+
+// "Settings: U 64, M 4, D 4, B 2, S 4, Q 256, L 1,024", and this T.
+fn settings_with(t: u32) -> Settings
+    ensures { λ r. ⌜ r ≡ settingsWith t ⌝ }
 {
     Settings {
         u: 64,
@@ -25,7 +30,7 @@ fn pair_settings() -> Settings
         s: 4,
         q: 256,
         l: STREAM_BYTES,
-        t: 3,
+        t,
     }
 }
 
@@ -52,9 +57,10 @@ fn opened(primary: Primary, dirty: [u64; 1], standby: StandbyBox) -> Site
     }
 }
 
-// Both ends started at the settings of `pair`, all zeros.
-pub fn started() -> Site
-    ensures { λ r. ⌜ worldOf r ≡ pairStart ⌝ }
+// Both ends started at the settings of `pair` with this T, all zeros: accepted or refused.
+pub fn started_with(t: u32) -> StartedSite
+    ensures { λ r. ⌜ worldOf (r .site) ≡ startedWith t ⌝ }
+    ensures { λ r. ⌜ r .number ≡ startNumber (settingsWith t) (zeroBuffers (settingsWith t)) ⌝ }
 {
     let zeros = [0u8; 256];
     let stream = [0u8; STREAM_BYTES];
@@ -64,7 +70,7 @@ pub fn started() -> Site
     let mut marks = [0u64; 1];
     let mut area = [0u8; AREA_LENGTH];
     let r = ends::start::start(
-        pair_settings(),
+        settings_with(t),
         [0u8; PROCESSOR_BYTES],
         &zeros,
         &zeros,
@@ -88,7 +94,20 @@ pub fn started() -> Site
         blocks: zeros,
         area,
     };
-    opened(r.primary, dirty, standby)
+    let site = opened(r.primary, dirty, standby);
+    StartedSite {
+        site,
+        number: r.number,
+    }
+}
+
+// Both ends started at the settings of `pair`, all zeros.
+pub fn started() -> Site
+    ensures { λ r. ⌜ worldOf r ≡ pairStart ⌝ }
+{
+    let r = started_with(PAIR_T);
+    let site = r.site;
+    site
 }
 
 // The site with another primary's box.
