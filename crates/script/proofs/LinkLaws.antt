@@ -1,16 +1,18 @@
--- Laws of the link: a record drained into the whole of its array, and what a read leaves of it and of the unread ACKs. Assumes nothing.
+-- Laws of the link: bytes drained behind those in it, a record drained into the whole of it, and what a read leaves of it and of the unread ACKs. Assumes nothing.
 use Prim.Native.Nat.{ℕ, _+_, _-_, _≤_, _<_, min}
 use mathlib.Core.Path.{_≡_, refl, sym, ap, ap₂, _∙_}
 use mathlib.Core.Logic.{⊎-elim}
 use mathlib.Core.Bool.{true, false, cond}
 use mathlib.Core.List.{List, _++_, append-nil}
+use native.Mathlib.Nat.{le-refl}
 use native.Mathlib.Omega.{arith}
 use lib.Dec.{eqb}
 use lib.ListN.{length, take, drop, replicate, length-take, length-replicate}
 use lib.Seq.{length-take-le, take-all, take-length}
 use borrow.Author.Tests.{eq-eqb, ne-eqb}
+use borrow.Rule.Slice.PartMut.{putMid, midOf, mid-len}
 use Rattle.lists.specs.Part.{part, put, removed}
-use Rattle.lists.proofs.PartLaws.{length-part, part-zero, put-whole, take-put-front, take-removed}
+use Rattle.lists.proofs.PartLaws.{length-part, part-zero, part-back-front, put-none, put-whole, take-put-front, take-put-end, take-removed}
 use Rattle.lists.proofs.TestLaws.{and-false, eq-or-ne, lt-or-ge, cond-true, pick-refused}
 use Rattle.records.specs.declared.Record.{Record}
 use Rattle.records.specs.declared.Record.the-variants.{Page, Block, State, Commit, Ack, Short, Refused}
@@ -40,22 +42,76 @@ use Rattle.script.specs.declared.StandbyBox.{StandbyBox}
 use Rattle.script.specs.declared.Site.{Site}
 use Rattle.script.specs.declared.StandbyRead.{StandbyRead}
 use Rattle.text.specs.Line.{isEmpty}
-use Rattle.script.specs.Pair.{firstRecordLength, drained, done, ackBytes}
-use Rattle.script.specs.Site.{primaryOf, standbyOf, acksBetween, worldOf, doneOf, linkBytes, isCommit, boxLent, standbyRead}
+use Rattle.script.specs.Pair.{firstRecordLength, drained, done, linkBytes, linkRoom, drainedBytes, ackBytes}
+use Rattle.script.specs.Site.{primaryOf, standbyOf, acksBetween, worldOf, doneOf, isCommit, boxLent, standbyRead}
 use Rattle.script.proofs.AckLaws.{take-between, acks-next, ack-used, acks-used}
+
+-- ---- what a drain moves, and that all of it reaches the destination, whatever that held
+
+-- no more waits than the stream has
+waits : (p : Primary) (stream : ℕ) → drainRefusal p stream ≡ 0 → p .waiting ≤ stream
+waits p stream z = let f = drain-accepted p stream z in omega (arith, primary-facts p (f .ok) .waiting, f .stream-is)
+
+module _ (p : Primary) (stream : List ℕ) (n room : ℕ) where
+  abbrev moves : ℕ
+  moves = drainReply p (length stream) n room .value
+
+  -- no more leaves than the stream has, or fits the destination
+  moves-low : (moves ≤ length stream) × (moves ≤ room)
+  unfolding drainReply
+  moves-low =
+      ⊎-elim
+      (λ (z : drainRefusal p (length stream) ≡ 0). let h = waits p (length stream) z in rw z (omega arith, omega arith))
+      (λ (z : drainRefusal p (length stream) ≡ 0 → ⊥). rw (pick-refused (drainRefusal p (length stream)) (drainCount p n room) 0 z) (omega arith, omega arith))
+      (eq-or-ne (drainRefusal p (length stream)) 0)
+
+  pub drain-within : moves ≤ room
+  drain-within = moves-low .1
+
+  pub length-drained : length (take moves stream) ≡ moves
+  length-drained = length-take-le moves stream (moves-low .0)
+
+  pub drain-puts : (destination : List ℕ) → length destination ≡ room → drainDestination p stream n destination ≡ put destination 0 (take moves stream)
+  unfolding drainReply drainDestination
+  drain-puts destination e =
+      ⊎-elim
+      (λ (z : drainRefusal p (length stream) ≡ 0). rw (z, e))
+      (λ (z : drainRefusal p (length stream) ≡ 0 → ⊥).
+      pick-refused _ _ _ z
+      ∙ sym (put-none destination 0)
+      ∙ ap (λ (k : ℕ). put destination 0 (take k stream)) (sym (pick-refused (drainRefusal p (length stream)) (drainCount p n room) 0 z)))
+      (eq-or-ne (drainRefusal p (length stream)) 0)
+
+  -- what reaches the link
+  pub drain-gives : (destination : List ℕ) → length destination ≡ room → take moves (drainDestination p stream n destination) ≡ take moves stream
+  drain-gives destination e = ap (take moves) (drain-puts destination e) ∙ take-put-front destination (take moves stream) moves length-drained
+
+-- ---- a drain into what lies behind the first k bytes of a link
+module _ (p : Primary) (stream link : List ℕ) (n k : ℕ) (h : k ≤ length link) where
+  abbrev behind : List ℕ
+  behind = midOf k (length link - k) link
+
+  length-behind : length behind ≡ length link - k
+  length-behind = mid-len k (length link) link (le-refl (length link))
+
+  pub drain-behind : (r : PrimaryReply) (left after : List ℕ)
+      → (r ≡ drainReply p (length stream) n (length behind))
+      × ((left ≡ drainStream p stream n (length behind))
+      × (after ≡ drainDestination p stream n behind))
+      → (r ≡ drainReply p (length stream) n (length link - k))
+      × ((left ≡ drainStream p stream n (length link - k))
+      × (putMid k (length link - k) link after ≡ put link k (take (r .value) stream)))
+  drain-behind r left after e =
+      let a : r ≡ drainReply p (length stream) n (length link - k) = e .0 ∙ ap (drainReply p (length stream) n) length-behind in
+      let b : left ≡ drainStream p stream n (length link - k) = e .1 .0 ∙ ap (drainStream p stream n) length-behind in
+      let c : after ≡ put behind 0 (take (r .value) stream)
+      = e .1 .1 ∙ drain-puts p stream n (length link - k) behind length-behind ∙ ap (λ (x : PrimaryReply). put behind 0 (take (x .value) stream)) (sym a) in
+      (a, (b, part-back-front link k after (take (r .value) stream) h c))
 
 -- ---- a drain into a destination at least as long as the stream is a drain into one of n bytes
 module _ (p : Primary) (stream : List ℕ) (n : ℕ) where
-  -- no more leaves than waits
-  waits : drainRefusal p (length stream) ≡ 0 → p .waiting ≤ length stream
-  waits z = let f = drain-accepted p (length stream) z in omega (arith, primary-facts p (f .ok) .waiting, f .stream-is)
-
   count-same : (room : ℕ) → length stream ≤ room → drainRefusal p (length stream) ≡ 0 → drainCount p n room ≡ drainCount p n n
-  count-same room h z = omega (arith, waits z)
-
-  -- what reaches the link
-  given : (destination : List ℕ) (c : ℕ) → c ≤ length stream → take c (put destination 0 (take c stream)) ≡ take c stream
-  given destination c h = take-put-front destination (take c stream) c (length-take-le c stream h)
+  count-same room h z = omega (arith, waits p (length stream) z)
 
   module _ (room : ℕ) (h : length stream ≤ room) where
     pub drain-reply-same : drainReply p (length stream) n room ≡ drainReply p (length stream) n n
@@ -76,19 +132,17 @@ module _ (p : Primary) (stream : List ℕ) (n : ℕ) where
 
   pub drained-same : (d e : List ℕ) → length stream ≤ length d → length e ≡ n
       → take (drainReply p (length stream) n (length d) .value) (drainDestination p stream n d) ≡ take (drainReply p (length stream) n (length e) .value) (drainDestination p stream n e)
-  unfolding drainReply drainDestination
   drained-same d e h k =
-      ⊎-elim
-      (λ (z : drainRefusal p (length stream) ≡ 0).
-      let w = waits z in
-      let c : drainCount p n (length d) ≡ drainCount p n (length e) = omega arith in
-      rw (z, c, given d (drainCount p n (length e)) (omega arith), given e (drainCount p n (length e)) (omega arith)))
-      (λ (z : drainRefusal p (length stream) ≡ 0 → ⊥). rw (pick-refused (drainRefusal p (length stream)) (drainCount p n (length d)) 0 z, pick-refused (drainRefusal p (length stream)) (drainCount p n (length e)) 0 z))
-      (eq-or-ne (drainRefusal p (length stream)) 0)
+      let same : drainReply p (length stream) n (length d) ≡ drainReply p (length stream) n (length e)
+      = drain-reply-same (length d) h ∙ ap (drainReply p (length stream) n) (sym k) in
+      drain-gives p stream n (length d) d refl
+      ∙ ap (λ (r : PrimaryReply). take (r .value) stream) same
+      ∙ sym (drain-gives p stream n (length e) e refl)
 
 -- ---- the bytes in the link
-module _ (s : Site) (long : length (s .link) ≡ 1024) where
-  length-link : length (take (s .linked) (s .link)) ≡ min (s .linked) 1024
+module _ (s : Site) (long : length (s .link) ≡ 2048) where
+  pub length-link : length (worldOf s .link) ≡ min (s .linked) linkBytes
+  unfolding worldOf
   length-link = length-take (s .linked) (s .link) ∙ ap (min (s .linked)) long
 
   pub empty-link : s .linked ≡ 0 → isEmpty (worldOf s .link) ≡ true
@@ -100,46 +154,30 @@ module _ (s : Site) (long : length (s .link) ≡ 1024) where
   full-link z = ne-eqb (length (take (s .linked) (s .link))) 0 (λ e. z (omega (arith, length-link)))
 
   -- a record drained into all of it
-  pub drain-record : (r : PrimaryReply) (stream link : List ℕ) → s .linked ≡ 0 → length (s .primary .stream) ≡ 1024
-      → r ≡ drainReply (s .primary .state) (length (s .primary .stream)) (firstRecordLength (worldOf s)) (length (s .link))
-      → stream ≡ drainStream (s .primary .state) (s .primary .stream) (firstRecordLength (worldOf s)) (length (s .link))
-      → link ≡ drainDestination (s .primary .state) (s .primary .stream) (firstRecordLength (worldOf s)) (s .link)
-      → worldOf (record {
-        primary = record { state = r .state; memory = s .primary .memory; disk = s .primary .disk; dirty = s .primary .dirty; held = s .primary .held; stream = stream };
-        standby = s .standby;
-        link = link;
-        linked = r .value;
-        unread = s .unread;
-      }) ≡ drained (worldOf s)
+  pub drain-record : s .linked ≡ 0 → length (s .primary .stream) ≡ 1024 → drainedBytes (firstRecordLength (worldOf s)) (worldOf s) ≡ drained (worldOf s)
   unfolding worldOf step
-  drain-record r stream link z l er es el =
+  drain-record z l =
       let p = s .primary in
       let n = firstRecordLength (worldOf s) in
-      let d : List ℕ = replicate n 0 in
-      let k : length d ≡ n = length-replicate n 0 in
-      let h : length (p .stream) ≤ length (s .link) = omega arith in
-      let a : r ≡ drainReply (p .state) (length (p .stream)) n (length d)
-      = er ∙ drain-reply-same (p .state) (p .stream) n (length (s .link)) h ∙ ap (drainReply (p .state) (length (p .stream)) n) (sym k) in
-      let b : stream ≡ drainStream (p .state) (p .stream) n (length d)
-      = es ∙ drain-stream-same (p .state) (p .stream) n (length (s .link)) h ∙ ap (drainStream (p .state) (p .stream) n) (sym k) in
-      let g : take (r .value) link ≡ take (s .linked) (s .link) ++ take (drainReply (p .state) (length (p .stream)) n (length d) .value) (drainDestination (p .state) (p .stream) n d)
-      = ap₂ (λ (x : PrimaryReply) (y : List ℕ). take (x .value) y) er el
-      ∙ drained-same (p .state) (p .stream) n (s .link) d h k
-      ∙ ap (λ (m : ℕ). take m (s .link) ++ take (drainReply (p .state) (length (p .stream)) n (length d) .value) (drainDestination (p .state) (p .stream) n d)) (sym z) in
-      let e : worldOf (record {
-        primary = record { state = r .state; memory = p .memory; disk = p .disk; dirty = p .dirty; held = p .held; stream = stream };
-        standby = s .standby;
-        link = link;
-        linked = r .value;
-        unread = s .unread;
-      }) ≡ step (worldOf s) (call.drain n d) .next
+      let d : List ℕ = replicate (linkRoom (worldOf s)) 0 in
+      let e : List ℕ = replicate n 0 in
+      let k : length e ≡ n = length-replicate n 0 in
+      let h : length (p .stream) ≤ length d = omega (arith, length-link, length-replicate {A = ℕ} (linkRoom (worldOf s)) 0) in
+      let a : drainReply (p .state) (length (p .stream)) n (length d) ≡ drainReply (p .state) (length (p .stream)) n (length e)
+      = drain-reply-same (p .state) (p .stream) n (length d) h ∙ ap (drainReply (p .state) (length (p .stream)) n) (sym k) in
+      let b : drainStream (p .state) (p .stream) n (length d) ≡ drainStream (p .state) (p .stream) n (length e)
+      = drain-stream-same (p .state) (p .stream) n (length d) h ∙ ap (drainStream (p .state) (p .stream) n) (sym k) in
+      let g : take (drainReply (p .state) (length (p .stream)) n (length d) .value) (drainDestination (p .state) (p .stream) n d)
+      ≡ take (drainReply (p .state) (length (p .stream)) n (length e) .value) (drainDestination (p .state) (p .stream) n e)
+      = drained-same (p .state) (p .stream) n d e h k in
+      let same : step (worldOf s) (call.drain n d) .next ≡ step (worldOf s) (call.drain n e) .next
       = λ i. record {
         primary = record { state = a i .state; memory = p .memory; disk = p .disk; dirty = p .dirty; held = p .held; stream = b i };
         standby = standbyOf (s .standby);
-        link = g i;
+        link = take (s .linked) (s .link) ++ g i;
         acks = acksBetween (s .unread) (s .standby .state .received);
       } in
-      e ∙ sym (cond-true _ _ _ (empty-link z))
+      same ∙ sym (cond-true _ _ _ (empty-link z))
 
 -- ---- a read
 
@@ -221,18 +259,61 @@ module _ (b : StandbyBox) (bytes : List ℕ) (r : StandbyAnswer) (answer-is : r 
       ∙ reply-is (b .state) (boxLent b) bytes (replicate ackBytes 0) (length-replicate {A = ℕ} ackBytes 0)
       ∙ ap (λ (x : StandbyAnswer). cond (isCommit (x .answer)) (ackRecord (x .state .received)) (replicate ackBytes 0)) (sym answer-is)
 
--- ---- a read of all that is in the link
-module _ (s : Site) (long : length (s .link) ≡ 1024) (k : ℕ) (count : k ≡ min (s .linked) linkBytes) where
+-- ---- the first k bytes of the link: all that is in it
+module _ (s : Site) (long : length (s .link) ≡ 2048) (k : ℕ) (count : k ≡ min (s .linked) linkBytes) where
   inside : k ≤ length (s .link)
   inside = omega arith
 
   take-link : take k (s .link) ≡ take (s .linked) (s .link)
   take-link =
       ⊎-elim
-      (λ (h : s .linked < 1024). let e : k ≡ s .linked = omega arith in ap (λ (n : ℕ). take n (s .link)) e)
-      (λ (h : 1024 ≤ s .linked). take-all k (s .link) (omega arith) ∙ sym (take-all (s .linked) (s .link) (omega arith)))
-      (lt-or-ge (s .linked) 1024)
+      (λ (h : s .linked < 2048). let e : k ≡ s .linked = omega arith in ap (λ (n : ℕ). take n (s .link)) e)
+      (λ (h : 2048 ≤ s .linked). take-all k (s .link) (omega arith) ∙ sym (take-all (s .linked) (s .link) (omega arith)))
+      (lt-or-ge (s .linked) 2048)
 
+  -- ---- a drain behind them
+  module _ (n : ℕ) (r : PrimaryReply) (reply-of : r ≡ drainReply (s .primary .state) (length (s .primary .stream)) n (length (s .link) - k)) where
+    -- it fits what is free
+    pub drain-fits : k + r .value ≤ 2048
+    drain-fits =
+        let h = drain-within (s .primary .state) (s .primary .stream) n (length (s .link) - k) in
+        let e : r .value ≡ drainReply (s .primary .state) (length (s .primary .stream)) n (length (s .link) - k) .value = ap (λ (x : PrimaryReply). x .value) reply-of in
+        omega (arith, inside)
+
+    pub drain-bytes : (stream link : List ℕ)
+        → stream ≡ drainStream (s .primary .state) (s .primary .stream) n (length (s .link) - k)
+        → link ≡ put (s .link) k (take (r .value) (s .primary .stream))
+        → worldOf (record {
+          primary = record { state = r .state; memory = s .primary .memory; disk = s .primary .disk; dirty = s .primary .dirty; held = s .primary .held; stream = stream };
+          standby = s .standby;
+          link = link;
+          linked = k + r .value;
+          unread = s .unread;
+        }) ≡ drainedBytes n (worldOf s)
+    unfolding worldOf step
+    drain-bytes stream link es el =
+        let p = s .primary in
+        let d : List ℕ = replicate (linkRoom (worldOf s)) 0 in
+        let e : length (s .link) - k ≡ length d = omega (arith, length-link s long, length-replicate {A = ℕ} (linkRoom (worldOf s)) 0) in
+        let a : r ≡ drainReply (p .state) (length (p .stream)) n (length d) = reply-of ∙ ap (drainReply (p .state) (length (p .stream)) n) e in
+        let b : stream ≡ drainStream (p .state) (p .stream) n (length d) = es ∙ ap (drainStream (p .state) (p .stream) n) e in
+        let v : length (take (r .value) (p .stream)) ≡ r .value
+        = ap (λ (x : PrimaryReply). length (take (x .value) (p .stream))) a
+        ∙ length-drained (p .state) (p .stream) n (length d)
+        ∙ ap (λ (x : PrimaryReply). x .value) (sym a) in
+        let g : take (k + r .value) link ≡ take (s .linked) (s .link) ++ take (drainReply (p .state) (length (p .stream)) n (length d) .value) (drainDestination (p .state) (p .stream) n d)
+        = ap₂ (λ (m : ℕ) (l : List ℕ). take (k + m) l) (sym v) el
+        ∙ take-put-end (s .link) k (take (r .value) (p .stream)) inside
+        ∙ ap₂ (λ (x y : List ℕ). x ++ y) take-link
+        (ap (λ (x : PrimaryReply). take (x .value) (p .stream)) a ∙ sym (drain-gives (p .state) (p .stream) n (length d) d refl)) in
+        λ i. record {
+          primary = record { state = a i .state; memory = p .memory; disk = p .disk; dirty = p .dirty; held = p .held; stream = b i };
+          standby = standbyOf (s .standby);
+          link = g i;
+          acks = acksBetween (s .unread) (s .standby .state .received);
+        }
+
+  -- ---- a read of them
   module _ (bytes : List ℕ) (given-is : bytes ≡ part 0 k (s .link)) (d : StandbyRead) (read-is : d ≡ standbyRead (s .standby) bytes) (used : ℕ) (used-is : used ≡ usedOf (d .answer)) where
     pub used-low : used ≤ k
     unfolding standbyRead

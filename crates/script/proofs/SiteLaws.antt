@@ -34,6 +34,7 @@ pub record Lengths (s : Site) : Type 0 where
   pub marks : 1 ≡ length (s .standby .marks)
   pub blocks : 256 ≡ length (s .standby .blocks)
   pub area : 8 ≡ length (s .standby .area)
+  pub link : 2048 ≡ length (s .link)
 
 -- of a parameter s, where c is the function's start: `lengths (c .args .s) _ (c .good .0)`
 pub lengths : (s : Site) (vs : List Val) → Is (row the-type) s vs → Lengths s
@@ -46,6 +47,7 @@ lengths s vs g =
       marks = sym (length-unmapped ℕ (s .standby .marks) _ (b .0 .1 .0 .1));
       blocks = sym (length-unmapped ℕ (s .standby .blocks) _ (b .1 .0 .1 .0 .1));
       area = sym (length-unmapped ℕ (s .standby .area) _ (b .1 .1 .0 .1 .0 .1));
+      link = sym (length-unmapped ℕ (s .link) _ (g .1 .1 .1 .1 .0 .1 .0 .1));
     }
 
 -- ---- calls of the standby that keep the last received epoch

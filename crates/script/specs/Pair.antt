@@ -1,5 +1,5 @@
 -- What each command does: the two ends at the settings of `pair`, and their link. Assumes nothing.
-use Prim.Native.Nat.{ℕ, _+_, _*_, min}
+use Prim.Native.Nat.{ℕ, _+_, _-_, _*_, min}
 use mathlib.Core.Bool.{Bool, true, false, cond, _&&_}
 use mathlib.Core.List.{List, [], _∷_}
 use lib.Dec.{eqb}
@@ -83,6 +83,18 @@ abbrev pub drained : World → World
 drained w =
     let n = firstRecordLength w in
     cond (isEmpty (w .link)) (step w (call.drain n (replicate n 0)) .next) w
+
+-- the bytes of the link: what is left on it and all that the stream may hold
+abbrev pub linkBytes : ℕ
+linkBytes = 2 * pairSettings .l
+
+-- what is free of it
+abbrev pub linkRoom : World → ℕ
+linkRoom w = linkBytes - length (w .link)
+
+-- the link, with up to n bytes drained into what is free of it
+abbrev pub drainedBytes : ℕ → World → World
+drainedBytes n w = step w (call.drain n (replicate (linkRoom w) 0)) .next
 
 abbrev pub ackBytes : ℕ
 ackBytes = recordLength (pairSettings .u) ACK

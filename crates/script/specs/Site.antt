@@ -15,7 +15,7 @@ use Rattle.script.specs.declared.StandbyBox.{StandbyBox}
 use Rattle.script.specs.declared.Site.{Site}
 use Rattle.script.specs.declared.StandbyRead.{StandbyRead}
 use Rattle.script.specs.declared.Performed.{Performed}
-use Rattle.script.specs.Pair.{Done, ackBytes, pairSettings}
+use Rattle.script.specs.Pair.{Done, ackBytes}
 
 abbrev pub primaryOf : PrimaryBox → PrimaryEnd
 primaryOf p = record { state = p .state; memory = p .memory; disk = p .disk; dirty = p .dirty; held = p .held; stream = p .stream }
@@ -47,10 +47,6 @@ abbrev pub doneOf : Performed → Done
 doneOf p = record { next = worldOf (p .site); outcome = outcome (p .number) (p .value); last = p .last }
 
 -- ---- a read at the standby's box
-
--- the bytes of the link: all that the stream may hold
-abbrev pub linkBytes : ℕ
-linkBytes = pairSettings .l
 
 -- a COMMIT was accepted
 abbrev pub isCommit : Answer → Bool

@@ -13,10 +13,10 @@ pub mod printing;
 pub mod sites;
 pub mod standby_commands;
 
-// L, the bytes of the stream, and the bytes of the link: all that a drain may move fits it.
+// L, the bytes of the stream, and the bytes of the link: what is left on it and all that waits fit it.
 pub const STREAM_BYTES: usize = 1024;
 
-pub const LINK_BYTES: usize = STREAM_BYTES;
+pub const LINK_BYTES: usize = 2 * STREAM_BYTES;
 
 // The primary's box: its state and every buffer that its calls are lent.
 pub struct PrimaryBox {

@@ -1,20 +1,22 @@
-// The commands that move what travels between the boxes: m and a.
+// What travels between the boxes: the commands m and a, and a drain and a read by themselves.
 ghost use mathlib.Core.Path.{_≡_};
 ghost use mathlib.Core.Bool.{false, cond};
-ghost use Prim.Native.Nat.{_+_, _<_, _≤_, _^_, min};
+ghost use Prim.Native.Nat.{_+_, _-_, _<_, _≤_, _^_, min};
 ghost use lib.Dec.{eqb};
-ghost use lib.ListN.{length, replicate};
+ghost use lib.ListN.{length, replicate, take};
 ghost use Rattle.lists.specs.LittleEndian.{leAt};
+ghost use Rattle.lists.specs.Part.{put};
 ghost use Rattle.records.specs.Kind.{headerLength};
 ghost use Rattle.records.specs.Write.{ackRecord};
 ghost use Rattle.records.specs.Number.{nothingFree};
 ghost use Rattle.rules.specs.Reply.{numberOf, valueOf, usedOf};
 ghost use Rattle.rules.specs.Step.{outcome, step};
+ghost use Rattle.rules.specs.Stream.{drainReply, drainStream};
 ghost use Rattle.rules.specs.World as call;
 ghost use Rattle.script.specs.declared.Command.the-variants.{Move, Acknowledge};
-ghost use Rattle.script.specs.Pair.{ackBytes, done, drained, perform, refused};
+ghost use Rattle.script.specs.Pair.{ackBytes, done, drained, drainedBytes, linkBytes, perform, refused};
 ghost use Rattle.records.specs.Kind.{isCommit as isCommitKind};
-ghost use Rattle.script.specs.Site.{doneOf, isCommit, linkBytes, standbyRead, worldOf};
+ghost use Rattle.script.specs.Site.{doneOf, isCommit, standbyRead, worldOf};
 use crate::LINK_BYTES;
 use crate::Performed;
 use crate::Site;
@@ -25,6 +27,8 @@ use records::EPOCH_RECORD;
 use records::HEADER_LENGTH;
 use records::number::NOTHING_FREE;
 use rules::Answer;
+use rules::Primary;
+use rules::PrimaryReply;
 
 // The value of an accepted COMMIT: its kind, of either width.
 const COMMIT_VALUE: u64 = records::COMMIT as u64;
@@ -96,19 +100,41 @@ fn first_length(stream: &[u8]) -> usize
     HEADER_LENGTH + lists::field::get2(stream, 0) as usize
 }
 
-// The link, with a record drained into it where it is empty.
-fn drain_record(s: Site) -> Site
-    ensures { λ r. ⌜ worldOf r ≡ drained (worldOf s) ⌝ }
+// The bytes in the link.
+pub fn in_link(linked: usize) -> usize
+    ensures { λ r. ⌜ r ≡ min linked linkBytes ⌝ }
 {
-    let linked = s.linked;
+    if LINK_BYTES < linked {
+        return LINK_BYTES;
+    }
+    linked
+}
+
+// A drain of up to n bytes into the link behind its first count bytes.
+fn drain_behind(
+    p: Primary,
+    stream: &mut [u8],
+    n: usize,
+    link: &mut [u8],
+    count: usize,
+) -> PrimaryReply
+    requires { ⌜ count ≤ length (now link) ⌝ }
+    ensures { λ r. ⌜ r ≡ drainReply p (length (now (stream .entry))) n (length (now (link .entry)) - count) ⌝ }
+    ensures { λ _. ⌜ now (stream .exit) ≡ drainStream p (now (stream .entry)) n (length (now (link .entry)) - count) ⌝ }
+    ensures { λ r. ⌜ now (link .exit) ≡ put (now (link .entry)) count (take (r .value) (now (stream .entry))) ⌝ }
+{
+    primary::stream::drain(p, stream, n, &mut link[count..])
+}
+
+// Drains up to n bytes, no more than are free of the link.
+pub fn drain_bytes(s: Site, n: usize) -> Site
+    ensures { λ r. ⌜ worldOf r ≡ drainedBytes n (worldOf s) ⌝ }
+{
     let p = s.primary;
     let mut stream = p.stream;
     let mut link = s.link;
-    if linked != 0 {
-        return s;
-    }
-    let n = first_length(&stream);
-    let r = primary::stream::drain(p.state, &mut stream, n, &mut link);
+    let count = in_link(s.linked);
+    let r = drain_behind(p.state, &mut stream, n, &mut link, count);
     let state = r.state;
     let drained = r.value as usize;
     let mut end = p;
@@ -117,18 +143,22 @@ fn drain_record(s: Site) -> Site
     let mut next = s;
     next.primary = end;
     next.link = link;
-    next.linked = drained;
+    next.linked = count + drained;
     next
 }
 
-// The bytes in the link.
-fn in_link(linked: usize) -> usize
-    ensures { λ r. ⌜ r ≡ min linked linkBytes ⌝ }
+// The link, with a record drained into it where it is empty.
+fn drain_record(s: Site) -> Site
+    ensures { λ r. ⌜ worldOf r ≡ drained (worldOf s) ⌝ }
 {
-    if LINK_BYTES < linked {
-        return LINK_BYTES;
+    let linked = s.linked;
+    let p = s.primary;
+    let stream = p.stream;
+    if linked != 0 {
+        return s;
     }
-    linked
+    let n = first_length(&stream);
+    drain_bytes(s, n)
 }
 
 // Whether the value of an accepted read is that of a COMMIT.
@@ -193,7 +223,7 @@ fn read_reply(b: StandbyBox, bytes: &[u8]) -> StandbyRead
 }
 
 // Reads the record in the link: what it used leaves the link.
-fn read_link(s: Site) -> Performed
+pub fn read_link(s: Site) -> Performed
     ensures { λ r. ⌜ doneOf r ≡ done (step (worldOf s) (call.read (length (worldOf s .link)) (replicate ackBytes 0))) ⌝ }
 {
     let mut link = s.link;

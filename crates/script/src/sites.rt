@@ -5,6 +5,7 @@ ghost use Rattle.rules.specs.Step.{atPrimary, atStandby};
 ghost use Rattle.rules.specs.World.{startNumber};
 ghost use Rattle.script.specs.Pair.{pairStart, settingsWith, startedWith, zeroBuffers};
 ghost use Rattle.script.specs.Site.{primaryOf, standbyOf, worldOf};
+use crate::LINK_BYTES;
 use crate::PrimaryBox;
 use crate::STREAM_BYTES;
 use crate::Site;
@@ -36,7 +37,7 @@ fn settings_with(t: u32) -> Settings
 
 // The site of a primary in this state with these marks, its buffers zeros, and of a standby; the link is empty and no ACK unread.
 fn opened(primary: Primary, dirty: [u64; 1], standby: StandbyBox) -> Site
-    ensures { λ r. ⌜ r ≡ record { primary = record { state = primary; memory = replicate 256 0; disk = replicate 256 0; dirty = dirty; held = replicate 256 0; stream = replicate 1024 0 }; standby = standby; link = replicate 1024 0; linked = 0; unread = 1 } ⌝ }
+    ensures { λ r. ⌜ r ≡ record { primary = record { state = primary; memory = replicate 256 0; disk = replicate 256 0; dirty = dirty; held = replicate 256 0; stream = replicate 1024 0 }; standby = standby; link = replicate 2048 0; linked = 0; unread = 1 } ⌝ }
 {
     let zeros = [0u8; 256];
     let empty = [0u8; STREAM_BYTES];
@@ -51,7 +52,7 @@ fn opened(primary: Primary, dirty: [u64; 1], standby: StandbyBox) -> Site
     Site {
         primary: end,
         standby,
-        link: empty,
+        link: [0u8; LINK_BYTES],
         linked: 0,
         unread: 1,
     }

@@ -5,7 +5,7 @@ use mathlib.Core.Bool.{false, _&&_}
 use mathlib.Core.Logic.{⊎-elim}
 use lib.Dec.{eqb}
 use lib.ListN.{length, replicate}
-use borrow.Author.Needs.{needs, length-unmapped}
+use borrow.Author.Needs.{needs}
 use borrow.Author.Tests.{eq-eqb, ne-eqb}
 use Rattle.lists.proofs.TestLaws.{join, and-false, cond-true, cond-false}
 use Rattle.rules.specs.World.{World}
@@ -15,11 +15,12 @@ use Rattle.text.specs.Line.{isEmpty}
 use Rattle.script.specs.Pair.{ackBytes, done, perform, moveDone}
 use Rattle.script.specs.Site.{worldOf}
 use Rattle.script.proofs.LinkLaws.{empty-link, full-link}
+use Rattle.script.proofs.SiteLaws.{lengths}
 use Rattle.script.proofs.link.move_record.Statement.{statement}
 use Rattle.script.proofs.link.move_record.Tie as tie
 
-link-long : (c : tie.Start) → length (c .args .s .link) ≡ 1024
-link-long c = length-unmapped ℕ (c .args .s .link) 1024 (c .good .0 .1 .1 .1 .1 .0 .1 .0 .1)
+link-long : (c : tie.Start) → length (c .args .s .link) ≡ 2048
+link-long c = sym (lengths (c .args .s) _ (c .good .0) .link)
 
 -- past the tests there is something to move
 something : (c : tie.Joined1) → isEmpty (worldOf (c .before .before .before .args .s) .link) && eqb (c .before .before .before .args .s .primary .state .waiting) 0 ≡ false

@@ -3,13 +3,14 @@ use Prim.Native.Nat.{ℕ, _≤_}
 use mathlib.Core.Path.{_≡_, sym, _∙_}
 use native.Mathlib.Omega.{arith}
 use lib.ListN.{length}
-use borrow.Author.Needs.{needs, length-unmapped}
+use borrow.Author.Needs.{needs}
 use Rattle.script.proofs.LinkLaws.{used-low, read-done}
+use Rattle.script.proofs.SiteLaws.{lengths}
 use Rattle.script.proofs.link.read_link.Statement.{statement}
 use Rattle.script.proofs.link.read_link.Tie as tie
 
-link-long : (c : tie.Start) → length (c .args .s .link) ≡ 1024
-link-long c = length-unmapped ℕ (c .args .s .link) 1024 (c .good .0 .1 .1 .1 .1 .0 .1 .0 .1)
+link-long : (c : tie.Start) → length (c .args .s .link) ≡ 2048
+link-long c = sym (lengths (c .args .s) _ (c .good .0) .link)
 
 -- what is used is in the link
 used-inside : (c : tie.After-used-of) → c .used-of .result ≤ c .before .before .before .before .before .before .in-link .result
