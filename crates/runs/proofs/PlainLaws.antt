@@ -155,8 +155,9 @@ pub record Activated (p q : Plain) : Type 0 where
   pub activated : q .activated ≡ true
   pub memory : q .standbyMemory ≡ receivedCheckpoint p .memory
   pub disk : q .standbyDisk ≡ receivedCheckpoint p .disk
+  pub received : q .r ≡ p .r
   pub checkpoint : receivedCheckpoint q ≡ receivedCheckpoint p
 
 pub activation-plain : (u : ℕ) (b : Both) → step (b .world) call.activation .outcome .number ≡ 0 → Activated (b .plain) (runCall steps u b call.activation .plain)
 unfolding plainStep plainAccepted
-activation-plain u b e = rw (eq-eqb _ _ e) (record { activated = refl; memory = refl; disk = refl; checkpoint = refl })
+activation-plain u b e = rw (eq-eqb _ _ e) (record { activated = refl; memory = refl; disk = refl; received = refl; checkpoint = refl })

@@ -131,6 +131,22 @@ module _ (g : Settings) where
   unfolding flushed
   after-flush b n a t l = subst (Flushed b) (sym (flush.after-is n (g .u) b a)) (record { takes = t; none = omega arith; plain = refl })
 
+  -- ---- a standby that is taking over already: a flush of all due and the activation, whose value is checkpoint r
+  pub record TakenOver (b : Both) (n : ℕ) : Type 0 where
+    pub accepted : Accepted (runCall steps (g .u) b (call.flush n)) call.activation
+    pub value : step (runCall steps (g .u) b (call.flush n) .world) call.activation .outcome .value ≡ b .plain .r
+    pub received : runCall steps (g .u) (runCall steps (g .u) b (call.flush n)) call.activation .plain .r ≡ b .plain .r
+
+  pub taken-over : (b : Both) → Inv g b → isTakingOver (b .world .standby .state .mode) ≡ true → (n : ℕ) → b .world .standby .state .slots .due ≤ n → TakenOver b n
+  taken-over b i t n l =
+      let b₂ = runCall steps (g .u) b (call.flush n) in
+      let a₂ = flush-accepted b (i .holds .standbyKept) n in
+      let f : Flushed b b₂ = after-flush b n a₂ t l in
+      let i₂ : Inv g b₂ = flush-keeps g n b i a₂ in
+      let a₃ = activation-accepted b₂ (i₂ .holds .standbyKept) (f .takes) (f .none) in
+      let r = i₂ .holds .taker .receivedIs ∙ ap (λ (p : Plain). p .r) (f .plain) in
+      record { accepted = a₃; value = activation-value b₂ a₃ ∙ r; received = activation-plain (g .u) b₂ a₃ .received ∙ ap (λ (p : Plain). p .r) (f .plain) }
+
   -- ---- all of them
   waits-of : (m : Mode) (count : ℕ) → isActive m ≡ false → (isTakingOver m ≡ true) ⊎ ((isReceiving m ≡ true) × (g .t ≤ count + g .t))
   waits-of Receiving count e = inr (refl, omega arith)

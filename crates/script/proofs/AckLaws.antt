@@ -1,5 +1,5 @@
 -- Laws of the unread ACKs, which are kept as the first and the last of their epochs, and of an ACK read by the primary. Assumes nothing.
-use Prim.Native.Nat.{ℕ, zero, suc, _+_, _-_, _≤_, _<_, min}
+use Prim.Native.Nat.{ℕ, zero, suc, _+_, _-_, _*_, _≤_, _<_, min}
 use mathlib.Core.Path.{_≡_, refl, sym, ap, ap₂, _∙_}
 use mathlib.Core.Logic.{_⊎_, inl, inr, ⊎-elim}
 use mathlib.Core.Bool.{cond, true, false}
@@ -81,6 +81,19 @@ module _ (first last : ℕ) (h : first ≤ last) where
       ∙ length-append (ackRecord first) (acksFrom (suc first) (last - first))
       ∙ ap (λ (n : ℕ). n + length (acksFrom (suc first) (last - first))) (length-epoch ACK first) in
       ne-eqb (length (acksBetween first last)) 0 (λ z. omega arith)
+
+-- how many bytes they have
+length-acks : (e n : ℕ) → length (acksFrom e n) ≡ n * 8
+unfolding acksFrom
+length-acks e zero = refl
+length-acks e (suc n) =
+    let l : length (ackRecord e ++ acksFrom (suc e) n) ≡ length (ackRecord e) + length (acksFrom (suc e) n) = length-append (ackRecord e) (acksFrom (suc e) n) in
+    let k : length (ackRecord e) ≡ 8 = length-epoch ACK e in
+    let m : length (acksFrom (suc e) n) ≡ n * 8 = length-acks (suc e) n in
+    omega arith
+
+pub length-between : (first last : ℕ) → length (acksBetween first last) ≡ (last + 1 - first) * 8
+length-between first last = ap length (acks-count first last (last + 1 - first) refl) ∙ length-acks first (last + 1 - first)
 
 -- one more at the end: where none was unread, it is the first
 pub acks-next : (first last : ℕ) → acksBetween (min first (last + 1)) (last + 1) ≡ acksBetween first last ++ ackRecord (last + 1)

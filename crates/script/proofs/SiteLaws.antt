@@ -3,7 +3,7 @@
 use mathlib.Core.Path.{_≡_, refl, sym}
 use mathlib.Core.Bool.{Bool, true, false, cond}
 use mathlib.Core.List.{List}
-use Prim.Native.Nat.{ℕ, zero, suc, _≤_}
+use Prim.Native.Nat.{ℕ, zero, suc, _≤_, _<_, _^_}
 use native.Mathlib.Omega.{arith}
 use lib.Dec.{eqb}
 use lib.ListN.{length, take, replicate}
@@ -49,6 +49,10 @@ lengths s vs g =
       area = sym (length-unmapped ℕ (s .standby .area) _ (b .1 .1 .0 .1 .0 .1));
       link = sym (length-unmapped ℕ (s .link) _ (g .1 .1 .1 .1 .0 .1 .0 .1));
     }
+
+-- the last received epoch is of 4 bytes
+pub received-low : (s : Site) (vs : List Val) → Is (row the-type) s vs → s .standby .state .received < 2 ^ 32
+received-low s vs g = g .1 .1 .1 .0 .1 .1 .0 .1 .1 .1 .1 .1 .0 .1
 
 -- ---- calls of the standby that keep the last received epoch
 pick-received : (number : ℕ) (new old : Standby) → new .received ≡ old .received → pick number new old .received ≡ old .received

@@ -35,6 +35,9 @@ const COMMIT_VALUE: u64 = records::COMMIT as u64;
 
 const WIDE_COMMIT_VALUE: u64 = records::WIDE_COMMIT as u64;
 
+// The bytes of an ACK, in the width of a count.
+const ACK_BYTES: u64 = EPOCH_RECORD as u64;
+
 // The number, the value and the bytes used of an answer.
 fn number_of(a: Answer) -> u64
     ensures { λ r. ⌜ r ≡ numberOf a ⌝ }
@@ -257,6 +260,21 @@ pub fn move_record(s: Site) -> Performed
         }
     }
     read_link(drain_record(s))
+}
+
+// The bytes of the unread ACKs.
+pub fn unread_bytes(s: Site) -> u64
+    ensures { λ r. ⌜ r ≡ length (worldOf s .acks) ⌝ }
+{
+    let unread = s.unread;
+    let b = s.standby;
+    let state = b.state;
+    let received = state.received;
+    let last = received as u64;
+    if last < unread {
+        return 0;
+    }
+    (last + 1 - unread) * ACK_BYTES
 }
 
 // The bytes of an ACK.

@@ -29,7 +29,7 @@ pub fn letter_of(c: Command) -> u8
 }
 
 // One byte at at; the position behind it.
-fn put_byte(out: &mut [u8], at: usize, b: u8) -> usize
+pub fn put_byte(out: &mut [u8], at: usize, b: u8) -> usize
     requires { ⌜ at < length (now out) ⌝ }
     ensures { λ r. ⌜ PutDone (b ∷ []) (now (out .entry)) at (now (out .exit)) r ⌝ }
 {
@@ -38,7 +38,7 @@ fn put_byte(out: &mut [u8], at: usize, b: u8) -> usize
 }
 
 // The digits of n from at on; the position behind them.
-fn put_number(out: &mut [u8], at: usize, n: u64) -> usize
+pub fn put_number(out: &mut [u8], at: usize, n: u64) -> usize
     requires { ⌜ at + 20 ≤ length (now out) ⌝ }
     ensures { λ r. ⌜ PutDone (decimal n) (now (out .entry)) at (now (out .exit)) r ⌝ }
     ensures { λ r. ⌜ (at < r) × (r ≤ at + 20) ⌝ }
@@ -51,7 +51,7 @@ fn put_number(out: &mut [u8], at: usize, n: u64) -> usize
 }
 
 // Letter, number and value with a newline, from at on; the position behind them.
-pub(crate) fn print(out: &mut [u8], at: usize, letter: u8, number: u64, value: u64) -> usize
+pub fn print(out: &mut [u8], at: usize, letter: u8, number: u64, value: u64) -> usize
     requires { ⌜ at + 44 ≤ length (now out) ⌝ }
     ensures { λ r. ⌜ PutDone (printed letter (outcome number value)) (now (out .entry)) at (now (out .exit)) r ⌝ }
     ensures { λ r. ⌜ r ≤ at + 44 ⌝ }

@@ -1,5 +1,4 @@
 -- `script::link::acknowledge` meets its contract. Assumes nothing.
-use Prim.Native.Nat.{_<_, _^_}
 use mathlib.Core.Path.{sym, ap, _∙_}
 use native.Mathlib.Omega.{arith}
 use borrow.Author.Needs.{needs}
@@ -7,16 +6,13 @@ use Rattle.lists.proofs.TestLaws.{cond-true, cond-false}
 use Rattle.text.specs.Line.{isEmpty}
 use Rattle.script.specs.Pair.{perform, acknowledgeDone}
 use Rattle.script.specs.Site.{worldOf}
+use Rattle.script.proofs.SiteLaws.{received-low}
 use Rattle.script.proofs.AckLaws.{acks-none, acks-some}
 use Rattle.script.proofs.link.acknowledge.Statement.{statement}
 use Rattle.script.proofs.link.acknowledge.Tie as tie
 
--- the last received epoch is of 4 bytes
-received-low : (c : tie.Start) → c .args .s .standby .state .received < 2 ^ 32
-received-low c = c .good .0 .1 .1 .1 .0 .1 .1 .0 .1 .1 .1 .1 .1 .0 .1
-
 cast-if1 : tie.Need-cast-if1
-cast-if1 c = let h = received-low (c .before .before) in omega arith
+cast-if1 c = let h = received-low (c .before .before .args .s) _ (c .before .before .good .0) in omega arith
 
 nothing-there-requires : tie.Need-nothing-there-requires
 nothing-there-requires c κs = search needs
@@ -26,7 +22,7 @@ unfolding perform acknowledgeDone worldOf
 returns c = c .nothing-there .ensures ∙ sym (cond-true _ _ _ (ap isEmpty (acks-none _ _ (c .before .if1 .taken))))
 
 cast-read-ack : tie.Need-cast-read-ack
-cast-read-ack c = let h = received-low (c .before .before .before) in omega arith
+cast-read-ack c = let h = received-low (c .before .before .before .args .s) _ (c .before .before .before .good .0) in omega arith
 
 read-ack-requires : tie.Need-read-ack-requires
 read-ack-requires c κs = search needs
