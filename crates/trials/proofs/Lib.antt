@@ -1,0 +1,16 @@
+pub mod PartLaws
+pub mod CountLaws
+pub mod WaitLaws
+pub mod QueueLaws
+pub mod RunLaws
+pub mod CourseLaws
+pub mod LoopLaws
+pub mod TrialLaws
+pub mod BoundLaws
+pub mod ShortLaws
+pub mod LinkLaws
+pub mod FitLaws
+pub mod TrialProved
+pub mod ReachLaws
+pub mod PrintLaws
+pub mod AnswerLaws
