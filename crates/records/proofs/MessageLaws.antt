@@ -20,6 +20,7 @@ use Rattle.records.specs.Read.{pageAt, commitAt, fieldsOf, readRecord, c
 use Rattle.records.specs.Write.{frame, unitRecord, stateRecord, commitRecord, epochRecord}
 use Rattle.records.specs.Missing.{missingFrom}
 use Rattle.records.specs.Message.{Message, page, block, state, commit, ack, messageKind, encode, encodeAll, readAs, Fits}
+unfoldable pub use Rattle.records.specs.Message.{bytesOf}
 use Rattle.records.proofs.FrameLaws.{length-frame}
 use Rattle.records.proofs.KindLaws.{page-length, commit-length}
 use Rattle.records.proofs.ReadLaws.{read-no-header}
@@ -116,14 +117,6 @@ used-kind u wide (ack e) = refl
 -- the bytes used are its own
 pub used-message : (u : ℕ) (wide : Bool) (m : Message) → Fits u wide m → usedOf (readAs u wide m) ≡ length (encode wide m)
 used-message u wide m f = used-kind u wide m ∙ sym (length-message u wide m f)
-
--- the field of bytes of a message, none in a COMMIT and an ACK
-abbrev pub bytesOf : Message → List ℕ
-bytesOf (page e p bs) = bs
-bytesOf (block e n bs) = bs
-bytesOf (state e bs) = bs
-bytesOf (commit e p b) = []
-bytesOf (ack e) = []
 
 -- the bytes stand at the cursor
 pub message-bytes : (u : ℕ) (wide : Bool) (m : Message) → Fits u wide m → (rest : List ℕ)

@@ -33,6 +33,14 @@ encode wide (state e bs) = stateRecord e bs
 encode wide (commit e p b) = commitRecord wide e p b
 encode wide (ack e) = ackRecord e
 
+-- its field of bytes, none in a COMMIT and an ACK
+abbrev pub bytesOf : Message → List ℕ
+bytesOf (page e p bs) = bs
+bytesOf (block e n bs) = bs
+bytesOf (state e bs) = bs
+bytesOf (commit e p b) = []
+bytesOf (ack e) = []
+
 -- the bytes of several, one after the other
 abbrev pub encodeAll : (wide : Bool) → List Message → List ℕ
 encodeAll wide [] = []

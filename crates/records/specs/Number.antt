@@ -90,3 +90,11 @@ noSuchPort = 23
 -- the interval or the link rate of a trial is 0 (document 02, Job 12)
 abbrev pub noPlan : ℕ
 noPlan = 27
+
+-- the file holds bytes after its COMMIT (document 02, Job 14)
+abbrev pub bytesBehind : ℕ
+bytesBehind = 29
+
+-- the destination is too short for the normal form (document 02, Job 14)
+abbrev pub destinationShort : ℕ
+destinationShort = 30

@@ -67,3 +67,9 @@ pub const NO_SUCH_PORT: u64 = 23;
 
 // the interval or the link rate of a trial is 0 (document 02, Job 12)
 pub const NO_PLAN: u64 = 27;
+
+// the file holds bytes after its COMMIT (document 02, Job 14)
+pub const BYTES_BEHIND: u64 = 29;
+
+// the destination is too short for the normal form (document 02, Job 14)
+pub const DESTINATION_SHORT: u64 = 30;

@@ -75,7 +75,7 @@ pub struct StandbySettings {
 // be a branch for each.
 
 // U, M, D and B, which both ends keep.
-fn shared_ok(u: usize, m: usize, d: usize, b: usize) -> bool
+pub fn shared_ok(u: usize, m: usize, d: usize, b: usize) -> bool
     ensures { λ r. ⌜ r ≡ (unitOk u && memoryPagesOk m && diskBlocksOk d && allowanceOk b) ⌝ }
 {
     unit_ok(u) & ((1 <= m) & (m <= MOST_PAGES)) & (d <= MOST_BLOCKS) & (b <= MOST_ALLOWANCE)

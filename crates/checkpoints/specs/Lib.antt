@@ -1,0 +1,5 @@
+pub mod Content
+pub mod Normal
+pub mod Judge
+pub mod File
+pub mod Saving
