@@ -1,0 +1,55 @@
+-- What is claimed of files and their normal forms (document 02, Job 14). Assumes nothing.
+use Prim.Native.Nat.{ℕ, _≤_, _<_}
+use mathlib.Core.Path.{_≡_}
+use mathlib.Core.List.{List, []}
+use mathlib.Core.Bool.{true}
+use lib.ListN.{length, getD}
+use Rattle.records.specs.Message.{Message}
+use Rattle.checkpoints.specs.declared.FileSettings.{FileSettings}
+use Rattle.checkpoints.specs.declared.Saved.the-variants.{Written}
+use Rattle.checkpoints.specs.Content.{SameContent}
+use Rattle.checkpoints.specs.Judge.{noneKnown, refusalFrom, epochOf}
+use Rattle.checkpoints.specs.File.{closed, fileIn}
+use Rattle.checkpoints.specs.Saving.{fileSettingsOk, normalBytes, saved}
+
+-- bytes, as those of every lent slice are
+abbrev pub AreBytes : List ℕ → Type 0
+AreBytes s = (i : ℕ) → getD s i 0 < 256
+
+-- a file that is accepted, given room for its normal form: one whole checkpoint, no record of which is refused, and no
+-- byte after it
+pub record Accepted (g : FileSettings) (file : List ℕ) : Type 0 where
+  pub bytes : AreBytes file
+  pub settings : fileSettingsOk g ≡ true
+  pub records : refusalFrom g noneKnown (fileIn g file .messages) ≡ 0
+  pub whole : fileIn g file .ending ≡ closed []
+
+-- the bytes of its normal form
+abbrev pub normalOfFile : FileSettings → List ℕ → List ℕ
+normalOfFile g file = normalBytes g (fileIn g file .messages)
+
+-- with room it is written, and only an accepted file is
+abbrev pub WrittenExactly : Type 0
+WrittenExactly =
+    (g : FileSettings) (file : List ℕ) (room : ℕ) → AreBytes file
+    → (Accepted g file → length (normalOfFile g file) ≤ room → saved g file room ≡ Written (length (normalOfFile g file)))
+    × ((n : ℕ) → saved g file room ≡ Written n → Accepted g file × (n ≡ length (normalOfFile g file)) × (n ≤ room))
+
+-- the normal form, read as a file, has the file's epoch and content
+abbrev pub NormalContent : Type 0
+NormalContent =
+    (g : FileSettings) (file : List ℕ) → Accepted g file
+    → let f = fileIn g file in let n = fileIn g (normalOfFile g file) in (epochOf (n .messages) ≡ epochOf (f .messages)) × SameContent (n .messages) (f .messages)
+
+-- "Two checkpoints of the same epoch and settings have equal files exactly when they name the same pages and blocks with
+-- the same last bytes and carry the same processor state"
+abbrev pub EqualFiles : Type 0
+EqualFiles =
+    (g : FileSettings) (a b : List ℕ) → Accepted g a → Accepted g b → epochOf (fileIn g a .messages) ≡ epochOf (fileIn g b .messages)
+    → (normalOfFile g a ≡ normalOfFile g b → SameContent (fileIn g a .messages) (fileIn g b .messages))
+    × (SameContent (fileIn g a .messages) (fileIn g b .messages) → normalOfFile g a ≡ normalOfFile g b)
+
+-- "A file is normalised to itself": a normal form is accepted, and is its own
+abbrev pub NormalItself : Type 0
+NormalItself =
+    (g : FileSettings) (file : List ℕ) → Accepted g file → Accepted g (normalOfFile g file) × (normalOfFile g (normalOfFile g file) ≡ normalOfFile g file)
