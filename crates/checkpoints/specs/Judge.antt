@@ -27,10 +27,11 @@ pub record Known : Type 0 where
 abbrev pub noneKnown : Known
 noneKnown = record { begun = false; epoch = 0; numbers = []; records = 0; pages = 0; next = 0; seen = false }
 
--- the epoch of the first record is this one's, or it is the first; else 8
+-- this record has the first one's epoch, or is the first; else 8
 abbrev pub isOfEpoch : Known → ℕ → Bool
 isOfEpoch k e = not (k .begun) || eqb e (k .epoch)
 
+-- the first record's epoch, once this one is read
 abbrev pub firstEpoch : Known → ℕ → ℕ
 firstEpoch k e = cond (k .begun) (k .epoch) e
 

@@ -2,6 +2,9 @@ pub mod Content
 pub mod Normal
 pub mod Judge
 pub mod File
+pub mod Scan
+pub mod ScanFits
+pub mod Form
 pub mod Saving
 pub mod Claims
 pub mod Received

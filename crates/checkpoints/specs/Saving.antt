@@ -64,12 +64,13 @@ saved g file room =
     (cond (eqb number 0) (ended (f .ending) (length (normalBytes g (f .messages))) room) (Refused number))
     (Refused outOfRange)
 
--- the normal form at its head, and its spare end stays; refused or cut short leaves it as it was
+-- the normal form is written
 abbrev pub isWritten : Saved → Bool
 isWritten (Written length) = true
 isWritten (Short missing) = false
 isWritten (Refused number) = false
 
+-- the destination: the normal form at its head, "the destination's spare end" stays; refused or cut short, all of it does
 unfoldable pub savedDestination : FileSettings → (file destination : List ℕ) → List ℕ
 savedDestination g file destination =
     cond (isWritten (saved g file (length destination))) (put destination 0 (normalBytes g (fileIn g file .messages))) destination

@@ -1,4 +1,9 @@
 // One checkpoint on file: judging its records in turn, and writing its normal form (document 02, Job 14).
+pub mod judge;
+pub mod normal;
+pub mod scan;
+
+use records::Record;
 
 // The settings that a file is judged by.
 pub struct FileSettings {
@@ -21,6 +26,14 @@ pub struct Counts {
     pub next: usize,
     // whether STATE was seen
     pub seen: bool,
+}
+
+// Where going through a file ends: the last record judged, cut short or a refusal, with its end, and what was kept
+// before it.
+pub struct Scanned {
+    pub last: Record,
+    pub counts: Counts,
+    pub end: usize,
 }
 
 // What writing a normal form answers.

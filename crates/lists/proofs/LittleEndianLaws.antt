@@ -5,7 +5,8 @@ use Prim.Native.Nat.{ℕ, zero, suc, _+_, _*_, _/_, _%_, _^_, _≤_, _<_}
 use native.Mathlib.Nat.{pow-succ', add-suc}
 use native.Mathlib.Omega.{arith}
 use lib.ListN.{length, getD, take}
-use lib.Seq.{getD-append-add, getD-take}
+use lib.Seq.{getD-append-add, getD-take, drop-cons}
+use Rattle.lists.specs.Part.{part}
 use Rattle.lists.specs.LittleEndian.{leBytes, leAt}
 
 pub length-leBytes : (k v : ℕ) → length (leBytes k v) ≡ k
@@ -58,3 +59,15 @@ leAt-take zero i n s h = refl
 leAt-take (suc k) i n s h =
     let e = leAt-take k (suc i) n s (omega arith) in
     rw (getD-take n s i 0 (omega arith), e)
+
+-- the law over the width: the number in k bytes, written again, is those bytes
+pub leBytes-leAt : (k i : ℕ) (s : List ℕ) → ((j : ℕ) → getD s j 0 < 256) → i + k ≤ length s → leBytes k (leAt k s i) ≡ part i k s
+unfolding leBytes leAt part
+leBytes-leAt zero i s h l = refl
+leBytes-leAt (suc k) i s h l =
+    let v = leAt k s (suc i) in
+    let b = h i in
+    let low : (getD s i 0 + 256 * v) % 256 ≡ getD s i 0 = omega arith in
+    let high : (getD s i 0 + 256 * v) / 256 ≡ v = omega arith in
+    let rest = leBytes-leAt k (suc i) s h (omega arith) in
+    rw (low, high, drop-cons s i 0 (omega arith)) (ap (λ (t : List ℕ). getD s i 0 ∷ t) rest)

@@ -16,6 +16,11 @@ module _ {A : Type 0} where
   unfolding part
   length-part at n l h = length-take-le n (drop at l) (rw length-drop (omega arith))
 
+  -- two parts, one behind the other, are one
+  pub part-join : (i a b : ℕ) (l : List A) → part i a l ++ part (i + a) b l ≡ part i (a + b) l
+  unfolding part
+  part-join i a b l = rw (take-add, drop-drop)
+
   pub part-zero : (n : ℕ) (l : List A) → part 0 n l ≡ take n l
   unfolding part
   part-zero n l = refl

@@ -183,6 +183,17 @@ ack-arm ack rest r k =
     (λ e c q. absurd (miss (0 ∷ 1 ∷ 2 ∷ 3 ∷ 5 ∷ 6 ∷ []) 4 tt (subst (λ (x : Record). OneOf (0 ∷ 1 ∷ 2 ∷ 3 ∷ 5 ∷ 6 ∷ []) (tagOf the-type x)) q k)))
     refl
 
+-- and behind those for PAGE, BLOCK, STATE and COMMIT
+pub other-arm : {A : Type 0} (page block : ℕ → ℕ → Cursor → A) (state : ℕ → Cursor → A) (commit : ℕ → ℕ → ℕ → Cursor → A) (rest : A) (r : Record)
+    → OneOf (4 ∷ 5 ∷ 6 ∷ []) (tagOf the-type r) → byKind r page block state commit rest ≡ rest
+other-arm page block state commit rest (Page w e p c) k = absurd (miss (4 ∷ 5 ∷ 6 ∷ []) 0 tt k)
+other-arm page block state commit rest (Block e n c) k = absurd (miss (4 ∷ 5 ∷ 6 ∷ []) 1 tt k)
+other-arm page block state commit rest (State e c) k = absurd (miss (4 ∷ 5 ∷ 6 ∷ []) 2 tt k)
+other-arm page block state commit rest (Commit w e p b c) k = absurd (miss (4 ∷ 5 ∷ 6 ∷ []) 3 tt k)
+other-arm page block state commit rest (Ack e c) k = refl
+other-arm page block state commit rest (Short n) k = refl
+other-arm page block state commit rest (Refused n) k = refl
+
 -- ---- what holds of every answer
 
 -- a record of a kind, whose field of bytes is size long

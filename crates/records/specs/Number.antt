@@ -22,7 +22,7 @@ badPacket = 4
 abbrev pub noRoom : ℕ
 noRoom = 5
 
--- kind not for this end
+-- kind not for this end, or for a file
 abbrev pub badKind : ℕ
 badKind = 6
 
@@ -30,7 +30,7 @@ badKind = 6
 abbrev pub badLength : ℕ
 badLength = 7
 
--- epoch not the last received plus 1
+-- epoch not the last received plus 1; in a file, an epoch unlike the first record's (document 02, Jobs 10 and 14)
 abbrev pub badEpoch : ℕ
 badEpoch = 8
 

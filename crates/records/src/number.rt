@@ -16,13 +16,13 @@ pub const BAD_PACKET: u64 = 4;
 // reply buffer under 8, or destination shorter than the packet
 pub const NO_ROOM: u64 = 5;
 
-// kind not for this end
+// kind not for this end, or for a file
 pub const BAD_KIND: u64 = 6;
 
 // length not the kind's
 pub const BAD_LENGTH: u64 = 7;
 
-// epoch not the last received plus 1
+// epoch not the last received plus 1; in a file, an epoch unlike the first record's (document 02, Jobs 10 and 14)
 pub const BAD_EPOCH: u64 = 8;
 
 // BLOCK after PAGE or STATE, PAGE not above the last or after STATE, second STATE, COMMIT without STATE

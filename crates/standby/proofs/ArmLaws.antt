@@ -6,26 +6,15 @@ use types.Run.{OneOf, miss}
 use denote.Enum.Declared.{tagOf}
 use Rattle.records.specs.declared.Record.{Record}
 use Rattle.records.specs.declared.Record.the-variants.{Page, Block, State, Commit, Ack, Short, Refused}
-use Rattle.records.specs.Cases.{byKind}
 use Rattle.records.specs.Read.{otherRefusal}
-use Rattle.records.specs.declared.Cursor.{Cursor}
 use Rattle.records.proofs.Record.{the-type}
+use Rattle.records.proofs.ReadLaws.{other-arm}
 use Rattle.rules.specs.declared.Standby.{Standby}
 use Rattle.rules.specs.Judge.{recordRefusal}
 use Rattle.rules.specs.Read.{readState, memoryAfter, stagedPagesAfter, stagedMarksAfter, stagedBlocksAfter, replyAfter}
 use Rattle.standby.specs.Fits.{slotOf}
 
 -- behind PAGE, BLOCK, STATE and COMMIT
-other-arm : {A : Type 0} (page block : ℕ → ℕ → Cursor → A) (state : ℕ → Cursor → A) (commit : ℕ → ℕ → ℕ → Cursor → A) (rest : A) (r : Record)
-    → OneOf (4 ∷ 5 ∷ 6 ∷ []) (tagOf the-type r) → byKind r page block state commit rest ≡ rest
-other-arm page block state commit rest (Page w e p c) k = absurd (miss (4 ∷ 5 ∷ 6 ∷ []) 0 tt k)
-other-arm page block state commit rest (Block e n c) k = absurd (miss (4 ∷ 5 ∷ 6 ∷ []) 1 tt k)
-other-arm page block state commit rest (State e c) k = absurd (miss (4 ∷ 5 ∷ 6 ∷ []) 2 tt k)
-other-arm page block state commit rest (Commit w e p b c) k = absurd (miss (4 ∷ 5 ∷ 6 ∷ []) 3 tt k)
-other-arm page block state commit rest (Ack e c) k = refl
-other-arm page block state commit rest (Short n) k = refl
-other-arm page block state commit rest (Refused n) k = refl
-
 pub refusal-arm : (s : Standby) (reply : ℕ) (r : Record) → OneOf (4 ∷ 5 ∷ 6 ∷ []) (tagOf the-type r) → recordRefusal s reply r ≡ otherRefusal r
 refusal-arm s reply r = other-arm _ _ _ _ (otherRefusal r) r
 
