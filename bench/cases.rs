@@ -2,6 +2,8 @@
 
 #[path = "block_cases.rs"]
 mod block;
+#[path = "file_cases.rs"]
+mod file;
 #[path = "mark_cases.rs"]
 mod mark;
 #[path = "primary_cases.rs"]
@@ -16,6 +18,7 @@ mod tick;
 use crate::model;
 use crate::{Call, Case, Interface};
 use block::{BlockReads, Blocks, DiskWrites};
+use file::NormalForm;
 use mark::Marks;
 use primary::{Checkpoint, Drain, Packets, ROUNDS};
 use standby::{Commit, Flush, PageReads};
@@ -114,6 +117,10 @@ pub fn all(mut each: impl FnMut(&mut (dyn Case + 'static))) {
             each(&mut Flush::new(u, staged, n));
         }
     }
+    for (u, m) in [(4096, 4096), (64, MOST_PAGES)] {
+        each(&mut NormalForm::pages(u, m));
+    }
+    each(&mut NormalForm::blocks(64));
 }
 
 /// Every case of the C interface in turn.

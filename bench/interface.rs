@@ -7,7 +7,7 @@ mod capi;
 use crate::library::Lent;
 use crate::model;
 
-// Not a call of an end, and so not in tests/calls/capi.rs.
+// It has no code in tests/calls/FORM.md, and so is not in tests/calls/capi.rs.
 extern "C" {
     fn pair_page_sum(memory: *const u8, memory_len: usize, u: usize, page: usize) -> u64;
 }
@@ -162,6 +162,13 @@ pub fn standby_sum(s: &Standby, memory: &[u8], order: &[u64]) -> model::Reply {
             order.len(),
         )
     })
+}
+
+/// Of a checkpoint kept on file, with the U M D B of these settings.
+pub fn normal_form(s: &model::Settings, file: &[u8], destination: &mut [u8]) -> model::Reply {
+    let [u, m, d, b] = [s.u, s.m, s.d, s.b].map(|size| size as usize);
+    let (f, n) = (file.len(), destination.len());
+    answered(unsafe { capi::pair_normal_form(u, m, d, b, file.as_ptr(), f, destination.as_mut_ptr(), n) })
 }
 
 /// Of one page, at either end.

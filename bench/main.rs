@@ -1,6 +1,6 @@
 //! Times the verified calls of libbench.a beside memcpy of the same bytes and beside a plain Rust writing of the
-//! same rules, the calls of libcapi.a beside both, and two parts of the calls beside the plain writing, and prints a
-//! table of each.
+//! same rules, and with them the normal form of libcapi.a; the other calls of libcapi.a beside both; and two parts of
+//! the calls beside the plain writing. It prints a table of each.
 //!
 //! The compared things run by turns, in short batches. A time is the median of its batches, in processor time of
 //! this thread. What has to be made anew before each call is timed by itself and taken off.
@@ -235,6 +235,8 @@ fn limits(rows: &[Row]) {
     let most = "all pages of 4,096 bytes with M 4,096, and of 1,024 and more with M 65,536, within 1.25 times memcpy";
     limit(most, over(|r| largest(r) && r.to_copy > 1.25));
     limit("within 1.5 times the model", over(|r| r.to_model > 1.5));
+    let normal = "the normal form of 4,096 pages of 4,096 bytes within 1.3 times memcpy";
+    limit(normal, over(|r| r.name.starts_with("normal form of all pages, U 4096") && r.to_copy > 1.3));
     limit("packet and take under 1,000 ns", over(|r| r.name.starts_with("packet") && r.ns >= 1000.0));
 }
 

@@ -268,8 +268,9 @@ static int read_records(struct standby *s)
             drop(k);
             return 0;
         }
-        k->in_length = 0; /* the record was all that had come */
         committed = record_is_commit(answer_value(answer));
+        keep_record(&s->kept, k->in, k->in_length, committed);
+        k->in_length = 0; /* the record was all that had come */
         if (committed)
             k->out_length += ACK_RECORD;
         trial_record(s, answer_value(answer));

@@ -7,6 +7,7 @@
 #include <stdint.h>
 
 #include "connection.h"
+#include "save.h"
 #include "standby_pair.h"
 
 /*
@@ -54,6 +55,7 @@ struct standby {
     uint8_t area[AREA_BYTES];
     uint64_t order[M]; /* of the pages in a sum */
     struct connection link;
+    struct kept kept; /* the records of the last received checkpoint, for support */
 };
 
 /* A lent array: its pointer and its length. */

@@ -16,6 +16,7 @@
  *     daemon random      kills it after a random number of records
  *     daemon .. pieces   any of these, and both ends send a few bytes at a time
  *     daemon .. damaged  any of these, and the first drill finds a wrong byte at the standby
+ *     daemon .. keep F   any of these, and the last received checkpoint is saved in the file F
  *
  * Exit status: 0 all is equal, 1 something differs, was tested too early, is of the wrong width or
  * was stored too often, 2 the program could not do its work.
@@ -54,6 +55,7 @@ static unsigned place, place_kind;
 static int place_signal = SIGKILL;
 static size_t most_moved; /* at a time, 0 is any number */
 static int damaged;       /* whether the first drill is to find a wrong byte */
+static const char *file;  /* where the last received checkpoint is to be saved, or NULL */
 
 /* How often records were tested: all together, the one under way, and the one tested most. */
 struct tests {
@@ -95,6 +97,10 @@ static int read_place(int argc, char **argv)
     unsigned long number;
     char *end;
 
+    if (argc > 3 && strcmp(argv[argc - 2], "keep") == 0) {
+        file = argv[argc - 1];
+        argc -= 2;
+    }
     if (argc > 2 && strcmp(argv[argc - 1], "damaged") == 0) {
         damaged = 1;
         argc--;
@@ -419,6 +425,22 @@ static int drills_equal(void)
     return 0;
 }
 
+/* Whether the checkpoint taken over is saved, or is not to be. */
+static int saved(const struct standby *s, uint32_t epoch)
+{
+    size_t length;
+
+    if (file == NULL)
+        return 1;
+    length = save_checkpoint(&s->kept, file);
+    if (length == 0)
+        printf("there is no checkpoint to keep\n");
+    else
+        printf("kept checkpoint %u: %zu bytes as it came, %zu in normal form\n", epoch,
+               s->kept.received.length, length);
+    return length > 0;
+}
+
 /* The guest goes on from the processor state taken over; nothing holds its packets any more. */
 static uint64_t run_guest_at_standby(struct standby *s)
 {
@@ -446,7 +468,7 @@ int main(int argc, char **argv)
 
     if (!read_place(argc, argv)) {
         fprintf(stderr, "usage: daemon N [page | block | state | commit | stop] [pieces] "
-                        "[damaged], daemon random [pieces] [damaged]\n");
+                        "[damaged] [keep FILE], daemon random [pieces] [damaged] [keep FILE]\n");
         return 2;
     }
     start_pair(&primary, &standby);
@@ -461,7 +483,7 @@ int main(int argc, char **argv)
            blocks.received, blocks.most, blocks.stored);
     if (end_of(network_process) != 0 || !has_checkpoint(&primary, &standby, epoch) ||
         !few_tests("record", &tests) || !few_tests("ACK", &shared->ack_tests) || !right_width() ||
-        !slots_reused() || !drills_equal() ||
+        !slots_reused() || !drills_equal() || !saved(&standby, epoch) ||
         !images_equal(run_guest_at_standby(&standby), standby.memory, standby.disk))
         return 1;
     printf("took over checkpoint %u: memory, disk and processor state equal; "

@@ -52,6 +52,8 @@
  *   area                      uint8_t   AREA_BYTES         the record area of the standby's disk
  *   order                     uint64_t  M                  each page number below M once
  *   bytes, destination, reply uint8_t   any
+ *   file                      uint8_t   any                one checkpoint, from its first record to
+ *                                                          its COMMIT
  *
  * A state is words (and, for the standby, pending and processor). Words that are no state are
  * refused with 1, and nothing is changed: their count is not exact; T, the count of ticks or an
@@ -88,9 +90,10 @@ enum {
     NUMBER_BAD_SIZE = 3,        /* a memory write empty or past its page, block data not U bytes */
     NUMBER_BAD_PACKET = 4,      /* a packet not of 1 to 1514 bytes */
     NUMBER_NO_ROOM = 5,         /* reply under 8 bytes, or destination shorter than the packet */
-    NUMBER_BAD_KIND = 6,        /* the record's kind is not for this end: drop the link */
+    NUMBER_BAD_KIND = 6,        /* the record's kind is not for this end or a file: drop the link */
     NUMBER_BAD_LENGTH = 7,      /* the record's length is not its kind's: drop the link */
-    NUMBER_BAD_EPOCH = 8,       /* the record's epoch is not the last received plus 1 */
+    NUMBER_BAD_EPOCH = 8,       /* the record's epoch is not the last received plus 1, or in a file
+                                   not its first record's */
     NUMBER_OUT_OF_ORDER = 9,    /* the record is out of order in its checkpoint */
     NUMBER_BAD_COUNTS = 10,     /* COMMIT's counts differ from those received */
     NUMBER_BAD_ACK = 11,        /* the ACK is old, or of an epoch not yet closed */
@@ -104,6 +107,8 @@ enum {
     NUMBER_LAST_EPOCH = 19,     /* the open epoch is 4294967295 */
     NUMBER_BLOCKS_DUE = 20,     /* blocks are still due at activation */
     NUMBER_NO_SUCH_PORT = 23,   /* the port is above MOST_PORT */
+    NUMBER_BYTES_BEHIND = 29,   /* the file has bytes behind its COMMIT */
+    NUMBER_DESTINATION_SHORT = 30, /* the destination is shorter than the normal form */
     NUMBER_CUT_SHORT = 256      /* ours: some of the record is missing, see answer_missing */
 };
 
@@ -473,6 +478,32 @@ uint64_t standby_sum(const uint64_t *state, size_t state_len, const uint8_t *pen
  * pages. 2: page is not below memory_len / u. Value: the part. Changes nothing.
  */
 uint64_t pair_page_sum(const uint8_t *memory, size_t memory_len, size_t u, size_t page);
+
+/* ---- A checkpoint kept on file. ---- */
+
+/*
+ * Normal form: one checkpoint, as drain moved it out, in a form that depends only on what it names.
+ * At the head of destination come its BLOCKs, each different block once with its last bytes,
+ * rising; its PAGEs; STATE; and COMMIT with the counts of these. All are records of the file's own
+ * epoch, and a standby that reads them comes to the same memory, processor state and disk.
+ *
+ * So two checkpoints of the same epoch and settings have equal normal forms exactly where they name
+ * the same pages and blocks, with the same last bytes, and carry the same processor state. A normal
+ * form is its own. Keep U M D B with a file: its bytes do not say them.
+ *
+ * Not a call of an end: no state is lent, and no epoch is expected. A pairing's first checkpoint
+ * has no normal form: COPY gives 6. LEAST_STREAM(u, m, b) bytes hold any normal form, and so do as
+ * many bytes as the file has. The destination's later bytes stay.
+ * Gives 1, where a setting is out of its range; then of each record in turn: cut short (of its
+ * header), 6 7, cut short (of its body), 2 8 9 10 14; then 29 30. What is wrong with a record is
+ * told before anything of a later one. 8: unlike the epoch of the first record, whatever that is.
+ * 10 compares COMMIT's count of blocks with the BLOCKs of the file. 14: a BLOCK of yet another
+ * block where B different ones have come, or one BLOCK more than MOST_RECORDS. Cut short: the file
+ * ends before its COMMIT does; missing: as in standby_read, of the record under way.
+ * Value: the bytes written. Changes: destination; where it is refused or cut short, nothing.
+ */
+uint64_t pair_normal_form(size_t u, size_t m, size_t d, size_t b, const uint8_t *file,
+                          size_t file_len, uint8_t *destination, size_t destination_len);
 
 /* ---- After both boxes fail. ---- */
 

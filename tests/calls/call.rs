@@ -43,7 +43,8 @@ pub fn call(which: usize, l: &mut Lent) -> Answer {
         code::STANDBY_DISK_WRITE => disk_write_at_standby(l),
         code::CHOICE => choice(l),
         code::PRIMARY_SUM => sum(l),
-        _ => sum_at_standby(l),
+        code::STANDBY_SUM => sum_at_standby(l),
+        _ => normal_form(l),
     };
     Answer::of(word)
 }
@@ -190,4 +191,10 @@ fn sum_at_standby(l: &mut Lent) -> u64 {
     unsafe {
         standby_sum(state.at, state.len, pending.at, kept.at, memory.at, memory.len, order.at, order.len)
     }
+}
+
+fn normal_form(l: &mut Lent) -> u64 {
+    let sizes: Vec<usize> = l.words(Sizes).items().iter().map(|&size| size as usize).collect();
+    let (file, out) = (l.byte_slice(Data), l.byte_slice(Out));
+    unsafe { pair_normal_form(sizes[0], sizes[1], sizes[2], sizes[3], file.at, file.len, out.at, out.len) }
 }

@@ -72,4 +72,8 @@ extern "C" {
         state: *const u64, state_len: usize, pending: *const u8, processor: *const u8, memory: *const u8,
         memory_len: usize, order: *const u64, order_len: usize,
     ) -> u64;
+    pub fn pair_normal_form(
+        u: usize, m: usize, d: usize, b: usize, file: *const u8, file_length: usize, destination: *mut u8,
+        destination_length: usize,
+    ) -> u64;
 }

@@ -13,11 +13,20 @@ mod changed_lines;
 mod checker;
 mod cuts;
 mod epoch_blocks;
+mod file_cases;
+mod file_damage;
+mod file_limits;
+mod file_records;
+mod file_runs;
+mod file_sorts;
+mod file_walk;
+mod files;
 mod four_ports;
 mod generate;
 mod guarded;
 mod image_sums;
 mod items;
+mod kept_files;
 mod kinds;
 mod large;
 mod largest_sums;
@@ -99,7 +108,8 @@ const PARTS: &str = "records that come in parts";
 const FOUR_PORTS: &str = "packets of four ports";
 const SAME_BLOCK: &str = "the same block again";
 const SUMS: &str = "sums of both memories";
-const ON_TOP: [&str; 10] = [LARGE, WIDE, CUTS, LINES, MARKS, SILENCE, PARTS, FOUR_PORTS, SAME_BLOCK, SUMS];
+const FILES: &str = "checkpoints kept on file";
+const ON_TOP: [&str; 11] = [LARGE, WIDE, CUTS, LINES, MARKS, SILENCE, PARTS, FOUR_PORTS, SAME_BLOCK, SUMS, FILES];
 
 fn until(sink: &mut Sink, end: u64, mut one: impl FnMut(&mut Sink)) {
     while sink.calls < end {
@@ -254,7 +264,8 @@ fn main() {
             PARTS => demanded(missing::run(&r, sink)),
             FOUR_PORTS => demanded(four_ports::run(&r, sink)),
             SAME_BLOCK => demanded(same_block::run(&r, sink)),
-            _ => demanded(image_sums::run(&r, sink)),
+            SUMS => demanded(image_sums::run(&r, sink)),
+            _ => demanded(kept_files::run(&r, sink)),
         });
     }
     // that every number comes is a test of all kinds together

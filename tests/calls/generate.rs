@@ -32,15 +32,15 @@ pub struct Mood {
 
 // Weights by code: start, memory write, disk write, packet, checkpoint, drain, ACK, take, tick of the primary,
 // read, flush, tick of the standby, activation, memory and disk write at the standby, disk choice, sum at the primary,
-// sum at the standby.
-const PROTECTED: [u64; code::ALL] = [0, 16, 16, 7, 6, 12, 4, 8, 4, 8, 5, 4, 1, 1, 1, 1, 2, 2];
-const LIVELY: [u64; code::ALL] = [0, 8, 6, 6, 9, 6, 2, 4, 2, 4, 4, 1, 0, 0, 0, 0, 1, 1];
-const PACKETS: [u64; code::ALL] = [0, 3, 1, 24, 9, 6, 4, 14, 1, 4, 4, 1, 0, 0, 0, 0, 0, 0];
-const BLOCKS: [u64; code::ALL] = [0, 4, 40, 3, 0, 9, 3, 4, 2, 8, 6, 2, 0, 0, 0, 0, 0, 0];
-const ALONE: [u64; code::ALL] = [0, 10, 10, 9, 6, 3, 2, 14, 14, 6, 4, 1, 1, 1, 1, 2, 3, 1];
-const TAKEOVER: [u64; code::ALL] = [0, 2, 2, 2, 2, 3, 2, 2, 1, 3, 10, 14, 8, 2, 2, 2, 1, 3];
-const ACTIVE: [u64; code::ALL] = [0, 3, 3, 3, 2, 2, 2, 5, 3, 2, 4, 3, 3, 14, 14, 5, 1, 4];
-const DRILL: [u64; code::ALL] = [0, 14, 2, 1, 9, 6, 2, 1, 1, 4, 4, 1, 0, 0, 0, 0, 10, 14];
+// sum at the standby, normal form.
+const PROTECTED: [u64; code::ALL] = [0, 16, 16, 7, 6, 12, 4, 8, 4, 8, 5, 4, 1, 1, 1, 1, 2, 2, 0];
+const LIVELY: [u64; code::ALL] = [0, 8, 6, 6, 9, 6, 2, 4, 2, 4, 4, 1, 0, 0, 0, 0, 1, 1, 0];
+const PACKETS: [u64; code::ALL] = [0, 3, 1, 24, 9, 6, 4, 14, 1, 4, 4, 1, 0, 0, 0, 0, 0, 0, 0];
+const BLOCKS: [u64; code::ALL] = [0, 4, 40, 3, 0, 9, 3, 4, 2, 8, 6, 2, 0, 0, 0, 0, 0, 0, 0];
+const ALONE: [u64; code::ALL] = [0, 10, 10, 9, 6, 3, 2, 14, 14, 6, 4, 1, 1, 1, 1, 2, 3, 1, 0];
+const TAKEOVER: [u64; code::ALL] = [0, 2, 2, 2, 2, 3, 2, 2, 1, 3, 10, 14, 8, 2, 2, 2, 1, 3, 0];
+const ACTIVE: [u64; code::ALL] = [0, 3, 3, 3, 2, 2, 2, 5, 3, 2, 4, 3, 3, 14, 14, 5, 1, 4, 0];
+const DRILL: [u64; code::ALL] = [0, 14, 2, 1, 9, 6, 2, 1, 1, 4, 4, 1, 0, 0, 0, 0, 10, 14, 0];
 
 /// What `put_off` is in a list.
 pub const PUT_OFF: [u64; 4] = [0, 0, 0, 60];

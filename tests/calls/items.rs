@@ -21,12 +21,15 @@ pub mod code {
     pub const CHOICE: usize = 15;
     pub const PRIMARY_SUM: usize = 16;
     pub const STANDBY_SUM: usize = 17;
-    pub const ALL: usize = 18;
+    pub const NORMAL_FORM: usize = 18;
+    pub const ALL: usize = 19;
 }
 
-/// The words of the settings, of a primary and of a standby. A primary's first words are followed by its 64 packets, of
-/// three words each: epoch, length and port; these by the 64 block numbers of its open epoch.
+/// The words of the settings, of the four that a file has, of a primary and of a standby. A primary's first words are
+/// followed by its 64 packets, of three words each: epoch, length and port; these by the 64 block numbers of its open
+/// epoch.
 pub const SETTINGS_WORDS: usize = 8;
+pub const SIZES_WORDS: usize = 4;
 pub const PRIMARY_FIRST_WORDS: usize = 16;
 pub const PACKET_WORDS: usize = 3;
 pub const WRITTEN_AT: usize = 208;
@@ -37,8 +40,8 @@ pub const STANDBY_LAST_AT: usize = 75;
 pub const STANDBY_WORDS: usize = 80;
 
 /// A part of a call. First the words, then the bytes, then the numbers given, then what is answered. `Cpu` is the
-/// processor state given, `Pending` and `Kept` are the standby's; `Out` is the destination or the reply buffer; `Order`
-/// are the pages as the standby visited them.
+/// processor state given, `Pending` and `Kept` are the standby's; `Data` is also a file, `Out` is the destination or
+/// the reply buffer; `Order` are the pages as the standby visited them; `Sizes` are the settings U M D B.
 #[derive(Clone, Copy, PartialEq, Debug)]
 pub enum Item {
     Settings,
@@ -47,6 +50,7 @@ pub enum Item {
     Marks,
     StandbyMarks,
     Order,
+    Sizes,
     Cpu,
     Pending,
     Kept,
@@ -96,6 +100,7 @@ impl Item {
             Settings => Sort::Numbers(SETTINGS_WORDS),
             Primary => Sort::Numbers(PRIMARY_WORDS),
             Standby => Sort::Numbers(STANDBY_WORDS),
+            Sizes => Sort::Numbers(SIZES_WORDS),
             Marks | StandbyMarks | Order => Sort::Words,
             Cpu | Pending | Kept => Sort::Processor,
             Place | Offset | N | Port => Sort::Given,
@@ -133,6 +138,7 @@ pub const INPUT: [&[Item]; code::ALL] = [
     &[Disk, StandbyDisk, Area],
     &[Primary, Memory],
     &[Standby, Pending, Kept, StandbyMemory, Order],
+    &[Sizes, Data, Out],
 ];
 
 /// A line of output, by code.
@@ -158,6 +164,7 @@ pub const OUTPUT: [&[Item]; code::ALL] = [
     &[Number, Chosen],
     &[Number, Value, Primary],
     &[Number, Value, Standby, Pending, Kept],
+    &[Number, Value, Missing, Out],
 ];
 
 /// Everything that a call of the library is given: what stands on the line, and the states that start makes.

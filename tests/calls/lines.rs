@@ -5,6 +5,7 @@ use crate::changed_lines;
 use crate::checker::{demand, Check};
 use crate::generate::list;
 use crate::items::{code, STANDBY_WORDS};
+use crate::kept_files::any_file;
 use crate::model::*;
 use crate::random::Random;
 use crate::refused_records::page_of;
@@ -43,12 +44,13 @@ fn good_lines(r: &Random, sink: &mut Sink) -> Text {
             outside::push_setting(r, &mut settings, clause);
             singles::start(r, sink, settings, false);
             singles::choice(r, sink);
+            any_file(r, sink);
         });
     }
     sink.text.take().unwrap_or_default()
 }
 
-/// A checkpoint, a read and both sums at the largest M: their buffers fit on a line.
+/// A checkpoint, a read, both sums and that checkpoint's normal form at the largest M: their buffers fit on a line.
 fn most_pages(r: &Random, sink: &mut Sink, program: &str) -> Check {
     let (u, m, d, b, s, t) = (64, MOST_PAGES, 1, 1, 1, 1);
     let settings = Settings { u, m, d, b, s, q: 0, l: least_stream(u, m, b), t };
@@ -58,11 +60,15 @@ fn most_pages(r: &Random, sink: &mut Sink, program: &str) -> Check {
     let mut falling = Args { order: (0..m).rev().collect(), ..Args::none() };
     let mut w = World { primary, standby, ..fresh_world(r, &settings) };
     sink.text = Some(Text::default());
+    let checkpoint = sink.call(code::CHECKPOINT, &mut w, &mut Args::none());
+    let data = w.stream[..w.primary.waiting as usize].to_vec();
+    let mut file = Args { settings, out: vec![7; data.len() + 1], data, ..Args::none() };
     let replies = [
-        sink.call(code::CHECKPOINT, &mut w, &mut Args::none()),
+        checkpoint,
         sink.call(code::READ, &mut w, &mut page),
         sink.call(code::PRIMARY_SUM, &mut w, &mut Args::none()),
         sink.call(code::STANDBY_SUM, &mut w, &mut falling),
+        sink.call(code::NORMAL_FORM, &mut w, &mut file),
     ];
     demand(replies.iter().all(|reply| reply.number == 0), "a line of the largest M is refused")?;
     let text = sink.text.take().unwrap_or_default();
@@ -82,8 +88,9 @@ fn every_code(text: &Text) -> Check {
 
 /// Lines with answers that an earlier program of the form gave, which had no ports and no records: theirs are 0, and as
 /// many as the blocks. Or worked out by hand where a record is cut short or refused, where M or L is at an end of its
-/// range, where ports differ, where blocks come again, or where a memory is summed (image_sums.rs says how). The order
-/// of the items is in one table for both programs here, and a mistake in it would be seen by nothing else.
+/// range, where ports differ, where blocks come again, where a memory is summed (image_sums.rs says how), or where a
+/// file is normalised: block 3, then 0, then 3 again, with B 2; and one of every number (file_cases.rs has more). The
+/// order of the items is in one table for both programs here, and a mistake in it would be seen by nothing else.
 fn examples(program: &str) -> Check {
     let (lines, answers) = (include_bytes!("examples.in"), include_bytes!("examples.out"));
     same(lines, answers, &printed(program, &[lines])?)
@@ -145,6 +152,11 @@ fn limits(program: &str) -> Check {
     same(b"17 .. 0 1048576 ..", &[b"1 0 ", &state[..], b"\n"].concat(), &order)?;
     let longer = printed(program, &[b"17 ", &state, b" 0 1048577 9", &words, b"\n"])?;
     same(b"17 .. 0 1048577 ..", b"!\n", &longer)?;
+    // a file of zeros is refused with 6 by its first header; the destination is as long as a line takes
+    let file = printed(program, &[b"18 64 1 0 0 4 00000000 67108864 ", &digits, b"\n"])?;
+    same(b"18 64 1 0 0 4 00000000 67108864 ..", &[b"6 0 0 67108864 ", &digits[..], b"\n"].concat(), &file)?;
+    let longer = printed(program, &[b"18 64 1 0 0 67108865 ", &digits, b"00 0\n"])?;
+    same(b"18 64 1 0 0 67108865 ..", b"!\n", &longer)?;
     others(program)
 }
 
@@ -153,9 +165,9 @@ fn others(program: &str) -> Check {
     let good = b"15 0 0 8 0000000000000000";
     same(b"", b"", &printed(program, &[])?)?;
     same(good, b"0 0\n", &printed(program, &[good, b"\n"])?)?;
-    let bad: [&[u8]; 9] = [
-        b"\n", b"18\n", b"17\n", b"15\n", b" 15 0 0 0\n", b"15  0 0 0\n", b"15 0 0 0 \n", b"15 0 0 1 0\n",
-        b"15 1 0 0\n",
+    let bad: [&[u8]; 12] = [
+        b"\n", b"19\n", b"18\n", b"18 64 1 0 0 0\n", b"18 64 1 0 0 0 0 0\n", b"17\n", b"15\n", b" 15 0 0 0\n",
+        b"15  0 0 0\n", b"15 0 0 0 \n", b"15 0 0 1 0\n", b"15 1 0 0\n",
     ];
     for bad in bad {
         same(bad, b"!\n", &printed(program, &[bad])?)?;

@@ -266,6 +266,8 @@ fn part(number: u64, u: u64) -> std::ops::Range<usize> {
     number * u..number * u + u
 }
 
+#[path = "model_files.rs"]
+mod files;
 #[path = "model_primary.rs"]
 mod primary;
 #[path = "model_records.rs"]
@@ -278,6 +280,7 @@ mod standby;
 mod start;
 #[path = "model_sums.rs"]
 mod sums;
+pub use files::*;
 pub use primary::*;
 pub use sizes::*;
 pub use standby::*;

@@ -22,6 +22,7 @@ pub fn item_name(item: Item) -> &'static str {
         Item::Marks => "dirty marks",
         Item::StandbyMarks => "staged marks",
         Item::Order => "order",
+        Item::Sizes => "settings of a file",
         Item::Cpu => "processor state given",
         Item::Pending => "staged processor state",
         Item::Kept => "kept processor state",
@@ -34,7 +35,7 @@ pub fn item_name(item: Item) -> &'static str {
         Item::Pages => "staged pages",
         Item::Blocks => "staged blocks",
         Item::Area => "record area",
-        Item::Data => "data",
+        Item::Data => "data or file",
         Item::Out => "destination or reply",
         _ => "number",
     }
@@ -43,7 +44,7 @@ pub fn item_name(item: Item) -> &'static str {
 /// One word of an item that is made of words.
 pub fn word_name(item: Item, at: usize) -> String {
     let name = match (item, at) {
-        (Item::Settings, 0..8) => SETTINGS[at].to_string(),
+        (Item::Settings, 0..8) | (Item::Sizes, 0..4) => SETTINGS[at].to_string(),
         (Item::Primary, 0..PRIMARY_FIRST_WORDS) => PRIMARY[at].to_string(),
         (Item::Primary, PRIMARY_FIRST_WORDS..WRITTEN_AT) => packet_word(at - PRIMARY_FIRST_WORDS),
         (Item::Primary, WRITTEN_AT..PRIMARY_WORDS) => format!("block number {} of the open epoch", at - WRITTEN_AT),

@@ -23,6 +23,7 @@ const REFUSALS: [&[u64]; code::ALL] = [
     &[12],
     &[],
     &[],
+    &[CUT_SHORT, 6, 7, 2, 8, 9, 10, 14, 29, 30],
 ];
 
 /// How often each number came, by call code.

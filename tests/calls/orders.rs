@@ -32,7 +32,7 @@ pub fn whole_order(r: &Random, m: u64) -> Vec<u64> {
     order
 }
 
-pub fn shuffle(r: &Random, order: &mut [u64]) {
+pub fn shuffle<T>(r: &Random, order: &mut [T]) {
     for at in (1..order.len()).rev() {
         order.swap(at, r.below(at as u64 + 1) as usize);
     }

@@ -1,6 +1,7 @@
 //! Where every call goes: it is made by the library and by the model, and everything is compared.
 use crate::call::{call, Answer};
 use crate::checker::{compare, compare_answer, compare_lent, Check};
+use crate::files::Files;
 use crate::items::code;
 use crate::kinds::{unit_number, Kinds};
 use crate::lent::Lent;
@@ -41,6 +42,8 @@ pub struct Sink {
     pub repeats: Repeats,
     /// What came of sums.
     pub sums: Sums,
+    /// What came of checkpoints kept on file.
+    pub files: Files,
     /// How many records of each kind were accepted by a read.
     pub records: [u64; 10],
     /// What reads gave by the record's kind.
@@ -65,6 +68,7 @@ impl Sink {
             ports: Ports::default(),
             repeats: Repeats::default(),
             sums: Sums::default(),
+            files: Files::default(),
             records: [0; 10],
             kinds: Kinds::default(),
             by_count: [0; 3],
@@ -88,6 +92,7 @@ impl Sink {
             self.end_at_difference(which, check);
         }
         let check = self.sums.check(which, answer, &self.before, &self.lent, w);
+        let check = check.and_then(|()| self.files.check(which, answer, &self.before, &self.lent));
         self.end_at_difference(which, check);
         self.note_text(which, answer);
         self.note(which, &reply, w, a);

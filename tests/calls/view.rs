@@ -1,7 +1,7 @@
 //! The model's world and a call's arguments as the words and bytes of the C interface.
 use crate::items::{
-    given, Item, PACKET_WORDS, PRIMARY_FIRST_WORDS, PRIMARY_WORDS, SETTINGS_WORDS, SLOTS_AT, STANDBY_LAST_AT,
-    STANDBY_WORDS, WRITTEN_AT,
+    given, Item, PACKET_WORDS, PRIMARY_FIRST_WORDS, PRIMARY_WORDS, SETTINGS_WORDS, SIZES_WORDS, SLOTS_AT,
+    STANDBY_LAST_AT, STANDBY_WORDS, WRITTEN_AT,
 };
 use crate::lent::Lent;
 use crate::model::{Mode, Primary, Settings, Standby};
@@ -28,6 +28,7 @@ impl<'a> View<'a> {
             Item::Standby => &self.standby,
             Item::Marks => &self.w.marks,
             Item::StandbyMarks => &self.w.standby_marks,
+            Item::Sizes => &self.settings[..SIZES_WORDS],
             _ => &self.a.order,
         }
     }

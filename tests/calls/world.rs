@@ -24,7 +24,7 @@ pub struct World {
 }
 
 /// What a call is given besides states and lent buffers. `out` is the destination or the reply buffer; after
-/// the disk choice it is the disk handed back.
+/// the disk choice it is the disk handed back. A normal form is given the U M D B of `settings`; its file is `data`.
 #[derive(Clone)]
 pub struct Args {
     pub settings: Settings,
@@ -77,6 +77,7 @@ pub fn run(which: usize, w: &mut World, a: &mut Args) -> Reply {
         code::STANDBY_DISK_WRITE => standby_disk_write(s, &mut w.standby_disk, a.place, &a.data),
         code::PRIMARY_SUM => primary_sum(p, &w.memory),
         code::STANDBY_SUM => standby_sum(s, &w.standby_memory, &a.order),
+        code::NORMAL_FORM => normal_form(&a.settings, &a.data, &mut a.out),
         _ => {
             let (number, chosen) = disk_choice(&w.disk, &w.standby_disk, &w.area);
             a.out = chosen.to_vec();

@@ -4,7 +4,7 @@
  * of the states read by their names; the calls that read a record also with its first bytes only,
  * and with the kinds that are for other settings; those that write or read a block also with the
  * same block again, up to what an epoch may have of it; the sums in every mode, in many orders, and
- * with each thing that they refuse.
+ * with each thing that they refuse; the normal form of a checkpoint, and each of its numbers.
  *
  * A failing check is printed; the last line is 'N passed, M failed'.
  */
@@ -74,6 +74,9 @@ STATIC_CHECK(MOST_PORT == 3 && NUMBER_NO_SUCH_PORT == 23);
 
 /* Document 02's Job 9: an epoch has B different blocks, 64 at most, and 65,535 BLOCKs. */
 STATIC_CHECK(MOST_BLOCKS == 64 && MOST_RECORDS == 65535);
+
+/* Document 02's Job 14: bytes behind a file's COMMIT, and a destination too short. */
+STATIC_CHECK(NUMBER_BYTES_BEHIND == 29 && NUMBER_DESTINATION_SHORT == 30);
 
 /* The macros take expressions, and are parts of expressions. */
 STATIC_CHECK(2 * PAGE_BYTES(32 + 32, 4096 + 1) == 152 && 2 * COMMIT_BYTES(4096 + 1) == 32);
@@ -351,6 +354,110 @@ static void first_epoch(void)
     check_answer("drain", primary_drain(LENT(p.state), LENT(p.stream), L, LENT(link_bytes)), 0,
                  4 * (U + 10) + 84);
     CHECK(p.state[PRIMARY_WAITING], 0);
+}
+
+/* Checkpoint 1 has BLOCKs 4, 2 and 4 again; its normal form BLOCKs 2 and 4. */
+enum { FILE_BYTES = 4 * (U + 10) + 84, NORMAL_BYTES = 3 * (U + 10) + 84 };
+
+static uint8_t file_bytes[FILE_BYTES + 1], normal[NORMAL_BYTES + 3];
+
+/* The normal form of so many bytes of the file, into so many of normal, which are 0xee before. */
+static uint64_t make_normal(size_t length, size_t room)
+{
+    memset(normal, 0xee, sizeof normal);
+    return pair_normal_form(U, M, D, B, file_bytes, length, normal, room);
+}
+
+/* A file that is refused, or cut short: nothing is written. */
+static void file_gives(const char *what, size_t length, unsigned number)
+{
+    check_answer(what, make_normal(length, sizeof normal), number, 0);
+    CHECK(all_are(normal, sizeof normal, 0xee), 1);
+}
+
+/* The file with one byte of it changed, which is put back. */
+static void changed_byte_gives(const char *what, size_t at, uint8_t byte, unsigned number)
+{
+    uint8_t before = file_bytes[at];
+
+    file_bytes[at] = byte;
+    file_gives(what, FILE_BYTES, number);
+    file_bytes[at] = before;
+}
+
+static void check_unit(size_t at, uint8_t kind, uint8_t number, uint8_t byte)
+{
+    const uint8_t head[] = {U + 6, 0, kind, 0, 1, 0, 0, 0, number, 0};
+
+    CHECK(memcmp(normal + at, head, sizeof head) == 0, 1);
+    CHECK(all_are(normal + at + U + 10 - 5, 5, byte), 1); /* of the page 5 bytes were written */
+}
+
+/* "Blocks, then pages, each once with its last bytes, rising, then STATE and COMMIT". */
+static void check_normal(void)
+{
+    static const uint8_t commit[] = {8, 0, 4, 0, 1, 0, 0, 0, 1, 0, 2, 0};
+
+    check_unit(0, RECORD_BLOCK, 2, 7);
+    check_unit(U + 10, RECORD_BLOCK, 4, 9);
+    check_unit(2 * (U + 10), RECORD_PAGE, 65, 7);
+    CHECK(memcmp(normal + 3 * (U + 10), file_bytes + 4 * (U + 10), STATE_RECORD) == 0, 1);
+    CHECK(memcmp(normal + NORMAL_BYTES - COMMIT_RECORD, commit, sizeof commit) == 0, 1);
+}
+
+/* The settings are compared whole. */
+static void settings_of_a_file(void)
+{
+    static const size_t wrong[][4] = {
+        {U + 1, M, D, B}, {0, M, D, B}, {4160, M, D, B}, {U, 0, D, B}, {U, 65537, D, B},
+        {U, M, 4097, B}, {U, M, D, 65}, {((size_t)1 << 32) + U, M, D, B}, {U, SIZE_MAX, D, B},
+        {U, M, ((size_t)1 << 32) + D, B}, {U, M, D, SIZE_MAX}};
+
+    for (size_t i = 0; i < sizeof wrong / sizeof wrong[0]; i++)
+        check_answer("a file with wrong settings",
+                     pair_normal_form(wrong[i][0], wrong[i][1], wrong[i][2], wrong[i][3],
+                                      file_bytes, FILE_BYTES, LENT(normal)),
+                     NUMBER_OUT_OF_RANGE, 0);
+    check_answer("a file with M above 4096", /* its BLOCKs pass, its PAGE does not */
+                 pair_normal_form(U, 4097, D, B, file_bytes, FILE_BYTES, LENT(normal)),
+                 NUMBER_BAD_KIND, 0);
+    check_answer("a file with B 1",
+                 pair_normal_form(U, M, D, 1, file_bytes, FILE_BYTES, LENT(normal)),
+                 NUMBER_ALLOWANCE_USED, 0);
+    CHECK(all_are(normal, sizeof normal, 0xee), 1);
+}
+
+static void kept_on_file(void)
+{
+    const size_t second = U + 10, page = 3 * (U + 10), commit = +FILE_BYTES - COMMIT_RECORD;
+
+    memcpy(file_bytes, link_bytes, FILE_BYTES);
+    file_gives("an empty file", 0, NUMBER_CUT_SHORT);
+    file_gives("a file without its last byte", FILE_BYTES - 1, NUMBER_CUT_SHORT);
+    CHECK(answer_missing(make_normal(FILE_BYTES - 1, 0)), 1);
+    CHECK(answer_missing(make_normal(page + 4, 0)), U + 6);
+    file_gives("a file with a byte more", FILE_BYTES + 1, NUMBER_BYTES_BEHIND);
+    changed_byte_gives("an ACK", 2, RECORD_ACK, NUMBER_BAD_KIND);
+    changed_byte_gives("a COPY", second + 2, 7, NUMBER_BAD_KIND);
+    changed_byte_gives("a wide PAGE", page + 2, RECORD_WIDE_PAGE, NUMBER_BAD_KIND);
+    changed_byte_gives("a long BLOCK", 0, U + 7, NUMBER_BAD_LENGTH);
+    changed_byte_gives("a block of D", second + 8, D, NUMBER_NO_SUCH_UNIT);
+    changed_byte_gives("a page of M", page + 8, M, NUMBER_NO_SUCH_UNIT);
+    changed_byte_gives("another epoch", page + 4, 2, NUMBER_BAD_EPOCH);
+    changed_byte_gives("a PAGE before a BLOCK", 2, RECORD_PAGE, NUMBER_OUT_OF_ORDER);
+    changed_byte_gives("the count of different blocks", commit + 10, 2, NUMBER_BAD_COUNTS);
+    settings_of_a_file();
+    check_answer("a short destination", make_normal(FILE_BYTES, NORMAL_BYTES - 1),
+                 NUMBER_DESTINATION_SHORT, 0);
+    CHECK(all_are(normal, sizeof normal, 0xee), 1);
+    check_answer("a destination that fits", make_normal(FILE_BYTES, NORMAL_BYTES), 0,
+                 NORMAL_BYTES);
+    check_answer("a longer destination", make_normal(FILE_BYTES, sizeof normal), 0, NORMAL_BYTES);
+    CHECK(all_are(normal + NORMAL_BYTES, 3, 0xee), 1);
+    check_normal();
+    memcpy(file_bytes, normal, NORMAL_BYTES);
+    check_answer("a normal form's own", make_normal(NORMAL_BYTES, NORMAL_BYTES), 0, NORMAL_BYTES);
+    CHECK(memcmp(file_bytes, normal, NORMAL_BYTES) == 0, 1);
 }
 
 static uint64_t read_bytes(const uint8_t *from, size_t length)
@@ -1331,6 +1438,7 @@ int main(void)
     same_block_again();
     sums();
     first_epoch();
+    kept_on_file();
     received_by_missing();
     records();
     acknowledge_parts();

@@ -1,8 +1,9 @@
 -- The claims of files and their normal forms, proved (document 02, Job 14): what is written, that a normal form has its
--- file's content, that equal content is equal files, and that a normal form is its own. Assumes nothing.
+-- file's content, that equal content is equal normal forms, and that a normal form is its own normal form.
+-- Assumes nothing.
 use mathlib.Core.Path.{_≡_, refl, sym, ap, _∙_, subst}
 use mathlib.Core.Bool.{Bool, true, false, cond}
-use mathlib.Core.Logic.{⊎-elim}
+use mathlib.Core.Logic.{_⊎_, ⊎-elim}
 use mathlib.Core.List.{List, [], _∷_, _++_, append-nil}
 use Prim.Native.Nat.{ℕ, _≤_}
 use native.Mathlib.Omega.{arith}
@@ -10,6 +11,7 @@ use lib.Dec.{leb, eqb}
 use lib.ListN.{length}
 use borrow.Author.Tests.{leb-true, le-leb, eqb-true, ne-eqb}
 use Rattle.lists.proofs.TestLaws.{by-test}
+use Rattle.lists.proofs.PartLaws.{put-front}
 use Rattle.records.specs.Number.{outOfRange, bytesBehind, destinationShort}
 use Rattle.records.specs.Kind.{unitOk, isWide}
 use Rattle.records.specs.Message.{Message, commit, encodeAll}
@@ -31,6 +33,7 @@ use Rattle.checkpoints.proofs.NormalLaws.{normalStaged, normal-same, no
 use Rattle.checkpoints.proofs.NormalShapeLaws.{normal-content, normal-accepted, normal-again, normalFront, normal-before, normal-ends}
 use Rattle.checkpoints.proofs.NormalReadLaws.{normal-readable}
 use Rattle.checkpoints.proofs.NormalBytesLaws.{file-bytes, normal-bytes}
+use Rattle.checkpoints.proofs.NormalFormLaws.{left-refused, left-short, left-written}
 
 -- ---- a file that is accepted
 module _ (g : FileSettings) (file : List ℕ) (a : Accepted g file) where
@@ -90,7 +93,7 @@ normal-content-proved g file a =
       subst (λ (l : List Message). SameContent l ms) (sym same) (normal-content g ms (accepted-shape g file a)),
     )
 
--- ---- equal content is equal files
+-- ---- equal content is equal normal forms
 pub equal-files-proved : EqualFiles
 unfolding normalBytes
 equal-files-proved g a b x y epochs =
@@ -107,14 +110,14 @@ equal-files-proved g a b x y epochs =
           (normal-same (epochOf ma) (g .d) (g .m) ma mb c ∙ ap (λ (e : ℕ). normalOf e (g .d) (g .m) mb) epochs)),
     )
 
--- ---- a normal form is accepted, and is its own
+-- ---- a normal form is accepted, and is its own normal form
 itself : (g : FileSettings) (ms : List Message) → Shape g ms → normalBytes g (normalOf (epochOf ms) (g .d) (g .m) ms) ≡ normalBytes g ms
 unfolding normalBytes
 itself g ms s =
     let nf = normalOf (epochOf ms) (g .d) (g .m) ms in
     ap (encodeAll (isWide (g .m))) (ap (λ (e : ℕ). normalOf e (g .d) (g .m) nf) (normal-epoch (epochOf ms) (g .d) (g .m) ms) ∙ normal-again g ms s)
 
--- "A file is normalised to itself"
+-- "A file is normalised to itself" (a file here is a normal form)
 pub normal-itself-proved : NormalItself
 normal-itself-proved g file a =
     let ms = messagesOf g file a in
@@ -160,15 +163,25 @@ saved-written true number s n q = go (eqb number 0) refl q
     go true e q = (refl, eqb-true number 0 e, q)
     go false e q = not-written number n q
 
--- with room an accepted file is written, and no other
+-- with room an accepted file is
+written-accepted : (g : FileSettings) (file : List ℕ) (room : ℕ) → Accepted g file → length (normalOfFile g file) ≤ room → saved g file room ≡ Written (length (normalOfFile g file))
+unfolding saved
+written-accepted g file room a l = rw (a .settings, a .records, a .whole, le-leb (length (normalOfFile g file)) room l)
+
+-- with room an accepted file's normal form is written, and no other file's; the destination is as claimed
 pub written-exactly-proved : WrittenExactly
 unfolding saved
 written-exactly-proved g file room bytes =
     let normal = length (normalOfFile g file) in (
-      (λ (a : Accepted g file) (l : normal ≤ room).
-          rw (a .settings, a .records, a .whole, le-leb normal room l)),
+      written-accepted g file room,
       (λ (n : ℕ) (q : saved g file room ≡ Written n).
           let s = saved-written (fileSettingsOk g) (refusalFrom g noneKnown (fileIn g file .messages)) (ended (fileIn g file .ending) normal room) n q in
           let e = ended-written (fileIn g file .ending) normal room n (s .2) in
           (record { bytes = bytes; settings = s .0; records = s .1; whole = e .0 }, e .1, e .2)),
+      (λ (destination : List ℕ). (
+        (λ (a : Accepted g file) (l : normal ≤ length destination).
+            sym (left-written g file destination normal (written-accepted g file (length destination) a l)) ∙ put-front destination (normalOfFile g file)),
+        (λ (n : ℕ) (q : (saved g file (length destination) ≡ Refused n) ⊎ (saved g file (length destination) ≡ Short n)).
+            ⊎-elim (λ r. sym (left-refused g file destination n r)) (λ r. sym (left-short g file destination n r)) q),
+      )),
     )

@@ -36,3 +36,4 @@ pub mod WrittenLaws
 pub mod NormalFormLaws
 pub mod ArmLaws
 pub mod JudgedLaws
+pub mod RoomProved

@@ -1,6 +1,6 @@
 -- Reads and flushes: by cases, at a standby that receives a checkpoint, and that the last checkpoint received never
 -- falls. Assumes nothing.
-use Prim.Native.Nat.{ℕ, _≤_}
+use Prim.Native.Nat.{ℕ, _+_, _≤_}
 use mathlib.Core.Path.{_≡_, refl, sym, ap, subst}
 use mathlib.Core.Bool.{Bool, true, false, cond}
 use mathlib.Core.List.{List, [], _∷_, _++_}
@@ -10,7 +10,7 @@ use lib.ListN.{length, take}
 use Rattle.records.specs.declared.Reader.the-variants as reader
 use Rattle.records.specs.declared.Record.{Record}
 use Rattle.records.specs.declared.Record.the-variants.{Page, Block, State, Commit, Ack, Short, Refused}
-use Rattle.records.specs.Kind.{isWide}
+use Rattle.records.specs.Kind.{ACK, isWide, bodyLength, recordLength}
 use Rattle.records.specs.Read.{readRecord}
 use Rattle.records.specs.Message.{Message}
 use Rattle.settings.specs.declared.StandbySettings.{StandbySettings}
@@ -85,7 +85,33 @@ step-grows w = call-cases w (λ (c : Call). w .standby .state .received ≤ step
         subst (λ (t : Stepped). s .state .received ≤ t .next .standby .state .received) (sym (read-step w n reply))
         (read-grows (s .state) l (take n (w .link)) (judged (s .state) l (take n (w .link))) (judged-facts (s .state) l (take n (w .link))))
 
--- by several, of which more may follow
+-- ---- a read by which it rises accepts a COMMIT, and so has room for an ACK
+commit-room : (s : Standby) (l : ReadLent) (bytes : List ℕ) (q : Record) → JudgedFacts s l bytes q → readState s bytes q .received ≡ s .received + 1 → 8 ≤ l .reply
+commit-room s l bytes (Page v e p c) f h = absurd (omega arith)
+commit-room s l bytes (Block e n c) f h = absurd (omega arith)
+commit-room s l bytes (State e c) f h = absurd (omega arith)
+commit-room s l bytes (Commit v e p b c) f h = f .tests .room
+commit-room s l bytes (Ack e c) f h = absurd f
+commit-room s l bytes (Short n) f h = absurd (omega arith)
+commit-room s l bytes (Refused n) f h = absurd (omega arith)
+
+-- in the world
+pub read-room : (w : World) (n : ℕ) (reply : List ℕ) → step w (call.read n reply) .next .standby .state .received ≡ w .standby .state .received + 1
+    → (u : ℕ) → recordLength u ACK ≤ length reply
+unfolding recordLength bodyLength
+read-room w n reply h u =
+    let s = w .standby in
+    let l = readLent (s .memory) (s .stagedPages) (s .stagedMarks) (s .stagedBlocks) reply in
+    commit-room (s .state) l (take n (w .link)) (judged (s .state) l (take n (w .link))) (judged-facts (s .state) l (take n (w .link)))
+    (subst (λ (t : Stepped). t .next .standby .state .received ≡ s .state .received + 1) (read-step w n reply) h)
+
+-- ---- several calls
+-- the last of them
+pub made-last : (cs : List Call) (c : Call) (w : World) → made w (cs ++ (c ∷ [])) ≡ step (made w cs) c .next
+made-last [] c w = refl
+made-last (d ∷ cs) c w = made-last cs c (step w d .next)
+
+-- the last checkpoint received never falls by several, of which more may follow
 pub made-grows : (cs ds : List Call) (w : World) → AllReadOrFlush w (cs ++ ds) → w .standby .state .received ≤ made w cs .standby .state .received
 made-grows [] ds w f = omega arith
 made-grows (c ∷ cs) ds w f = omega (arith, step-grows w c (f .0), made-grows cs ds (step w c .next) (f .1))

@@ -1,5 +1,4 @@
--- A standby with no block due takes the bytes of records that are not refused, one read each, up to their COMMIT.
--- Assumes nothing.
+-- A standby with no block due accepts records that are not refused, one read each, up to their COMMIT. Assumes nothing.
 use Prim.Native.Nat.{ℕ, _+_, _≤_}
 use mathlib.Core.Path.{_≡_, sym, ap, _∙_, subst}
 use mathlib.Core.Bool.{Bool}
@@ -38,7 +37,7 @@ module _ (x : StandbySettings) (base : Checkpoint) (r n : ℕ) (reply : List ℕ
     pub fit : All (λ (y : Message). Readable (x .u) (isWide (x .m)) y × (messageEpoch y ≡ r + 1)) ys
     pub records : refusalFrom (fileSettings x) k ys ≡ 0
 
-  -- the first of them is taken
+  -- the first of them is accepted
   first-taken : (w : World) (k : Known) (ms : List Message) (y : Message) (ys : List Message) → Ready w k ms (y ∷ ys)
       → Takes x base r k ms (encodeAll (isWide (x .m)) ys) (step w (call.read n reply)) y
   first-taken w k ms y ys f =
@@ -51,11 +50,7 @@ module _ (x : StandbySettings) (base : Checkpoint) (r n : ℕ) (reply : List ℕ
       (f .link ∙ ap (λ (v : StandbySettings). encode (isWide (v .m)) y ++ encodeAll wide ys) back) (f .enough) (f .fit .0 .1)
       (subst (λ (v : StandbySettings). messageRefusal (fileSettings v) k y ≡ 0) back (refusal-cons (fileSettings x) k y ys (f .records) .0)))
 
-  -- room for an ACK, in the standby's own settings
-  own-room : (w : World) (k : Known) (ms : List Message) → Standing x base r k ms (w .standby) → recordLength (w .standby .state .settings .u) ACK ≤ length reply
-  own-room w k ms h = subst (λ (v : StandbySettings). recordLength (v .u) ACK ≤ length reply) (sym (h .settings)) room
-
-  -- where one that ends no checkpoint is taken, the rest can be
+  -- where one that ends no checkpoint is accepted, the rest can be
   rest-ready : (w : World) (k : Known) (ms : List Message) (y : Message) (ys : List Message) → Ready w k ms (y ∷ ys) → Before y
       → Ready (step w (call.read n reply) .next) (knownWith k y) (ms ++ (y ∷ [])) ys
   rest-ready w k ms y ys f b =
@@ -83,10 +78,10 @@ module _ (x : StandbySettings) (base : Checkpoint) (r n : ℕ) (reply : List ℕ
       × Taken x base r (ms ++ (xs ++ (commit a p b ∷ []))) (made w (replicate (length (xs ++ (commit a p b ∷ []))) (call.read n reply)) .standby)
   all-taken [] a p b w k ms before f =
       let t = first-taken w k ms (commit a p b) [] f in
-      (((own-room w k ms (f .standing), t .number), tt), t .link, t .after)
+      ((t .number, tt), t .link, t .after)
   all-taken (y ∷ xs) a p b w k ms before f =
       let ys = xs ++ (commit a p b ∷ []) in
       let t = first-taken w k ms y ys f in
       let next = step w (call.read n reply) .next in
       let more = all-taken xs a p b next (knownWith k y) (ms ++ (y ∷ [])) (before .1) (rest-ready w k ms y ys f (before .0)) in
-      (((own-room w k ms (f .standing), t .number), more .0), more .1, subst (λ (l : List Message). Taken x base r l (made next (reads ys) .standby)) (append-snoc ms y ys) (more .2))
+      ((t .number, more .0), more .1, subst (λ (l : List Message). Taken x base r l (made next (reads ys) .standby)) (append-snoc ms y ys) (more .2))

@@ -1,4 +1,4 @@
--- The same content taken from the same start gives the same memory, processor state and disk. Assumes nothing.
+-- The same content received from the same start gives the same memory, processor state and disk. Assumes nothing.
 use Prim.Native.Nat.{ℕ, _*_}
 use mathlib.Core.Path.{_≡_, refl, sym, ap, _∙_}
 use mathlib.Core.List.{List, []}
@@ -16,7 +16,7 @@ use Rattle.rules.specs.Step.{step}
 use Rattle.checkpoints.specs.declared.FileSettings.{FileSettings}
 use Rattle.checkpoints.specs.Content.{SameContent}
 use Rattle.checkpoints.specs.Judge.{noneKnown}
-use Rattle.checkpoints.specs.Received.{Awaits, SameTaken}
+use Rattle.checkpoints.specs.Received.{Awaits, SameReceived}
 use Rattle.checkpoints.proofs.Standing.{Standing, Taken, baseOf, awaits-standing}
 use Rattle.checkpoints.proofs.StandingFlush.{flushEnd, flush-none-refused, flush-standing, flush-step}
 use Rattle.checkpoints.proofs.SameEffects.{same-memory, same-disk, same-processor}
@@ -46,9 +46,9 @@ module _ (g : FileSettings) (e : StandbyEnd) (a : Awaits g e) where
       ap length (sym (h .diskIs) ∙ store-none (x .u) (t .state .slots) (t .stagedBlocks) (t .disk) none) ∙ h .disk
 
   -- the same content from the same start
-  pub same-taken : (xs ys : List Message) (b c : StandbyEnd) → SameContent xs ys → Taken (e .state .settings) (baseOf e) (e .state .received) xs b
-      → Taken (e .state .settings) (baseOf e) (e .state .received) ys c → SameTaken b c
-  same-taken xs ys b c same s t =
+  pub same-received : (xs ys : List Message) (b c : StandbyEnd) → SameContent xs ys → Taken (e .state .settings) (baseOf e) (e .state .received) xs b
+      → Taken (e .state .settings) (baseOf e) (e .state .received) ys c → SameReceived b c
+  same-received xs ys b c same s t =
       record {
         received = s .received ∙ sym (t .received);
         memory = s .memoryIs ∙ same-memory x (baseOf e) xs ys same (s .inside) (t .inside) base-memory ∙ sym (t .memoryIs);

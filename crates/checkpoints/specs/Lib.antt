@@ -7,4 +7,5 @@ pub mod ScanFits
 pub mod Form
 pub mod Saving
 pub mod Claims
+pub mod Room
 pub mod Received

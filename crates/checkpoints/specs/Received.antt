@@ -1,11 +1,10 @@
 -- A standby that receives a checkpoint record by record, for "every accepted checkpoint" (document 02, Job 14): what it
--- accepts is accepted here, and it takes the normal form as it takes the file. Assumes nothing.
-use Prim.Native.Nat.{ℕ, _+_, _*_, _≤_}
+-- accepts is accepted here, and it accepts the normal form as it accepts the file. Assumes nothing.
+use Prim.Native.Nat.{ℕ, _+_}
 use mathlib.Core.Path.{_≡_}
 use mathlib.Core.Bool.{true, false}
 use mathlib.Core.List.{List, [], _∷_, _++_}
 use lib.ListN.{length, replicate}
-use Rattle.records.specs.Kind.{ACK, recordLength}
 use Rattle.staging.specs.SlotList.{dueList, storeAll}
 use Rattle.rules.specs.StandbyState.{isReceiving, memoryLength, diskLength, slotsLength, marksLength}
 use Rattle.rules.specs.Reached.{StandbyInRange}
@@ -45,9 +44,11 @@ abbrev pub made : World → List Call → World
 made w [] = w
 made w (c ∷ cs) = made (step w c .next) cs
 
--- each a read that is accepted, with room for an ACK, or a flush
+-- a read that is accepted, or a flush. Only these are in the lists of calls below: a tick below T, a read cut short or
+-- refused, or a call of the primary (a drain adds at the link's end) changes nothing of what the standby has received,
+-- and is left out
 abbrev pub ReadOrFlush : World → Call → Type 0
-ReadOrFlush w (call.read n reply) = (recordLength (w .standby .state .settings .u) ACK ≤ length reply) × (step w (call.read n reply) .outcome .number ≡ 0)
+ReadOrFlush w (call.read n reply) = step w (call.read n reply) .outcome .number ≡ 0
 ReadOrFlush w (call.flush n) = Unit {0}
 ReadOrFlush w (call.memoryWrite page offset bytes) = ⊥
 ReadOrFlush w (call.diskWrite block bytes) = ⊥
@@ -68,26 +69,26 @@ abbrev pub AllReadOrFlush : World → List Call → Type 0
 AllReadOrFlush w [] = Unit {0}
 AllReadOrFlush w (c ∷ cs) = ReadOrFlush w c × AllReadOrFlush (step w c .next) cs
 
--- it reads all bytes on the link by these calls, of which the last, and no earlier one, accepts a COMMIT: so they are one
--- checkpoint
-pub record Receives (g : FileSettings) (w : World) (cs : List Call) (n : ℕ) (reply : List ℕ) : Type 0 where
+-- the standby reads all bytes of the file by these calls, of which the last, and no earlier one, accepts a COMMIT: so
+-- they are one checkpoint; whatever is behind it stays on the link
+pub record Receives (g : FileSettings) (w : World) (file : List ℕ) (cs : List Call) (n : ℕ) (reply : List ℕ) : Type 0 where
   pub bytes : AreBytes (w .link)
   pub awaits : Awaits g (w .standby)
   pub calls : AllReadOrFlush w (cs ++ (call.read n reply ∷ []))
   pub before : made w cs .standby .state .received ≡ w .standby .state .received
   pub received : made w (cs ++ (call.read n reply ∷ [])) .standby .state .received ≡ w .standby .state .received + 1
-  pub all : made w (cs ++ (call.read n reply ∷ [])) .link ≡ []
+  pub file-is : file ++ made w (cs ++ (call.read n reply ∷ [])) .link ≡ w .link
 
 -- whatever a standby accepts record by record is accepted here
 abbrev pub AcceptedAll : Type 0
-AcceptedAll = (g : FileSettings) (w : World) (cs : List Call) (n : ℕ) (reply : List ℕ) → Receives g w cs n reply → Accepted g (w .link)
+AcceptedAll = (g : FileSettings) (w : World) (file : List ℕ) (cs : List Call) (n : ℕ) (reply : List ℕ) → Receives g w file cs n reply → Accepted g file
 
 -- the disk once all due blocks are stored
 abbrev pub diskStored : StandbyEnd → List ℕ
 diskStored e = storeAll (e .state .settings .u) (e .disk) (dueList (e .state .settings .u) (e .state .slots) (e .stagedBlocks))
 
 -- the same memory, processor state and, all due stored, disk, of the same checkpoint
-pub record SameTaken (a b : StandbyEnd) : Type 0 where
+pub record SameReceived (a b : StandbyEnd) : Type 0 where
   pub received : a .state .received ≡ b .state .received
   pub memory : a .memory ≡ b .memory
   pub processor : a .state .processor ≡ b .state .processor
@@ -98,17 +99,18 @@ abbrev pub withLink : World → List ℕ → World
 withLink w bytes = record { primary = w .primary; standby = w .standby; link = bytes; acks = w .acks }
 
 -- a flush of all due, then a read of each record of the normal form
-abbrev pub normalCalls : FileSettings → World → (reply : List ℕ) → List Call
-normalCalls g w reply =
-    let ms = fileIn g (w .link) .messages in
+abbrev pub normalCalls : FileSettings → World → (file reply : List ℕ) → List Call
+normalCalls g w file reply =
+    let ms = fileIn g file .messages in
     call.flush (w .standby .state .slots .due)
-    ∷ replicate (length (normalOf (epochOf ms) (g .d) (g .m) ms)) (call.read (length (normalOfFile g (w .link))) reply)
+    ∷ replicate (length (normalOf (epochOf ms) (g .d) (g .m) ms)) (call.read (length (normalOfFile g file)) reply)
 
--- such a standby takes the normal form in the file's place: every record is accepted, and it ends with the same
+-- such a standby accepts the normal form in the file's place: every record is accepted, and it ends with the same
+-- memory, processor state and, all due stored, disk
 abbrev pub NormalRestores : Type 0
 NormalRestores =
-    (g : FileSettings) (w : World) (cs : List Call) (n : ℕ) (reply : List ℕ) → Receives g w cs n reply
-    → let v = withLink w (normalOfFile g (w .link)) in
-    AllReadOrFlush v (normalCalls g w reply)
-    × (made v (normalCalls g w reply) .link ≡ [])
-    × SameTaken (made v (normalCalls g w reply) .standby) (made w (cs ++ (call.read n reply ∷ [])) .standby)
+    (g : FileSettings) (w : World) (file : List ℕ) (cs : List Call) (n : ℕ) (reply : List ℕ) → Receives g w file cs n reply
+    → let v = withLink w (normalOfFile g file) in
+    AllReadOrFlush v (normalCalls g w file reply)
+    × (made v (normalCalls g w file reply) .link ≡ [])
+    × SameReceived (made v (normalCalls g w file reply) .standby) (made w (cs ++ (call.read n reply ∷ [])) .standby)
