@@ -21,7 +21,7 @@ pub mod ReceivedCalls
 pub mod ReceivedFile
 pub mod ReceivedTakes
 pub mod SameEffects
-pub mod SameTaken
+pub mod SameReceived
 pub mod ReceivedProved
 pub mod PlaceLaws
 pub mod ScanMeaning

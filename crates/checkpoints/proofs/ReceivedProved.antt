@@ -32,7 +32,7 @@ use Rattle.checkpoints.proofs.Standing.{fileSettings, baseOf, awaits-se
 use Rattle.checkpoints.proofs.ReceivedCalls.{read-room, made-last, flush-at}
 use Rattle.checkpoints.proofs.ReceivedFile.{WholeFile, received-whole, file-front, front-bytes}
 use Rattle.checkpoints.proofs.ReceivedTakes.{Ready, all-taken}
-use Rattle.checkpoints.proofs.SameTaken.{same-received, flush-due}
+use Rattle.checkpoints.proofs.SameReceived.{same-received, flush-due}
 
 -- ---- the file that a standby received
 module _ (g : FileSettings) (w : World) (file : List ℕ) (cs : List Call) (n : ℕ) (reply : List ℕ) (f : Receives g w file cs n reply) where

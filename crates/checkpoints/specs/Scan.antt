@@ -1,5 +1,5 @@
 -- How the code goes through a file: what it keeps of the records so far, and what it makes of the next one. What all of
--- it comes to is said by `fileIn` and `refusalFrom` (proofs/ScanLaws.antt). Assumes nothing.
+-- it comes to is said by `fileIn` and `refusalFrom` (proofs/ScanEnds.antt). Assumes nothing.
 use Prim.Native.Nat.{ℕ, zero, suc, _+_}
 use mathlib.Core.Bool.{Bool, true, false, cond}
 use mathlib.Core.List.{List}
