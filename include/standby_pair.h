@@ -1,5 +1,6 @@
 /*
- * The two ends of a standby pair, as a host calls them in libcapi.a.
+ * The two ends of a standby pair, as a host calls them in libcapi.a; and the normal form of a
+ * checkpoint kept on file, in libfiles.a.
  *
  * The primary end holds the guest's memory and disk and makes checkpoints of them; the standby end
  * receives these and takes over. Every call is proved to do what document 01 says, with the jobs of
@@ -479,7 +480,7 @@ uint64_t standby_sum(const uint64_t *state, size_t state_len, const uint8_t *pen
  */
 uint64_t pair_page_sum(const uint8_t *memory, size_t memory_len, size_t u, size_t page);
 
-/* ---- A checkpoint kept on file. ---- */
+/* ---- A checkpoint kept on file, in libfiles.a. ---- */
 
 /*
  * Normal form: one checkpoint, as drain moved it out, in a form that depends only on what it names.

@@ -5,7 +5,6 @@ pub mod DoneLaws
 pub mod KeptLaws
 pub mod AnswerLaws
 pub mod PageSumLaws
-pub mod SavedLaws
 pub mod MissingLaws
 pub mod StepLaws
 pub mod HostLaws

@@ -1,5 +1,4 @@
--- Start, which makes the words of both states, the disk choice, a page's part of a sum, and the normal form of a file.
--- Assumes nothing.
+-- Start, which makes the words of both states, the disk choice, and a page's part of a sum. Assumes nothing.
 use Prim.Native.Nat.{ℕ, _/_, _%_, min}
 use mathlib.Core.Bool.{Bool, _&&_}
 use mathlib.Core.List.{List, [], _∷_}
@@ -11,16 +10,11 @@ use Rattle.records.specs.Number.{outOfRange, noSuchUnit}
 use Rattle.settings.specs.declared.Settings.{Settings}
 use Rattle.settings.specs.Range.{memoryPagesOk}
 use Rattle.sums.specs.Sum.{pageSum}
-use Rattle.rules.specs.declared.Answer.{Answer}
-use Rattle.rules.specs.declared.Answer.the-variants as answer
 use Rattle.rules.specs.declared.Choice.{Choice}
 use Rattle.rules.specs.Choose.{choiceNumber, diskOf}
 use Rattle.rules.specs.Start.{started, startMarks, startCopy, startArea}
 use Rattle.rules.specs.World.{Buffers, startLent}
-use Rattle.checkpoints.specs.declared.FileSettings.{FileSettings}
-use Rattle.checkpoints.specs.declared.Saved.{Saved}
-use Rattle.checkpoints.specs.declared.Saved.the-variants.{Written, Short, Refused}
-use Rattle.capi.specs.Word.{replyWord, recordWord, most32, Leaves}
+use Rattle.capi.specs.Word.{replyWord, most32, Leaves}
 use Rattle.capi.specs.PrimaryWords.{primaryLength}
 use Rattle.capi.specs.StandbyWords.{standbyLength}
 use Rattle.capi.specs.PrimaryCalls.{PrimaryDone}
@@ -91,15 +85,3 @@ unfoldable pub pageSumWord : (u : ℕ) (image : List ℕ) (page : ℕ) → ℕ
 pageSumWord u image page =
     let n = pageSumRefusal u (length image) page in
     replyWord n (pick n (pageSum u image page) 0)
-
--- ---- the normal form of a file: its value is the length written, and no bytes are used of a link
-abbrev pub fileSettings : (u m d b : ℕ) → FileSettings
-fileSettings u m d b = record { u = u; m = m; d = d; b = b }
-
-abbrev pub savedAnswer : Saved → Answer
-savedAnswer (Written length) = answer.Accepted length 0
-savedAnswer (Short missing) = answer.Short missing
-savedAnswer (Refused number) = answer.Refused number
-
-abbrev pub savedWord : Saved → ℕ
-savedWord a = recordWord (savedAnswer a)

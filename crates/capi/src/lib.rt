@@ -5,4 +5,4 @@ mod primary_calls;
 mod primary_words;
 mod standby_calls;
 mod standby_words;
-mod word;
+pub mod word;

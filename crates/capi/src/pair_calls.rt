@@ -1,4 +1,4 @@
-// Start, the disk choice, a page's part of a sum, and the normal form of a file.
+// Start, the disk choice, and a page's part of a sum.
 ghost use mathlib.Core.Path.{_≡_};
 ghost use mathlib.Core.Bool.{_&&_};
 ghost use Prim.Native.Nat.{min};
@@ -9,19 +9,14 @@ ghost use Rattle.capi.specs.Word.{most32};
 ghost use Rattle.capi.specs.PrimaryWords.{primaryLength};
 ghost use Rattle.capi.specs.StandbyWords.{standbyLength};
 ghost use Rattle.capi.specs.StandbyCalls.{asLent};
-ghost use Rattle.checkpoints.specs.Saving.{saved, savedDestination};
-ghost use Rattle.capi.specs.PairCalls.{settingsLength, settingsOf, lentBuffers, StartDone, choiceWord, pageSumRefusal, pageSumWord, fileSettings, savedAnswer, savedWord};
+ghost use Rattle.capi.specs.PairCalls.{settingsLength, settingsOf, lentBuffers, StartDone, choiceWord, pageSumRefusal, pageSumWord};
 use crate::primary_words;
 use crate::standby_words;
 use crate::word;
-use checkpoints::FileSettings;
-use checkpoints::Saved;
-use checkpoints::normal::normal_form;
 use ends::choice::decide;
 use ends::start::start;
 use records::number;
 use records::reading::unit_ok;
-use rules::Answer;
 use rules::Choice;
 use settings::MOST_PAGES;
 use settings::Settings;
@@ -159,35 +154,4 @@ pub extern "C" fn pair_page_sum(image: &[u8], u: usize, page: usize) -> u64
         return word::reply_word(number, 0);
     }
     word::reply_word(0, sums::page_sum(image, u, page))
-}
-
-// What writing a normal form answers, as the calls that read a record do: no bytes are used of a link.
-fn saved_answer(s: Saved) -> Answer
-    ensures { λ r. ⌜ r ≡ savedAnswer s ⌝ }
-{
-    match s {
-        Saved::Written { length } => Answer::Accepted {
-            value: length as u64,
-            used: 0,
-        },
-        Saved::Short { missing } => Answer::Short { missing },
-        Saved::Refused { number } => Answer::Refused { number },
-    }
-}
-
-// A file, one checkpoint as it travelled, into its normal form at the head of the destination.
-#[no_mangle]
-pub extern "C" fn pair_normal_form(
-    u: usize,
-    m: usize,
-    d: usize,
-    b: usize,
-    file: &[u8],
-    destination: &mut [u8],
-) -> u64
-    ensures { λ r. ⌜ (r ≡ savedWord (saved (fileSettings u m d b) (now (file .entry)) (length (now (destination .entry))))) × (now (destination .exit) ≡ savedDestination (fileSettings u m d b) (now (file .entry)) (now (destination .entry))) ⌝ }
-{
-    let g = FileSettings { u, m, d, b };
-    let s = normal_form(g, file, destination);
-    word::record_word(saved_answer(s))
 }

@@ -96,7 +96,7 @@ pub(crate) fn reply_word(number: u64, value: u64) -> u64
 }
 
 // The answer of a call that reads a record.
-pub(crate) fn record_word(a: Answer) -> u64
+pub fn record_word(a: Answer) -> u64
     ensures { λ r. ⌜ r ≡ recordWord a ⌝ }
 {
     match a {

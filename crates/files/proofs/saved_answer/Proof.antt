@@ -1,8 +1,8 @@
--- `pair_calls::saved_answer` meets its contract. Assumes nothing.
+-- `files::saved_answer` meets its contract. Assumes nothing.
 use mathlib.Core.Path.{refl}
 use borrow.Author.Needs.{needs}
-use Rattle.capi.proofs.pair_calls.saved_answer.Statement.{statement}
-use Rattle.capi.proofs.pair_calls.saved_answer.Tie as tie
+use Rattle.files.proofs.saved_answer.Statement.{statement}
+use Rattle.files.proofs.saved_answer.Tie as tie
 
 enum-known-s : tie.Need-enum-known-s
 enum-known-s c = search needs

@@ -1,10 +1,10 @@
--- `pair_calls::pair_normal_form` meets its contract. Assumes nothing.
+-- `files::pair_normal_form` meets its contract. Assumes nothing.
 use mathlib.Core.Path.{_≡_, ap, _∙_}
 use Rattle.capi.specs.Word.{recordWord}
-use Rattle.capi.specs.PairCalls.{savedAnswer}
+use Rattle.files.specs.Saved.{savedAnswer}
 use borrow.Author.Needs.{needs}
-use Rattle.capi.proofs.pair_calls.pair_normal_form.Statement.{statement}
-use Rattle.capi.proofs.pair_calls.pair_normal_form.Tie as tie
+use Rattle.files.proofs.pair_normal_form.Statement.{statement}
+use Rattle.files.proofs.pair_normal_form.Tie as tie
 
 normal-form-requires : tie.Need-normal-form-requires
 normal-form-requires c κs = search needs

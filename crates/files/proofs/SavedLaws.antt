@@ -33,8 +33,8 @@ use Rattle.checkpoints.proofs.NormalFormLaws.{range-refused}
 use Rattle.checkpoints.proofs.WrittenLaws.{block-length, few-records, pages-most}
 use Rattle.checkpoints.proofs.ScanEnds.{Committed, ScanEnds, scan-ends}
 use Rattle.checkpoints.proofs.ScanEnds as ends
-use Rattle.capi.specs.PairCalls.{savedAnswer, savedWord}
+use Rattle.files.specs.Saved.{savedAnswer, savedWord}
 use Rattle.capi.proofs.AnswerLaws.{Parts, AnsweredFits, record-parts, refusal-below}
 
 -- ---- the record with which going through a file ends: the bytes missing and the number that it is refused with
 abbrev LastFits : Record → Type 0
