@@ -46,8 +46,8 @@ NormalContent =
     (g : FileSettings) (file : List ℕ) → Accepted g file
     → let f = fileIn g file in let n = fileIn g (normalOfFile g file) in (epochOf (n .messages) ≡ epochOf (f .messages)) × SameContent (n .messages) (f .messages)
 
--- "Two checkpoints of the same epoch and settings have equal files exactly when they name the same pages and blocks
--- with the same last bytes and carry the same processor state" (a file here is a normal form)
+-- "Two checkpoints of the same epoch and settings have equal files exactly when ..": their normal forms are equal where
+-- the contents are the same, and only there
 abbrev pub EqualFiles : Type 0
 EqualFiles =
     (g : FileSettings) (a b : List ℕ) → Accepted g a → Accepted g b → epochOf (fileIn g a .messages) ≡ epochOf (fileIn g b .messages)
