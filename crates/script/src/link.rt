@@ -69,8 +69,8 @@ fn used_of(a: Answer) -> usize
     }
 }
 
-// The site with nothing changed: m or a with nothing there.
-fn nothing_there(s: Site) -> Performed
+// The site with nothing changed: a command with nothing there.
+pub fn nothing_there(s: Site) -> Performed
     ensures { λ r. ⌜ doneOf r ≡ refused (worldOf s) nothingFree ⌝ }
 {
     Performed {
@@ -151,7 +151,7 @@ pub fn drain_bytes(s: Site, n: usize) -> Site
 }
 
 // The link, with a record drained into it where it is empty.
-fn drain_record(s: Site) -> Site
+pub fn drain_record(s: Site) -> Site
     ensures { λ r. ⌜ worldOf r ≡ drained (worldOf s) ⌝ }
 {
     let linked = s.linked;

@@ -120,12 +120,19 @@ pub fn take(s: Site) -> Performed
 }
 
 // One tick of the primary.
+pub fn primary_tick(s: Site) -> Performed
+    ensures { λ r. ⌜ doneOf r ≡ done (step (worldOf s) call.primaryTick) ⌝ }
+{
+    let p = s.primary;
+    let r = primary::tick::tick(p.state);
+    replied(s, p, r)
+}
+
+// The site after it.
 pub fn primary_ticked(s: Site) -> Site
     ensures { λ r. ⌜ worldOf r ≡ step (worldOf s) call.primaryTick .next ⌝ }
 {
-    let mut p = s.primary;
-    let r = primary::tick::tick(p.state);
-    let state = r.state;
-    p.state = state;
-    with_primary(s, p)
+    let r = primary_tick(s);
+    let site = r.site;
+    site
 }
