@@ -3,6 +3,7 @@ use Prim.Native.Nat.{ℕ}
 use mathlib.Core.Path.{_≡_}
 use mathlib.Core.Bool.{true, not}
 use mathlib.Core.List.{List, [], _∷_, _++_, flatten}
+use Rattle.text.specs.declared.Line.{Line}
 use Rattle.text.specs.Feed.{endedLines, Reading, reading, firstReading}
 use Rattle.text.specs.Turns.{allPrinted, allMore, endsAfter, noneEmpty}
 use Rattle.rules.specs.World.{World}
@@ -10,7 +11,7 @@ use Rattle.script.specs.Site.{worldOf}
 use Rattle.script.specs.Output.{pairProgram, outputOf, anyTakeover}
 use Rattle.pair.specs.declared.Run.{Run}
 
-abbrev pub readingOf : Run → Reading World
+abbrev pub readingOf : Run → Reading World Line
 readingOf r = reading (worldOf (r .site)) (r .line) (r .over)
 
 -- what is claimed of the program over any parts of its input

@@ -7,6 +7,7 @@ use lib.Dec.{eqb}
 use lib.ListN.{length, replicate}
 use Rattle.text.specs.Line.{isEmpty}
 use Rattle.text.specs.Feed.{KeptRight, anyLast}
+use Rattle.text.proofs.KeptLaws.{empty-line}
 use Rattle.records.specs.Number.{nothingFree}
 use Rattle.rules.specs.World.{World}
 use Rattle.rules.specs.World as call
@@ -18,9 +19,9 @@ use Rattle.script.specs.Pair.{Done, done, refused, drained, ackBytes, pe
 use Rattle.script.specs.Output.{commandAnswer, pairProgram, anyTakeover}
 use Rattle.script.proofs.CommandLaws.{command-of-line}
 
--- the answer by what is kept of a line is the answer to the line
+-- what is kept of a line gives the answer to the line, and tells the empty one
 pub kept-right : KeptRight pairProgram
-kept-right w line = ap (commandAnswer w) (command-of-line line)
+kept-right = record { answers = λ w line. ap (commandAnswer w) (command-of-line line); empty = empty-line }
 
 -- ---- the last line is `k`
 last-done : (b : Bool) (x y : Done) → x .last ≡ false → y .last ≡ false → cond b x y .last ≡ false

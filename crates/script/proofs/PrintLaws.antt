@@ -1,24 +1,15 @@
 -- Laws of printing. Assumes nothing.
-use Prim.Native.Nat.{ℕ, _+_, _-_, _≤_}
-use mathlib.Core.Path.{_≡_, sym, ap, _∙_}
+use Prim.Native.Nat.{ℕ, _+_, _≤_}
+use mathlib.Core.Path.{_≡_}
 use mathlib.Core.List.{List, [], _∷_, _++_}
 use native.Mathlib.Omega.{arith}
-use lib.ListN.{length, take, drop, length-drop}
-use lib.Seq.{take-length}
-use Rattle.lists.specs.Part.{put, PutDone}
+use lib.ListN.{length}
+use Rattle.lists.specs.Part.{PutDone}
 use Rattle.lists.proofs.PartLaws.{put-done-more, put-done-length}
 use Rattle.text.specs.Decimal.{decimal}
 use Rattle.text.specs.Line.{space, newline}
 use Rattle.rules.specs.Step.{outcome}
 use Rattle.script.specs.Output.{printed}
-
--- the digits of a number, copied from the array that they stand at the end of
-pub number-put : (n start at : ℕ) (bytes s t : List ℕ) → drop start bytes ≡ decimal n → start ≤ 19 → length bytes ≡ 20 → t ≡ put s at (take (20 - start) (drop start bytes))
-    → PutDone (decimal n) s at t (at + (20 - start))
-number-put n start at bytes s t e h k p =
-    let l : length (decimal n) ≡ 20 - start = ap length (sym e) ∙ length-drop start bytes ∙ ap (λ (m : ℕ). m - start) k in
-    let w : take (20 - start) (drop start bytes) ≡ decimal n = ap (take (20 - start)) e ∙ ap (λ (m : ℕ). take m (decimal n)) (sym l) ∙ take-length (decimal n) in
-    record { bytes = p ∙ ap (put s at) w; position = ap (λ (m : ℕ). at + m) (sym l) }
 
 -- the six parts of a line of output, one behind the other
 pub printed-put : (letter number value at a b c d e r : ℕ) (s₀ s₁ s₂ s₃ s₄ s₅ s₆ : List ℕ) → at + 44 ≤ length s₀ → c ≤ b + 20 → e ≤ d + 20

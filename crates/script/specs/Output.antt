@@ -3,8 +3,10 @@ use Prim.Native.Nat.{ℕ}
 use mathlib.Core.Bool.{Bool, false, _||_}
 use mathlib.Core.List.{List, [], _∷_, _++_}
 use lib.Dec.{eqb}
+use Rattle.text.specs.declared.Line.{Line}
 use Rattle.text.specs.Line.{space, newline}
 use Rattle.text.specs.Decimal.{decimal}
+use Rattle.text.specs.Kept.{noLine, lineWith, isEmptyLine}
 use Rattle.text.specs.Feed.{Answered, Program, output}
 use Rattle.rules.specs.World.{World}
 use Rattle.rules.specs.Step.{Outcome}
@@ -23,11 +25,14 @@ commandAnswer w c =
     record { next = d .next; printed = printed (letterOf c) (d .outcome); last = d .last }
 
 -- the program: it answers each line's command, up to the end or to `k`, and prints nothing at the end of its input
-abbrev pub pairProgram : Program World
+abbrev pub pairProgram : Program World Line
 pairProgram =
     record {
       start = pairStart;
       answer = λ w line. commandAnswer w (commandOf line);
+      noLine = noLine;
+      lineWith = lineWith;
+      isEmptyLine = isEmptyLine;
       answerKept = λ w l. commandAnswer w (commandOfLine l);
       finish = λ w. [];
     }

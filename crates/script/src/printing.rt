@@ -1,14 +1,14 @@
 // What is printed of a command: letter, number, value.
 ghost use mathlib.Core.Path.{_≡_};
-ghost use mathlib.Core.List.{[], _∷_};
-ghost use Prim.Native.Nat.{_+_, _≤_, _<_};
+ghost use Prim.Native.Nat.{_+_, _≤_};
 ghost use lib.ListN.{length};
 ghost use Rattle.lists.specs.Part.{PutDone};
-ghost use Rattle.text.specs.Decimal.{decimal};
 ghost use Rattle.rules.specs.Step.{outcome};
 ghost use Rattle.script.specs.Command.{letterOf};
 ghost use Rattle.script.specs.Output.{printed};
 use crate::Command;
+use text::printing::put_byte;
+use text::printing::put_number;
 
 // The letter that is printed.
 pub fn letter_of(c: Command) -> u8
@@ -26,28 +26,6 @@ pub fn letter_of(c: Command) -> u8
         Command::Takeover => b'k',
         Command::Other => b'?',
     }
-}
-
-// One byte at at; the position behind it.
-pub fn put_byte(out: &mut [u8], at: usize, b: u8) -> usize
-    requires { ⌜ at < length (now out) ⌝ }
-    ensures { λ r. ⌜ PutDone (b ∷ []) (now (out .entry)) at (now (out .exit)) r ⌝ }
-{
-    out[at] = b;
-    at + 1
-}
-
-// The digits of n from at on; the position behind them.
-pub fn put_number(out: &mut [u8], at: usize, n: u64) -> usize
-    requires { ⌜ at + 20 ≤ length (now out) ⌝ }
-    ensures { λ r. ⌜ PutDone (decimal n) (now (out .entry)) at (now (out .exit)) r ⌝ }
-    ensures { λ r. ⌜ (at < r) × (r ≤ at + 20) ⌝ }
-{
-    let d = text::decimal::digits_of(n);
-    let start = d.start;
-    let bytes = d.bytes;
-    lists::copy_into(out, at, &bytes[start..]);
-    at + (20 - start)
 }
 
 // Letter, number and value with a newline, from at on; the position behind them.

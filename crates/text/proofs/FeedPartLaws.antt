@@ -7,25 +7,24 @@ use native.Mathlib.Omega.{arith}
 use lib.Dec.{eqb}
 use lib.ListN.{length, take}
 use borrow.Author.Tests.{eqb-true}
-use Rattle.text.specs.declared.Line.{Line}
-use Rattle.text.specs.Line.{firstLine, newline}
-use Rattle.text.specs.Kept.{noLine, lineWith, lineWithAll}
+use Rattle.text.specs.Line.{firstPart, firstLine, newline}
+use Rattle.text.specs.Kept.{keptAll}
 use Rattle.text.specs.Feed.{Program, Reading, reading, lineAnswered, fed, fedPrinted, fedAll, fedAllPrinted}
 
-module _ {S : Type 0} (p : Program S) where
+module _ {S L : Type 0} (p : Program S L) where
   -- ---- parts, one after the other
-  pub fed-append : (r : Reading S) (a b : List ℕ) → fedAll p r (a ++ b) ≡ fedAll p (fedAll p r a) b
+  pub fed-append : (r : Reading S L) (a b : List ℕ) → fedAll p r (a ++ b) ≡ fedAll p (fedAll p r a) b
   unfolding fedAll
   fed-append r [] b = refl
   fed-append r (x ∷ a) b = fed-append (fed p r x) a b
 
-  pub printed-append : (r : Reading S) (a b : List ℕ) → fedAllPrinted p r (a ++ b) ≡ fedAllPrinted p r a ++ fedAllPrinted p (fedAll p r a) b
+  pub printed-append : (r : Reading S L) (a b : List ℕ) → fedAllPrinted p r (a ++ b) ≡ fedAllPrinted p r a ++ fedAllPrinted p (fedAll p r a) b
   unfolding fedAll fedAllPrinted
   printed-append r [] b = refl
   printed-append r (x ∷ a) b = ap (λ (l : List ℕ). fedPrinted p r x ++ l) (printed-append (fed p r x) a b) ∙ sym (append-assoc (fedPrinted p r x) _ _)
 
   -- ---- after the last line
-  module _ (w : S) (l : Line) where
+  module _ (w : S) (l : L) where
     pub fed-over : (bs : List ℕ) → fedAll p (reading w l true) bs ≡ reading w l true
     unfolding fedAll fed
     fed-over [] = refl
@@ -39,45 +38,45 @@ module _ {S : Type 0} (p : Program S) where
   -- ---- the bytes of a line, and its newline
   module _ (w : S) where
     -- one byte that is no newline
-    pub fed-other : (l : Line) (b : ℕ) → eqb b newline ≡ false → fed p (reading w l false) b ≡ reading w (lineWith l b) false
+    pub fed-other : (l : L) (b : ℕ) → eqb b newline ≡ false → fed p (reading w l false) b ≡ reading w (p .lineWith l b) false
     unfolding fed
     fed-other l b e = rw e
 
-    printed-other : (l : Line) (b : ℕ) → eqb b newline ≡ false → fedPrinted p (reading w l false) b ≡ []
+    printed-other : (l : L) (b : ℕ) → eqb b newline ≡ false → fedPrinted p (reading w l false) b ≡ []
     unfolding fedPrinted
     printed-other l b e = rw e
 
-    pub fed-line : (l : Line) (bs : List ℕ) → fedAll p (reading w l false) (firstLine bs) ≡ reading w (lineWithAll l (firstLine bs)) false
-    unfolding fedAll firstLine lineWithAll
+    pub fed-line : (l : L) (bs : List ℕ) → fedAll p (reading w l false) (firstLine bs) ≡ reading w (keptAll (p .lineWith) l (firstLine bs)) false
+    unfolding fedAll firstPart keptAll
     fed-line l [] = refl
     fed-line l (b ∷ bs) = by (eqb b newline) refl (λ m. fed-line m bs)
       where
-        by : (t : Bool) → eqb b newline ≡ t → ((m : Line) → fedAll p (reading w m false) (firstLine bs) ≡ reading w (lineWithAll m (firstLine bs)) false)
-            → fedAll p (reading w l false) (cond t [] (b ∷ firstLine bs)) ≡ reading w (lineWithAll l (cond t [] (b ∷ firstLine bs))) false
+        by : (t : Bool) → eqb b newline ≡ t → ((m : L) → fedAll p (reading w m false) (firstLine bs) ≡ reading w (keptAll (p .lineWith) m (firstLine bs)) false)
+            → fedAll p (reading w l false) (cond t [] (b ∷ firstLine bs)) ≡ reading w (keptAll (p .lineWith) l (cond t [] (b ∷ firstLine bs))) false
         by true e next = refl
-        by false e next = ap (λ (r : Reading S). fedAll p r (firstLine bs)) (fed-other l b e) ∙ next (lineWith l b)
+        by false e next = ap (λ (r : Reading S L). fedAll p r (firstLine bs)) (fed-other l b e) ∙ next (p .lineWith l b)
 
-    pub printed-line : (l : Line) (bs : List ℕ) → fedAllPrinted p (reading w l false) (firstLine bs) ≡ []
-    unfolding fedAllPrinted firstLine
+    pub printed-line : (l : L) (bs : List ℕ) → fedAllPrinted p (reading w l false) (firstLine bs) ≡ []
+    unfolding fedAllPrinted firstPart
     printed-line l [] = refl
     printed-line l (b ∷ bs) = by (eqb b newline) refl (λ m. printed-line m bs)
       where
-        by : (t : Bool) → eqb b newline ≡ t → ((m : Line) → fedAllPrinted p (reading w m false) (firstLine bs) ≡ []) → fedAllPrinted p (reading w l false) (cond t [] (b ∷ firstLine bs)) ≡ []
+        by : (t : Bool) → eqb b newline ≡ t → ((m : L) → fedAllPrinted p (reading w m false) (firstLine bs) ≡ []) → fedAllPrinted p (reading w l false) (cond t [] (b ∷ firstLine bs)) ≡ []
         by true e next = refl
-        by false e next = ap₂ (λ (x : List ℕ) (r : Reading S). x ++ fedAllPrinted p r (firstLine bs)) (printed-other l b e) (fed-other l b e) ∙ next (lineWith l b)
+        by false e next = ap₂ (λ (x : List ℕ) (r : Reading S L). x ++ fedAllPrinted p r (firstLine bs)) (printed-other l b e) (fed-other l b e) ∙ next (p .lineWith l b)
 
   -- a newline behind a line: it is answered
-  pub fed-newline : (w : S) (l : Line) → let r = reading w l false in fedAll p r (newline ∷ []) ≡ reading (lineAnswered p r .next) noLine (lineAnswered p r .last)
+  pub fed-newline : (w : S) (l : L) → let r = reading w l false in fedAll p r (newline ∷ []) ≡ reading (lineAnswered p r .next) (p .noLine) (lineAnswered p r .last)
   unfolding fedAll fed
   fed-newline w l = refl
 
-  pub printed-newline : (w : S) (l : Line) → fedAllPrinted p (reading w l false) (newline ∷ []) ≡ lineAnswered p (reading w l false) .printed
+  pub printed-newline : (w : S) (l : L) → fedAllPrinted p (reading w l false) (newline ∷ []) ≡ lineAnswered p (reading w l false) .printed
   unfolding fedAllPrinted fedPrinted
   printed-newline w l = append-nil _
 
 -- ---- where the first line of some bytes ends
 pub first-line-length : (bs : List ℕ) → length (firstLine bs) ≤ length bs
-unfolding firstLine
+unfolding firstPart
 first-line-length [] = omega arith
 first-line-length (b ∷ bs) = by (eqb b newline) (first-line-length bs)
   where
@@ -86,7 +85,7 @@ first-line-length (b ∷ bs) = by (eqb b newline) (first-line-length bs)
     by false h = omega arith
 
 pub first-line-is : (bs : List ℕ) → take (length (firstLine bs)) bs ≡ firstLine bs
-unfolding firstLine
+unfolding firstPart
 first-line-is [] = refl
 first-line-is (b ∷ bs) = by (eqb b newline) (first-line-is bs)
   where
@@ -96,7 +95,7 @@ first-line-is (b ∷ bs) = by (eqb b newline) (first-line-is bs)
 
 -- with the newline, where there is one
 pub first-line-ended : (bs : List ℕ) → length (firstLine bs) < length bs → take (suc (length (firstLine bs))) bs ≡ firstLine bs ++ (newline ∷ [])
-unfolding firstLine
+unfolding firstPart
 first-line-ended [] h = absurd (none h)
   where
     none : 0 < 0 → ⊥

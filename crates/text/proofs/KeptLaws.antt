@@ -12,20 +12,28 @@ use borrow.Author.Tests.{ne-eqb}
 use Rattle.lists.proofs.TestLaws.{by-test, and-false}
 use Rattle.text.specs.Line.{space, split, wordsOf}
 use Rattle.text.specs.Line as line
-use Rattle.text.specs.Kept.{noLine, nextWord, lineWith, lineWithAll, isEmptyLine}
+use Rattle.text.specs.Kept.{keptAll, noLine, nextWord, lineWith, lineWithAll, isEmptyLine}
 use Rattle.text.specs.declared.Line.{Line}
 use Rattle.text.proofs.SplitLaws.{joined, joined-byte, split-separator, split-other, parts, joined-none}
 use Rattle.text.proofs.NumberLaws.{kept, numberWithAll, number-with-last}
 
--- ---- a byte at a time
-module _ (l : Line) (bytes : List ℕ) (i : ℕ) where
-  pub line-with-next : i < length bytes → lineWithAll l (drop i bytes) ≡ lineWithAll (lineWith l (getD bytes i 0)) (drop (suc i) bytes)
-  unfolding lineWithAll
-  line-with-next h = rw (drop-cons bytes i 0 h)
+-- ---- a byte at a time, whatever is kept
+module _ {L : Type 0} (f : L → ℕ → L) where
+  -- the bytes from a place on
+  module _ (l : L) (bytes : List ℕ) (i : ℕ) where
+    pub kept-next : i < length bytes → keptAll f l (drop i bytes) ≡ keptAll f (f l (getD bytes i 0)) (drop (suc i) bytes)
+    unfolding keptAll
+    kept-next h = rw (drop-cons bytes i 0 h)
 
-  pub line-with-none : length bytes ≤ i → lineWithAll l (drop i bytes) ≡ l
-  unfolding lineWithAll
-  line-with-none h = rw (drop-of-length-le bytes h)
+    pub kept-done : length bytes ≤ i → keptAll f l (drop i bytes) ≡ l
+    unfolding keptAll
+    kept-done h = rw (drop-of-length-le bytes h)
+
+  -- one byte more behind the others
+  pub kept-snoc : (l : L) (bytes : List ℕ) (b : ℕ) → keptAll f l (bytes ++ b ∷ []) ≡ f (keptAll f l bytes) b
+  unfolding keptAll
+  kept-snoc l [] b = refl
+  kept-snoc l (c ∷ bytes) b = kept-snoc (f l c) bytes b
 
 -- ---- what is kept of words
 -- how many there are, up to 4; of the first its length, up to 2, its first byte and its number; the second and the third
@@ -81,7 +89,7 @@ kept-end ws w = rw (append-nil w)
 
 -- the bytes that follow, where ws are the words before and w is what has come of the last
 kept-all : (bytes : List ℕ) (ws : List (List ℕ)) (w : List ℕ) → lineWithAll (keptOf (ws ++ (w ∷ []))) bytes ≡ keptOf (ws ++ joined w (split space bytes))
-unfolding lineWithAll
+unfolding keptAll
 kept-all [] ws w = kept-end ws w
 kept-all (b ∷ bytes) ws w =
     ⊎-elim (λ e.
@@ -117,7 +125,7 @@ one-letter b (w ∷ ws) = rw (ne-eqb (min 2 (suc (length w))) 0 (λ e. omega ari
 
 -- nothing has come exactly where the line is empty
 pub empty-line : (bytes : List ℕ) → isEmptyLine (lineWithAll noLine bytes) ≡ eqb (length bytes) 0
-unfolding lineWithAll
+unfolding keptAll
 empty-line [] = refl
 empty-line (b ∷ bytes) =
     ap isEmptyLine (kept-line (b ∷ bytes))

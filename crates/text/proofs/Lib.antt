@@ -6,7 +6,9 @@ pub mod NumberLaws
 pub mod KeptLaws
 pub mod WordLaws
 pub mod RowLaws
+pub mod PrintLaws
 pub mod FeedPartLaws
 pub mod FeedLaws
 pub mod RunLaws
+pub mod EndLaws
 pub mod TurnLaws

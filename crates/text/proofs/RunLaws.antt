@@ -10,9 +10,8 @@ use lib.Seq.{length-take-le, take-all, take-add, take-append-seam}
 use Rattle.lists.specs.Part.{part, put, PutDone}
 use Rattle.lists.proofs.TestLaws.{cond-true, cond-false}
 use Rattle.lists.proofs.PartLaws.{put-front, put-done-none, put-done-more, put-done-length}
-use Rattle.text.specs.declared.Line.{Line}
 use Rattle.text.specs.Line.{firstLine, newline}
-use Rattle.text.specs.Kept.{noLine, lineWithAll, isEmptyLine}
+use Rattle.text.specs.Kept.{keptAll}
 use Rattle.text.specs.Feed.{Program, Reading, reading, lineAnswered, fedAll, fedAllPrinted, endPrinted}
 use Rattle.text.proofs.FeedPartLaws.{fed-append, printed-append, fed-over, printed-over, fed-line, printed-line, fed-newline, printed-newline, first-line-length, first-line-is, first-line-ended}
 
@@ -33,10 +32,10 @@ put-fits most bs s t n h d k =
     let l : length t ≡ length s = put-done-length _ _ _ _ _ (omega arith) d in
     omega arith
 
-module _ {S : Type 0} (p : Program S) where
+module _ {S L : Type 0} (p : Program S L) where
   -- ---- a line's answer
-  module _ (w : S) (l : Line) (over : Bool) (still : over ≡ false) where
-    pub answered-run : (w′ : S) (l′ : Line) (over′ : Bool) → w′ ≡ lineAnswered p (reading w l false) .next → l′ ≡ noLine → over′ ≡ lineAnswered p (reading w l false) .last
+  module _ (w : S) (l : L) (over : Bool) (still : over ≡ false) where
+    pub answered-run : (w′ : S) (l′ : L) (over′ : Bool) → w′ ≡ lineAnswered p (reading w l false) .next → l′ ≡ p .noLine → over′ ≡ lineAnswered p (reading w l false) .last
         → reading w′ l′ over′ ≡ fedAll p (reading w l over) (newline ∷ [])
     answered-run w′ l′ over′ a b c = rw (still, fed-newline p w l, a, b, c)
 
@@ -47,18 +46,18 @@ module _ {S : Type 0} (p : Program S) where
         subst (λ (bs : List ℕ). PutDone bs s at t (at + n)) e (record { bytes = there; position = ap (λ (k : ℕ). at + k) long })
 
   -- ---- the end of the input
-  module _ (w : S) (l : Line) (over : Bool) where
+  module _ (w : S) (l : L) (over : Bool) where
     pub ended-over : (s : List ℕ) → over ≡ true → PutDone (endPrinted p (reading w l over)) s 0 s 0
     unfolding endPrinted
     ended-over s e = rw e (put-done-none s 0)
 
     -- no line is under way: the program finishes
-    pub ended-empty : (s t : List ℕ) (n : ℕ) → over ≡ false → isEmptyLine l ≡ true → PutDone (p .finish w) s 0 t n → PutDone (endPrinted p (reading w l over)) s 0 t n
+    pub ended-empty : (s t : List ℕ) (n : ℕ) → over ≡ false → p .isEmptyLine l ≡ true → PutDone (p .finish w) s 0 t n → PutDone (endPrinted p (reading w l over)) s 0 t n
     unfolding endPrinted
     ended-empty s t n e k d = rw (e, k) d
 
     -- a line is: it is answered, and the program finishes where that was not the last
-    module _ (e : over ≡ false) (k : isEmptyLine l ≡ false) where
+    module _ (e : over ≡ false) (k : p .isEmptyLine l ≡ false) where
       ended-is : let r = fedAll p (reading w l over) (newline ∷ []) in
           endPrinted p (reading w l over) ≡ fedAllPrinted p (reading w l over) (newline ∷ []) ++ cond (r .over) [] (p .finish (r .state))
       unfolding endPrinted
@@ -121,9 +120,9 @@ module _ {S : Type 0} (p : Program S) where
         let e : end + 1 - from ≡ suc (length (firstLine (drop from input))) = omega arith in
         ap (λ (n : ℕ). take n (drop from input)) e ∙ first-line-ended (drop from input) (omega arith)
 
-    module _ (w : S) (l line : Line) (over : Bool) (still : over ≡ false) (kept : line ≡ lineWithAll l (take (end - from) (drop from input))) where
+    module _ (w : S) (l line : L) (over : Bool) (still : over ≡ false) (kept : line ≡ keptAll (p .lineWith) l (take (end - from) (drop from input))) where
       kept-first : reading w line false ≡ fedAll p (reading w l false) (firstLine (drop from input))
-      kept-first = ap (λ (m : Line). reading w m false) (kept ∙ ap (lineWithAll l) line-taken) ∙ sym (fed-line p w l (drop from input))
+      kept-first = ap (λ (m : L). reading w m false) (kept ∙ ap (keptAll (p .lineWith) l) line-taken) ∙ sym (fed-line p w l (drop from input))
 
       pub line-fed : reading w line false ≡ fedAll p (reading w l over) (part from (end - from) input)
       line-fed = rw (still, line-part) kept-first
@@ -131,17 +130,17 @@ module _ {S : Type 0} (p : Program S) where
       pub line-put : (s : List ℕ) (at : ℕ) → PutDone (fedAllPrinted p (reading w l over) (part from (end - from) input)) s at s at
       line-put s at = rw (still, line-part, printed-line p w l (drop from input)) (put-done-none s at)
 
-      pub ended-fed : (r : Reading S) → end < length input → r ≡ fedAll p (reading w line false) (newline ∷ []) → r ≡ fedAll p (reading w l over) (part from (end + 1 - from) input)
-      ended-fed r h e = rw (still, line-ended h, fed-append p (reading w l false) (firstLine (drop from input)) (newline ∷ [])) (e ∙ ap (λ (m : Reading S). fedAll p m (newline ∷ [])) kept-first)
+      pub ended-fed : (r : Reading S L) → end < length input → r ≡ fedAll p (reading w line false) (newline ∷ []) → r ≡ fedAll p (reading w l over) (part from (end + 1 - from) input)
+      ended-fed r h e = rw (still, line-ended h, fed-append p (reading w l false) (firstLine (drop from input)) (newline ∷ [])) (e ∙ ap (λ (m : Reading S L). fedAll p m (newline ∷ [])) kept-first)
 
       pub ended-put : (s t : List ℕ) (at n : ℕ) → end < length input → PutDone (fedAllPrinted p (reading w line false) (newline ∷ [])) s at t n → PutDone (fedAllPrinted p (reading w l over) (part from (end + 1 - from) input)) s at t n
       ended-put s t at n h d =
           rw (still, line-ended h, printed-append p (reading w l false) (firstLine (drop from input)) (newline ∷ []), printed-line p w l (drop from input))
-          (subst (λ (m : Reading S). PutDone (fedAllPrinted p m (newline ∷ [])) s at t n) kept-first d)
+          (subst (λ (m : Reading S L). PutDone (fedAllPrinted p m (newline ∷ [])) s at t n) kept-first d)
 
   -- ---- the loop over the lines of a part: what is read and what is printed so far, at most most bytes for each line
   module _ (most : ℕ) where
-    pub record Progress (first : Reading S) (input before : List ℕ) (now : Reading S) (read : ℕ) (after : List ℕ) (written : ℕ) : Type 0 where
+    pub record Progress (first : Reading S L) (input before : List ℕ) (now : Reading S L) (read : ℕ) (after : List ℕ) (written : ℕ) : Type 0 where
       pub inside : read ≤ length input
       pub room : written ≤ read * most
       pub long : length after ≡ length before
@@ -149,12 +148,12 @@ module _ {S : Type 0} (p : Program S) where
       pub done : PutDone (fedAllPrinted p first (take read input)) before 0 after written
 
     -- in a part of at most part-most bytes, into a buffer with room for as many lines
-    module _ (part-most : ℕ) (first : Reading S) (input before : List ℕ) (small : length input ≤ part-most) (large : part-most * most ≤ length before) where
+    module _ (part-most : ℕ) (first : Reading S L) (input before : List ℕ) (small : length input ≤ part-most) (large : part-most * most ≤ length before) where
       pub progress-none : Progress first input before first 0 before 0
       unfolding fedAll fedAllPrinted
       progress-none = record { inside = omega arith; room = omega arith; long = refl; reading-is = refl; done = put-done-none before 0 }
 
-      module _ (now : Reading S) (read : ℕ) (after : List ℕ) (written : ℕ) (g : Progress first input before now read after written) where
+      module _ (now : Reading S L) (read : ℕ) (after : List ℕ) (written : ℕ) (g : Progress first input before now read after written) where
         pub progress-room : read < length input → written + most ≤ length after
         progress-room h =
             let k : suc read * most ≤ part-most * most = mul-le-mul-right most (omega arith) in
@@ -166,7 +165,7 @@ module _ {S : Type 0} (p : Program S) where
             let k : read * most ≤ part-most * most = mul-le-mul-right most (omega arith) in
             omega (arith, g .room, g .long)
 
-        pub progress-more : (next : Reading S) (to : ℕ) (then : List ℕ) (total : ℕ) → read < to → to ≤ length input → total ≤ written + most
+        pub progress-more : (next : Reading S L) (to : ℕ) (then : List ℕ) (total : ℕ) → read < to → to ≤ length input → total ≤ written + most
             → next ≡ fedAll p now (part read (to - read) input) → PutDone (fedAllPrinted p now (part read (to - read) input)) after written then total → Progress first input before next to then total
         unfolding part
         progress-more next to then total h k m e d =
@@ -176,7 +175,7 @@ module _ {S : Type 0} (p : Program S) where
             let r : now ≡ fedAll p first (take read input) = g .reading-is in
             let long-printed : written ≡ 0 + length (fedAllPrinted p first (take read input)) = g .done .position in
             let q : 0 + length (fedAllPrinted p first (take read input)) ≤ length before = omega (arith, progress-fits, g .long) in
-            let f : PutDone (fedAllPrinted p (fedAll p first (take read input)) b) after written then total = subst (λ (x : Reading S). PutDone (fedAllPrinted p x b) after written then total) r d in
+            let f : PutDone (fedAllPrinted p (fedAll p first (take read input)) b) after written then total = subst (λ (x : Reading S L). PutDone (fedAllPrinted p x b) after written then total) r d in
             let j : PutDone (fedAllPrinted p first (take read input ++ b)) before 0 then total =
             subst (λ (bs : List ℕ). PutDone bs before 0 then total) (sym (printed-append p first (take read input) b)) (put-done-more _ _ _ _ _ _ _ _ q (g .done) f) in
             let o = progress-room (omega arith) in
@@ -186,20 +185,20 @@ module _ {S : Type 0} (p : Program S) where
               inside = k;
               room = omega (arith, g .room, suc-mul read most);
               long = put-done-length _ _ _ _ _ (omega arith) d ∙ g .long;
-              reading-is = e ∙ ap (λ (x : Reading S). fedAll p x b) r ∙ sym (fed-append p first (take read input) b) ∙ ap (fedAll p first) (sym t);
+              reading-is = e ∙ ap (λ (x : Reading S L). fedAll p x b) r ∙ sym (fed-append p first (take read input) b) ∙ ap (fedAll p first) (sym t);
               done = subst (λ (l : List ℕ). PutDone (fedAllPrinted p first l) before 0 then total) (sym t) j;
             }
 
         -- after the last line, or at the end of the part
-        pub progress-over : (w : S) (l : Line) → now ≡ reading w l true → (now ≡ fedAll p first input) × PutDone (fedAllPrinted p first input) before 0 after written
+        pub progress-over : (w : S) (l : L) → now ≡ reading w l true → (now ≡ fedAll p first input) × PutDone (fedAllPrinted p first input) before 0 after written
         progress-over w l e =
             let a = take read input in
             let b = drop read input in
             let t : a ++ b ≡ input = take-append-drop read input in
             let r : fedAll p first a ≡ reading w l true = sym (g .reading-is) ∙ e in
-            let f : fedAll p first (a ++ b) ≡ now = fed-append p first a b ∙ ap (λ (x : Reading S). fedAll p x b) r ∙ fed-over p w l b ∙ sym e in
+            let f : fedAll p first (a ++ b) ≡ now = fed-append p first a b ∙ ap (λ (x : Reading S L). fedAll p x b) r ∙ fed-over p w l b ∙ sym e in
             let j : fedAllPrinted p first (a ++ b) ≡ fedAllPrinted p first a =
-            printed-append p first a b ∙ ap (λ (x : Reading S). fedAllPrinted p first a ++ fedAllPrinted p x b) r ∙ ap (λ (x : List ℕ). fedAllPrinted p first a ++ x) (printed-over p w l b) ∙ append-nil (fedAllPrinted p first a) in
+            printed-append p first a b ∙ ap (λ (x : Reading S L). fedAllPrinted p first a ++ fedAllPrinted p x b) r ∙ ap (λ (x : List ℕ). fedAllPrinted p first a ++ x) (printed-over p w l b) ∙ append-nil (fedAllPrinted p first a) in
             (sym f ∙ ap (fedAll p first) t, subst (λ (x : List ℕ). PutDone x before 0 after written) (sym j ∙ ap (fedAllPrinted p first) t) (g .done))
 
         pub progress-end : length input ≤ read → (now ≡ fedAll p first input) × PutDone (fedAllPrinted p first input) before 0 after written

@@ -8,6 +8,13 @@ use Rattle.text.specs.Line.{space}
 use Rattle.text.specs.declared.Number.{Number}
 use Rattle.text.specs.declared.Line.{Line}
 
+-- ---- whatever is kept: byte after byte
+unfoldable pub keptAll : {L : Type 0} → (L → ℕ → L) → L → List ℕ → L
+keptAll f l [] = l
+keptAll f l (b ∷ bs) = keptAll f (f l b) bs
+
+-- ---- the struct Line: a line that may be a command or a row of numbers
+
 -- the least number above every limit of a command's or a row's numbers
 abbrev pub tooLarge : ℕ
 tooLarge = 4294967296
@@ -60,9 +67,8 @@ lineWith l b =
     (cond (eqb (l .words) 3) (withSecondNumber l b)
     l)))
 
-unfoldable pub lineWithAll : Line → List ℕ → Line
-lineWithAll l [] = l
-lineWithAll l (b ∷ bs) = lineWithAll (lineWith l b) bs
+abbrev pub lineWithAll : Line → List ℕ → Line
+lineWithAll l bytes = keptAll lineWith l bytes
 
 -- no byte has come
 abbrev pub isEmptyLine : Line → Bool

@@ -4,3 +4,5 @@ pub mod Kept
 pub mod Row
 pub mod Feed
 pub mod Turns
+pub mod Ascii
+pub mod Column

@@ -31,10 +31,13 @@ newline = 10
 abbrev pub space : ℕ
 space = 32
 
--- the bytes before the first newline
-unfoldable pub firstLine : List ℕ → List ℕ
-firstLine [] = []
-firstLine (b ∷ bs) = cond (eqb b newline) [] (b ∷ firstLine bs)
+-- the bytes before the first separator, and before the first newline
+unfoldable pub firstPart : ℕ → List ℕ → List ℕ
+firstPart separator [] = []
+firstPart separator (b ∷ bs) = cond (eqb b separator) [] (b ∷ firstPart separator bs)
+
+abbrev pub firstLine : List ℕ → List ℕ
+firstLine s = firstPart newline s
 
 -- "one command a line"; the last line may lack its newline
 abbrev pub linesOf : List ℕ → List (List ℕ)

@@ -2,6 +2,7 @@
 pub mod decimal;
 pub mod kept;
 pub mod lines;
+pub mod printing;
 pub mod rows;
 
 // What is kept of a word that may be a number.

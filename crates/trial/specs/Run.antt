@@ -3,13 +3,14 @@ use Prim.Native.Nat.{ℕ}
 use mathlib.Core.Path.{_≡_}
 use mathlib.Core.Bool.{true, not}
 use mathlib.Core.List.{List, [], _∷_, _++_, flatten}
+use Rattle.text.specs.declared.Line.{Line}
 use Rattle.text.specs.Feed.{endedLines, anyLast, Reading, reading, firstReading}
 use Rattle.text.specs.Turns.{allPrinted, allMore, endsAfter, noneEmpty}
 use Rattle.trials.specs.Output.{Stage, trialProgram, trialOutput}
 use Rattle.trials.specs.Site.{stageOf}
 use Rattle.trial.specs.declared.Run.{Run}
 
-abbrev pub readingOf : Run → Reading Stage
+abbrev pub readingOf : Run → Reading Stage Line
 readingOf r = reading (stageOf (r .stage)) (r .line) (r .over)
 
 -- what is claimed of the program over any parts of its input

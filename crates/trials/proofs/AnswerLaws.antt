@@ -17,6 +17,7 @@ use Rattle.text.specs.Decimal.{mostNumber}
 use Rattle.text.specs.Kept.{noLine, lineWithAll}
 use Rattle.text.specs.Feed.{Answered, KeptRight}
 use Rattle.text.specs.Row.{isRow, isRowKept}
+use Rattle.text.proofs.KeptLaws.{empty-line}
 use Rattle.text.proofs.RunLaws.{taken-put}
 use Rattle.text.proofs.RowLaws.{row-is, row-values}
 use Rattle.rules.specs.World.{World, startNumber}
@@ -155,8 +156,11 @@ same-answer s true a b c a′ b′ c′ same = let v = same refl in λ i. answer
 same-answer unbegun false a b c a′ b′ c′ same = refl
 same-answer (begun t) false a b c a′ b′ c′ same = refl
 
-pub kept-right : KeptRight trialProgram
-kept-right s line =
+same-kept : (s : Stage) (line : List ℕ) → trialProgram .answerKept s (lineWithAll noLine line) ≡ trialProgram .answer s line
+same-kept s line =
     let l = lineWithAll noLine line in
     ap (λ (good : Bool). answerRow s good (l .lead .value) (l .first .value) (l .second .value)) (row-is line)
     ∙ same-answer s (isRow line) _ _ _ _ _ _ (λ e. let v = row-values line e in (v .lead, v .first, v .second))
+
+pub kept-right : KeptRight trialProgram
+kept-right = record { answers = same-kept; empty = empty-line }

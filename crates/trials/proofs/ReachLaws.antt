@@ -126,11 +126,11 @@ kept-row stage.unbegun good a b c w = kept-plan good a b c
 kept-row (stage.begun u) good a b c w = kept-tick good a b c u w
 
 -- ---- byte by byte
-record Read (r : Reading Stage) : Type 0 where
+record Read (r : Reading Stage Line) : Type 0 where
   reached : Reached (r .state) (r .over)
   waits : r .over ≡ false → Waits (r .state)
 
-read-byte : (r : Reading Stage) (b : ℕ) → Read r → Read (fed trialProgram r b)
+read-byte : (r : Reading Stage Line) (b : ℕ) → Read r → Read (fed trialProgram r b)
 unfolding fed
 read-byte r b f = by (r .over) refl (eqb b newline)
   where
@@ -145,7 +145,7 @@ read-byte r b f = by (r .over) refl (eqb b newline)
         record { reached = k .reached; waits = k .waits }
     by false e false = record { reached = waits-reached (r .state) false (f .waits e); waits = λ z. f .waits e }
 
-read-all : (input : List ℕ) (r : Reading Stage) → Read r → Read (fedAll trialProgram r input)
+read-all : (input : List ℕ) (r : Reading Stage Line) → Read r → Read (fedAll trialProgram r input)
 unfolding fedAll
 read-all [] r f = f
 read-all (b ∷ bs) r f = read-all bs (fed trialProgram r b) (read-byte r b f)

@@ -5,9 +5,11 @@ use mathlib.Core.List.{List, [], _∷_, _++_}
 use lib.Dec.{ltb, eqb}
 use Rattle.lists.specs.Refusal.{Test, test, refusal}
 use Rattle.records.specs.Number.{outOfRange, noPlan}
+use Rattle.text.specs.declared.Line.{Line}
 use Rattle.text.specs.Line.{space, newline}
 use Rattle.text.specs.Decimal.{decimal, mostNumber}
 use Rattle.text.specs.Row.{isRow, rowAt, isRowKept}
+use Rattle.text.specs.Kept.{noLine, lineWith, isEmptyLine}
 use Rattle.text.specs.Feed.{Answered, Program, output}
 use Rattle.rules.specs.World.{World, startNumber}
 use Rattle.rules.specs.Step.{Outcome, outcome}
@@ -81,11 +83,14 @@ abbrev pub finished : Stage → List ℕ
 finished unbegun = lastLine 0
 finished (begun t) = lastLine (longest t)
 
-abbrev pub trialProgram : Program Stage
+abbrev pub trialProgram : Program Stage Line
 trialProgram =
     record {
       start = unbegun;
       answer = λ s line. answerRow s (isRow line) (rowAt line 0) (rowAt line 1) (rowAt line 2);
+      noLine = noLine;
+      lineWith = lineWith;
+      isEmptyLine = isEmptyLine;
       answerKept = λ s l. answerRow s (isRowKept l) (l .lead .value) (l .first .value) (l .second .value);
       finish = finished;
     }

@@ -5,8 +5,8 @@ ghost use Rattle.lists.specs.Part.{PutDone};
 ghost use Rattle.script.specs.Site.{worldOf};
 ghost use Rattle.trials.specs.Output.{tickLine, lastLine};
 use script::Site;
-use script::printing::put_byte;
-use script::printing::put_number;
+use text::printing::put_byte;
+use text::printing::put_number;
 
 // "the open epoch, packets held and stream bytes waiting", with a newline, from at on; the position behind them.
 pub(crate) fn put_tick(out: &mut [u8], at: usize, s: Site) -> usize

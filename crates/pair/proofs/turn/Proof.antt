@@ -3,6 +3,7 @@ use mathlib.Core.Path.{ap, _∙_}
 use mathlib.Core.Bool.{not}
 use borrow.Author.Needs.{needs}
 use Rattle.rules.specs.World.{World}
+use Rattle.text.specs.declared.Line.{Line}
 use Rattle.text.specs.Feed.{Reading}
 use Rattle.script.specs.Output.{pairProgram}
 use Rattle.pair.specs.Run.{readingOf}
@@ -37,7 +38,7 @@ returns-2 c =
     let h = c .before .before .before .before .before .if1 .left in
     let e = c .before .before .before .fed .ensures in (
       e .0,
-      (part-put pairProgram (readingOf (a .run)) (a .input .now) h _ _ _ (e .1 .0), (e .1 .1, ap (λ (r : Reading World). not (r .over)) (e .0) ∙ part-more pairProgram (readingOf (a .run)) (a .input .now) h)),
+      (part-put pairProgram (readingOf (a .run)) (a .input .now) h _ _ _ (e .1 .0), (e .1 .1, ap (λ (r : Reading World Line). not (r .over)) (e .0) ∙ part-more pairProgram (readingOf (a .run)) (a .input .now) h)),
     )
 
 pub turn-spec : {M : Type 1} → statement M

@@ -6,7 +6,7 @@ use Rattle.text.proofs.RunLaws.{ended-over, ended-empty, put-fits}
 use Rattle.trials.specs.Output.{trialProgram}
 use Rattle.trials.specs.Site.{stageOf}
 use Rattle.trial.specs.Run.{readingOf}
-use Rattle.trial.proofs.RunLaws.{last-put, more-put}
+use Rattle.text.proofs.EndLaws.{last-put, more-put}
 use Rattle.trial.proofs.ended.Statement.{statement}
 use Rattle.trial.proofs.ended.Tie as tie
 
@@ -26,7 +26,7 @@ returns-3 c =
     let r = start .args .run in
     let some = sym (c .before .before .before .before .before .before .before .is-empty-line .ensures) ∙ c .before .before .before .before .before .before .if2 .left in
     let a = c .before .before .before .before .answered in
-    last-put (stageOf (r .stage)) (r .line) (r .over) (c .before .before .before .before .before .before .before .before .if1 .left) some _ _ _ (start .pre) (a .ensures .1 .1) (readingOf (a .result .run)) (a .ensures .0) (a .ensures .1 .0) (c .if3 .taken)
+    last-put trialProgram 65 21 (stageOf (r .stage)) (r .line) (r .over) (c .before .before .before .before .before .before .before .before .if1 .left) some _ _ _ (start .pre) (a .ensures .1 .1) (readingOf (a .result .run)) (a .ensures .0) (a .ensures .1 .0) (c .if3 .taken)
 
 returns-4 : tie.Need-returns-4
 returns-4 c =
@@ -35,7 +35,7 @@ returns-4 c =
     let some = sym (c .before .before .before .before .before .before .before .before .before .before .before .is-empty-line .ensures) ∙ c .before .before .before .before .before .before .before .before .before .before .if2 .left in
     let a = c .before .before .before .before .before .before .before .before .answered in
     let d = c .before .before .put-finish2 .ensures in
-    more-put (stageOf (r .stage)) (r .line) (r .over) (c .before .before .before .before .before .before .before .before .before .before .before .before .if1 .left) some _ _ _ (start .pre) (a .ensures .1 .1) (readingOf (a .result .run)) (a .ensures .0) (a .ensures .1 .0)
+    more-put trialProgram 65 21 (stageOf (r .stage)) (r .line) (r .over) (c .before .before .before .before .before .before .before .before .before .before .before .before .if1 .left) some _ _ _ (start .pre) (a .ensures .1 .1) (readingOf (a .result .run)) (a .ensures .0) (a .ensures .1 .0)
     _ _ (c .before .before .before .before .if3 .left) (d .0) (d .1)
 
 pub ended-spec : {M : Type 1} → statement M

@@ -3,6 +3,7 @@ use mathlib.Core.Path.{ap, _∙_}
 use mathlib.Core.Bool.{not}
 use borrow.Author.Needs.{needs}
 use Rattle.trials.specs.Output.{Stage}
+use Rattle.text.specs.declared.Line.{Line}
 use Rattle.text.specs.Feed.{Reading}
 use Rattle.trials.specs.Output.{trialProgram}
 use Rattle.trial.specs.Run.{readingOf}
@@ -37,7 +38,7 @@ returns-2 c =
     let h = c .before .before .before .before .before .if1 .left in
     let e = c .before .before .before .fed .ensures in (
       e .0,
-      (part-put trialProgram (readingOf (a .run)) (a .input .now) h _ _ _ (e .1 .0), (e .1 .1, ap (λ (r : Reading Stage). not (r .over)) (e .0) ∙ part-more trialProgram (readingOf (a .run)) (a .input .now) h)),
+      (part-put trialProgram (readingOf (a .run)) (a .input .now) h _ _ _ (e .1 .0), (e .1 .1, ap (λ (r : Reading Stage Line). not (r .over)) (e .0) ∙ part-more trialProgram (readingOf (a .run)) (a .input .now) h)),
     )
 
 pub turn-spec : {M : Type 1} → statement M

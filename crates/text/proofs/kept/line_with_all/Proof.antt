@@ -4,8 +4,8 @@ use mathlib.Core.Path.{_≡_, refl, sym, _∙_}
 use native.Mathlib.Omega.{arith}
 use native.Mathlib.Numerals.{add-one}
 use lib.ListN.{length, drop}
-use Rattle.text.specs.Kept.{lineWithAll}
-use Rattle.text.proofs.KeptLaws.{line-with-next, line-with-none}
+use Rattle.text.specs.Kept.{lineWith, lineWithAll}
+use Rattle.text.proofs.KeptLaws.{kept-next, kept-done}
 use Rattle.text.proofs.kept.line_with_all.Statement.{statement}
 use Rattle.text.proofs.kept.line_with_all.Tie as tie
 
@@ -35,14 +35,14 @@ loop-again c =
     let at = c .before .before .before .loop in
     let bytes = c .before .before .before .before .before .args .bytes .now in
     let h : at .i < length bytes = omega arith in
-    (omega arith, at .inv .1 ∙ line-with-next (at .line) bytes (at .i) h ∙ rw (c .line-with .ensures, add-one (at .i)))
+    (omega arith, at .inv .1 ∙ kept-next lineWith (at .line) bytes (at .i) h ∙ rw (c .line-with .ensures, add-one (at .i)))
 
 returns : tie.Need-returns Inv-loop μ-loop
 returns c =
     let at = c .before .loop in
     let bytes = c .before .before .before .args .bytes .now in
     let h : length bytes ≤ at .i = omega arith in
-    sym (at .inv .1 ∙ line-with-none (at .line) bytes (at .i) h)
+    sym (at .inv .1 ∙ kept-done lineWith (at .line) bytes (at .i) h)
 
 pub line-with-all-spec : {M : Type 1} → statement M
 line-with-all-spec =

@@ -1,9 +1,9 @@
--- `script::printing::put_byte` meets its contract. Assumes nothing.
+-- `text::printing::put_byte` meets its contract. Assumes nothing.
 use native.Mathlib.Omega.{arith}
 use borrow.Author.Needs.{needs}
 use Rattle.lists.proofs.ArrayLaws.{set-put}
-use Rattle.script.proofs.printing.put_byte.Statement.{statement}
-use Rattle.script.proofs.printing.put_byte.Tie as tie
+use Rattle.text.proofs.printing.put_byte.Statement.{statement}
+use Rattle.text.proofs.printing.put_byte.Tie as tie
 
 returns : tie.Need-returns
 returns c = record { bytes = set-put _ _ _ (c .pre); position = omega arith }

@@ -1,9 +1,9 @@
--- `script::printing::put_number` meets its contract. Assumes nothing.
+-- `text::printing::put_number` meets its contract. Assumes nothing.
 use native.Mathlib.Omega.{arith}
 use borrow.Author.Needs.{needs}
-use Rattle.script.proofs.PrintLaws.{number-put}
-use Rattle.script.proofs.printing.put_number.Statement.{statement}
-use Rattle.script.proofs.printing.put_number.Tie as tie
+use Rattle.text.proofs.PrintLaws.{number-put}
+use Rattle.text.proofs.printing.put_number.Statement.{statement}
+use Rattle.text.proofs.printing.put_number.Tie as tie
 
 returns : tie.Need-returns
 returns c =

@@ -1,19 +1,19 @@
--- `text::lines::line_end` meets its contract. The loop's invariant: the line ends where it ended, seen from i.
+-- `text::lines::part_end` meets its contract. The loop's invariant: the part ends where it ended, seen from i.
 use Prim.Native.Nat.{_+_, _-_, _≤_, _<_}
 use mathlib.Core.Path.{_≡_, refl, ap}
 use native.Mathlib.Omega.{arith}
 use native.Mathlib.Numerals.{add-one}
 use lib.ListN.{length, drop}
-use Rattle.text.specs.Line.{firstLine}
-use Rattle.text.proofs.LineLaws.{line-behind, line-stops, line-goes-on}
-use Rattle.text.proofs.lines.line_end.Statement.{statement}
-use Rattle.text.proofs.lines.line_end.Tie as tie
+use Rattle.text.specs.Line.{firstPart}
+use Rattle.text.proofs.LineLaws.{part-behind, part-stops, part-goes-on}
+use Rattle.text.proofs.lines.part_end.Statement.{statement}
+use Rattle.text.proofs.lines.part_end.Tie as tie
 
 abbrev Inv-loop : tie.InvT-loop
-Inv-loop s from i₀ i = from + length (firstLine (drop from s)) ≡ i + length (firstLine (drop i s))
+Inv-loop s from separator i₀ i = from + length (firstPart separator (drop from s)) ≡ i + length (firstPart separator (drop i s))
 
 abbrev μ-loop : tie.MeasureT-loop
-μ-loop s from i₀ i = length s - i
+μ-loop s from separator i₀ i = length s - i
 
 loop-holds : tie.Need-loop-holds Inv-loop μ-loop
 loop-holds c = refl
@@ -24,9 +24,10 @@ shared-slice-read-b c = omega arith
 returns : tie.Need-returns Inv-loop μ-loop
 returns c =
     let at = c .before .before .before .loop in
-    let s = c .before .before .before .before .args .s .now in
+    let args = c .before .before .before .before .args in
+    let s = args .s .now in
     let h : at .i < length s = omega arith in
-    omega (arith, ap length (line-stops s (at .i) h (c .if1 .taken)))
+    omega (arith, ap length (part-stops (args .separator) s (at .i) h (c .if1 .taken)))
 
 add-i : tie.Need-add-i Inv-loop μ-loop
 add-i c = omega arith
@@ -37,19 +38,21 @@ loop-less c = omega arith
 loop-again : tie.Need-loop-again Inv-loop μ-loop
 loop-again c =
     let at = c .before .before .before .loop in
-    let s = c .before .before .before .before .args .s .now in
+    let args = c .before .before .before .before .args in
+    let s = args .s .now in
     let h : at .i < length s = omega arith in
-    rw (add-one (at .i)) (omega (arith, line-goes-on s (at .i) h (c .if1 .left)))
+    rw (add-one (at .i)) (omega (arith, part-goes-on (args .separator) s (at .i) h (c .if1 .left)))
 
 returns-2 : tie.Need-returns-2 Inv-loop μ-loop
 returns-2 c =
     let at = c .before .loop in
-    let s = c .before .before .args .s .now in
+    let args = c .before .before .args in
+    let s = args .s .now in
     let h : length s ≤ at .i = omega arith in
-    omega (arith, ap length (line-behind s (at .i) h))
+    omega (arith, ap length (part-behind (args .separator) s (at .i) h))
 
-pub line-end-spec : {M : Type 1} → statement M
-line-end-spec =
+pub part-end-spec : {M : Type 1} → statement M
+part-end-spec =
     tie.close
     (tie.spec
     Inv-loop
