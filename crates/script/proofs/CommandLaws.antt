@@ -21,7 +21,7 @@ use Rattle.script.specs.declared.Command.the-variants.{Write, Disk, Send
 use Rattle.script.specs.Command.{letterW, letterD, letterS, letterC, letterM, letterA, letterT, letterF, letterK, mostByte, isLine, isKeptLine, commandOfWords, commandOf, commandOfLine}
 
 module _ (ws : List (List ℕ)) where
-  line-test : (letter n : ℕ) → n < 4 → isKeptLine letter n (keptOf ws) ≡ isLine letter n ws
+  pub line-test : (letter n : ℕ) → n < 4 → isKeptLine letter n (keptOf ws) ≡ isLine letter n ws
   unfolding keptOf
   line-test letter n h = rw (kept-count 4 (length ws) n h, kept-count 2 (length (word ws 0)) 1 (omega arith))
 
@@ -35,11 +35,11 @@ module _ (ws : List (List ℕ)) where
   one-value make letter most h e = ap make (first-value ws most h (both (isLine letter 2 ws) (isNumber most (word ws 1)) e .1))
 
   -- the same of a letter, a number and a byte
-  two-test : (letter : ℕ) → (isKeptLine letter 3 (keptOf ws) && numberIs mostNumber (keptOf ws .first) && numberIs mostByte (keptOf ws .second))
+  pub two-test : (letter : ℕ) → (isKeptLine letter 3 (keptOf ws) && numberIs mostNumber (keptOf ws .first) && numberIs mostByte (keptOf ws .second))
       ≡ (isLine letter 3 ws && isNumber mostNumber (word ws 1) && isNumber mostByte (word ws 2))
   two-test letter = ap₂ _&&_ (ap₂ _&&_ (line-test letter 3 (omega arith)) (first-test ws mostNumber (omega arith))) (second-test ws mostByte (omega arith))
 
-  two-value : (make : ℕ → ℕ → Command) (letter : ℕ) → (isLine letter 3 ws && isNumber mostNumber (word ws 1) && isNumber mostByte (word ws 2)) ≡ true
+  pub two-value : {A : Type 0} (make : ℕ → ℕ → A) (letter : ℕ) → (isLine letter 3 ws && isNumber mostNumber (word ws 1) && isNumber mostByte (word ws 2)) ≡ true
       → make (keptOf ws .first .value) (keptOf ws .second .value) ≡ make (valueOf (word ws 1)) (valueOf (word ws 2))
   two-value make letter e =
       let p = both (isLine letter 3 ws && isNumber mostNumber (word ws 1)) (isNumber mostByte (word ws 2)) e in
@@ -47,7 +47,7 @@ module _ (ws : List (List ℕ)) where
       ap₂ make (first-value ws mostNumber (omega arith) (q .1)) (second-value ws mostByte (omega arith) (p .1))
 
 -- one test of a row of tests, with what it gives
-choose : (s t : Bool) (x y u v : Command) → s ≡ t → (t ≡ true → x ≡ y) → u ≡ v → cond s x u ≡ cond t y v
+pub choose : {A : Type 0} (s t : Bool) (x y u v : A) → s ≡ t → (t ≡ true → x ≡ y) → u ≡ v → cond s x u ≡ cond t y v
 choose s true x y u v p f q = rw p (f refl)
 choose s false x y u v p f q = rw p q
 

@@ -8,9 +8,9 @@ use text::Number;
 use text::kept::number_is;
 
 // "v is 0 to 255, other numbers at most 4,294,967,295".
-const MOST_BYTE: u64 = 255;
+pub const MOST_BYTE: u64 = 255;
 
-const MOST_NUMBER: u64 = 4294967295;
+pub const MOST_NUMBER: u64 = 4294967295;
 
 // The command of a line of one word, which is this letter.
 fn letter_command(letter: u8) -> Command

@@ -74,24 +74,26 @@ module _ {S L : Type 0} (p : Program S L) where
   unfolding fedAllPrinted fedPrinted
   printed-newline w l = append-nil _
 
--- ---- where the first line of some bytes ends
-pub first-line-length : (bs : List ℕ) → length (firstLine bs) ≤ length bs
-unfolding firstPart
-first-line-length [] = omega arith
-first-line-length (b ∷ bs) = by (eqb b newline) (first-line-length bs)
-  where
-    by : (t : Bool) → length (firstLine bs) ≤ length bs → length (cond t [] (b ∷ firstLine bs)) ≤ length (b ∷ bs)
-    by true h = omega arith
-    by false h = omega arith
+-- ---- where the first part of some bytes ends
+module _ (separator : ℕ) where
+  pub first-length : (bs : List ℕ) → length (firstPart separator bs) ≤ length bs
+  unfolding firstPart
+  first-length [] = omega arith
+  first-length (b ∷ bs) = by (eqb b separator) (first-length bs)
+    where
+      by : (t : Bool) → length (firstPart separator bs) ≤ length bs → length (cond t [] (b ∷ firstPart separator bs)) ≤ length (b ∷ bs)
+      by true h = omega arith
+      by false h = omega arith
 
-pub first-line-is : (bs : List ℕ) → take (length (firstLine bs)) bs ≡ firstLine bs
-unfolding firstPart
-first-line-is [] = refl
-first-line-is (b ∷ bs) = by (eqb b newline) (first-line-is bs)
-  where
-    by : (t : Bool) → take (length (firstLine bs)) bs ≡ firstLine bs → take (length (cond t [] (b ∷ firstLine bs))) (b ∷ bs) ≡ cond t [] (b ∷ firstLine bs)
-    by true h = refl
-    by false h = ap (λ (l : List ℕ). b ∷ l) h
+  pub first-is : (bs : List ℕ) → take (length (firstPart separator bs)) bs ≡ firstPart separator bs
+  unfolding firstPart
+  first-is [] = refl
+  first-is (b ∷ bs) = by (eqb b separator) (first-is bs)
+    where
+      by : (t : Bool) → take (length (firstPart separator bs)) bs ≡ firstPart separator bs
+          → take (length (cond t [] (b ∷ firstPart separator bs))) (b ∷ bs) ≡ cond t [] (b ∷ firstPart separator bs)
+      by true h = refl
+      by false h = ap (λ (l : List ℕ). b ∷ l) h
 
 -- with the newline, where there is one
 pub first-line-ended : (bs : List ℕ) → length (firstLine bs) < length bs → take (suc (length (firstLine bs))) bs ≡ firstLine bs ++ (newline ∷ [])

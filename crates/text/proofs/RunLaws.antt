@@ -13,7 +13,7 @@ use Rattle.lists.proofs.PartLaws.{put-front, put-done-none, put-done-more, put-
 use Rattle.text.specs.Line.{firstLine, newline}
 use Rattle.text.specs.Kept.{keptAll}
 use Rattle.text.specs.Feed.{Program, Reading, reading, lineAnswered, fedAll, fedAllPrinted, endPrinted}
-use Rattle.text.proofs.FeedPartLaws.{fed-append, printed-append, fed-over, printed-over, fed-line, printed-line, fed-newline, printed-newline, first-line-length, first-line-is, first-line-ended}
+use Rattle.text.proofs.FeedPartLaws.{fed-append, printed-append, fed-over, printed-over, fed-line, printed-line, fed-newline, printed-newline, first-length, first-is, first-line-ended}
 
 -- the first n bytes of an array of most
 pub taken-length : (most n : ℕ) (bytes : List ℕ) → n ≤ most → length bytes ≡ most → length (take n bytes) ≡ n
@@ -100,14 +100,14 @@ module _ {S L : Type 0} (p : Program S L) where
   module _ (input : List ℕ) (from end : ℕ) (inside : from < length input) (is : end ≡ from + length (firstLine (drop from input))) where
     pub end-inside : end ≤ length input
     end-inside =
-        let h : length (firstLine (drop from input)) ≤ length (drop from input) = first-line-length (drop from input) in
+        let h : length (firstLine (drop from input)) ≤ length (drop from input) = first-length newline (drop from input) in
         let k : length (drop from input) ≡ length input - from = length-drop from input in
         omega arith
 
     line-taken : take (end - from) (drop from input) ≡ firstLine (drop from input)
     line-taken =
         let e : end - from ≡ length (firstLine (drop from input)) = omega arith in
-        ap (λ (n : ℕ). take n (drop from input)) e ∙ first-line-is (drop from input)
+        ap (λ (n : ℕ). take n (drop from input)) e ∙ first-is newline (drop from input)
 
     line-part : part from (end - from) input ≡ firstLine (drop from input)
     unfolding part
