@@ -1,0 +1,4 @@
+pub mod Hex
+pub mod Words
+pub mod Plate
+pub mod Read
