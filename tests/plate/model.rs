@@ -118,16 +118,16 @@ fn head(u: u64, bytes: &[u8]) -> Result<(String, usize), String> {
         return Err("end".to_string());
     }
     if bytes.len() < 4 {
-        return Err(format!("cut short, {} bytes of its header are missing", 4 - bytes.len()));
+        return Err(format!("cut short (256), bytes of its header missing: {}", 4 - bytes.len()));
     }
     let (length, kind) = (number(bytes, 0, 2), number(bytes, 2, 2));
-    let wanted = body_length(kind, u).ok_or(format!("refused with 6, kind {kind} is not known"))?;
+    let wanted = body_length(kind, u).ok_or(format!("refused with 6, kind {kind} is not known on the link"))?;
     if length != wanted {
         return Err(format!("refused with 7, length {length} is not that of kind {kind}"));
     }
     let end = 4 + length as usize;
     if bytes.len() < end {
-        return Err(format!("cut short, {} bytes of its body are missing", end - bytes.len()));
+        return Err(format!("cut short (256), bytes of its body missing: {}", end - bytes.len()));
     }
     Ok((described(kind, &bytes[..end]), end))
 }
@@ -152,7 +152,7 @@ fn records(u: u64, bytes: &[u8]) -> Vec<String> {
 /// "An all-zero record area means the primary's disk ..; a record of length 4, kind 6 means the standby's."
 fn area(bytes: &[u8]) -> String {
     if bytes.len() != 8 {
-        format!("record area: {} bytes and not 8; refused with 1", bytes.len())
+        format!("record area: not 8 bytes but {}; refused with 1", bytes.len())
     } else if bytes.iter().all(|byte| *byte == 0) {
         "record area: all zeros; the primary's disk is valid".to_string()
     } else if (number(bytes, 0, 2), number(bytes, 2, 2)) == (4, 6) {

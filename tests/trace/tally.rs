@@ -21,8 +21,8 @@ pub const CAN_COME: [(char, u64); 35] = [
 /// Every reason why a line is no command, every set of remarks (`k` activates at once, so that no row has `standby
 /// taking over`), and the situations that must come.
 pub const REACHED: [&str; 75] = [
-    "the line is empty", "ends with a carriage return", "unknown letter", "wants 0 numbers", "wants 1 numbers",
-    "wants 2 numbers", "number 1 is not in digits", "number 1 is above 255", "number 1 is above 4294967295",
+    "the line is empty", "ends with a carriage return", "unknown letter", "numbers wanted: 0", "numbers wanted: 1",
+    "numbers wanted: 2", "number 1 is not in digits", "number 1 is above 255", "number 1 is above 4294967295",
     "number 2 is not in digits", "number 2 is above 255",
     "no remark", "alone", "active", "damaged", "alone, active", "alone, damaged", "active, damaged",
     "all three remarks",

@@ -110,9 +110,10 @@ fn turn(line: KeptLine, input: &[u8], from: usize, out: &mut [u8]) -> Turned
     fed_line(line, input, from, out)
 }
 
-// Before any input: no line begun.
+// Before any input: no line begun, nothing read.
 fn first() -> Run
     ensures { λ r. ⌜ readingOf r ≡ firstReading plateProgram ⌝ }
+    ensures { λ r. ⌜ (r .from ≡ 0) × (r .got ≡ 0) ⌝ }
 {
     let line = plates::kept::no_kept();
     Run {
@@ -123,8 +124,8 @@ fn first() -> Run
     }
 }
 
-// What is kept, with more of the input read where all that was read is used; a read that gives nothing or fails is the end
-// of the input.
+// What is kept, with more of the input read where all that was read is used; a read that gives nothing or fails is the
+// end of the input.
 fn refilled(run: Run) -> Run
     ensures { λ r. ⌜ (readingOf r ≡ readingOf run) × (r .got ≤ 512) ⌝ }
 {

@@ -4,7 +4,6 @@ use mathlib.Core.Bool.{Bool, false, cond, _&&_}
 use mathlib.Core.List.{List, [], _∷_, _++_}
 use lib.Dec.{leb, ltb, eqb}
 use lib.ListN.{length, drop, getD}
-use Rattle.text.specs.Ascii.{ascii}
 use Rattle.text.specs.Line.{isEmpty, space, firstPart}
 use Rattle.text.specs.Decimal.{allDigits, isNumber, valueOf}
 use Rattle.text.specs.Feed.{Answered, Program, output}

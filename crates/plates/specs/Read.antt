@@ -46,10 +46,6 @@ headOf first =
     (cond (isNumber mostUnit first && unitOk (valueOf first)) (Unit (valueOf first))
     (cond (ltb 0 (length first) && allDigits first) NotUnit None))
 
--- the most bytes in a line, and the most that are printed of a line: a record has at least 8 bytes, and its line at
--- most 176; so has any other line
+-- the most bytes that two digits each stand for in a line
 abbrev pub mostBytes : ℕ
 mostBytes = 32768
-
-abbrev pub mostOutput : ℕ
-mostOutput = 721072

@@ -57,9 +57,7 @@ endLine at = placed at (ascii "end")
 unfoldable pub shortLine : ℕ → List ℕ → ℕ → List ℕ
 shortLine at s n =
     placed at
-    (ascii "cut short, "
-    ++ decimal n
-    ++ cond (leb headerLength (length s)) (ascii " bytes of its body are missing") (ascii " bytes of its header are missing"))
+    (cond (leb headerLength (length s)) (ascii "cut short (256), bytes of its body missing: ") (ascii "cut short (256), bytes of its header missing: ") ++ decimal n)
 
 -- "length, kind": the two fields of a header
 abbrev pub lengthField : List ℕ → ℕ
@@ -75,7 +73,7 @@ refusedLine at s number =
     ++ decimal number
     ++ cond (eqb number badLength)
     (ascii ", length " ++ decimal (lengthField s) ++ ascii " is not that of kind " ++ decimal (kindField s))
-    (ascii ", kind " ++ decimal (kindField s) ++ ascii " is not known"))
+    (ascii ", kind " ++ decimal (kindField s) ++ ascii " is not known on the link"))
 
 -- ---- the record area
 abbrev pub areaWords : Area → List ℕ
@@ -93,7 +91,7 @@ areaLine a c = ascii "record area: " ++ areaWords a ++ ascii "; " ++ diskWords c
 
 -- another length than 8 is 1
 unfoldable pub areaLengthLine : ℕ → List ℕ
-areaLengthLine n = ascii "record area: " ++ decimal n ++ ascii " bytes and not 8; refused with " ++ decimal outOfRange ++ (newline ∷ [])
+areaLengthLine n = ascii "record area: not 8 bytes but " ++ decimal n ++ ascii "; refused with " ++ decimal outOfRange ++ (newline ∷ [])
 
 -- ---- a bad line: its first fault, with the place
 abbrev pub faultWords : Fault → List ℕ

@@ -81,9 +81,9 @@ fn put_area_length(out: &mut [u8], at: usize, n: usize) -> usize
     ensures { λ r. ⌜ PutDone (areaLengthLine n) (now (out .entry)) at (now (out .exit)) r ⌝ }
     ensures { λ r. ⌜ r ≤ at + 176 ⌝ }
 {
-    let a = put_text(out, at, b"record area: ");
+    let a = put_text(out, at, b"record area: not 8 bytes but ");
     let b = put_number(out, a, n as u64);
-    let c = put_text(out, b, b" bytes and not 8; refused with ");
+    let c = put_text(out, b, b"; refused with ");
     let d = put_number(out, c, OUT_OF_RANGE);
     put_byte(out, d, b'\n')
 }

@@ -14,14 +14,6 @@ pub const MOST_LINE: usize = 65536;
 
 pub const MOST_BYTES: usize = MOST_LINE / 2;
 
-// The most bytes of a record's line, of any other line, and of all that is printed of a line: a record has at least 8
-// bytes.
-pub const RECORD_LINE: usize = 176;
-
-pub const OTHER_LINE: usize = 176;
-
-pub const MOST_OUTPUT: usize = 22 * MOST_BYTES + OTHER_LINE;
-
 // What is wrong with a line.
 pub enum Fault {
     Empty,

@@ -37,14 +37,14 @@ fn put_end(out: &mut [u8], at: usize, place: usize) -> usize
 
 // Of what bytes are missing, where so many are there.
 fn put_missing(out: &mut [u8], at: usize, there: usize) -> usize
-    requires { ⌜ at + 33 ≤ length (now out) ⌝ }
-    ensures { λ n. ⌜ PutDone (cond (leb headerLength there) (ascii " bytes of its body are missing") (ascii " bytes of its header are missing")) (now (out .entry)) at (now (out .exit)) n ⌝ }
-    ensures { λ n. ⌜ n ≤ at + 33 ⌝ }
+    requires { ⌜ at + 46 ≤ length (now out) ⌝ }
+    ensures { λ n. ⌜ PutDone (cond (leb headerLength there) (ascii "cut short (256), bytes of its body missing: ") (ascii "cut short (256), bytes of its header missing: ")) (now (out .entry)) at (now (out .exit)) n ⌝ }
+    ensures { λ n. ⌜ n ≤ at + 46 ⌝ }
 {
     if there < HEADER_LENGTH {
-        return put_text(out, at, b" bytes of its header are missing");
+        return put_text(out, at, b"cut short (256), bytes of its header missing: ");
     }
-    put_text(out, at, b" bytes of its body are missing")
+    put_text(out, at, b"cut short (256), bytes of its body missing: ")
 }
 
 // The record is cut short by n bytes.
@@ -55,10 +55,9 @@ fn put_short(out: &mut [u8], at: usize, place: usize, bytes: &[u8], n: usize) ->
 {
     let there = bytes.len();
     let a = put_place(out, at, place);
-    let b = put_text(out, a, b"cut short, ");
+    let b = put_missing(out, a, there);
     let c = put_number(out, b, n as u64);
-    let d = put_missing(out, c, there);
-    put_byte(out, d, b'\n')
+    put_byte(out, c, b'\n')
 }
 
 // The length that a header says, which is not that of its kind.
@@ -75,18 +74,18 @@ fn put_bad_length(out: &mut [u8], at: usize, said: u32, kind: u32) -> usize
 
 fn put_bad_kind(out: &mut [u8], at: usize, kind: u32) -> usize
     requires { ⌜ at + 98 ≤ length (now out) ⌝ }
-    ensures { λ r. ⌜ PutDone (ascii ", kind " ++ decimal kind ++ ascii " is not known") (now (out .entry)) at (now (out .exit)) r ⌝ }
+    ensures { λ r. ⌜ PutDone (ascii ", kind " ++ decimal kind ++ ascii " is not known on the link") (now (out .entry)) at (now (out .exit)) r ⌝ }
     ensures { λ r. ⌜ r ≤ at + 98 ⌝ }
 {
     let a = put_text(out, at, b", kind ");
     let b = put_number(out, a, kind as u64);
-    put_text(out, b, b" is not known")
+    put_text(out, b, b" is not known on the link")
 }
 
 // Why it is refused: with 7 its length, else its kind.
 fn put_why(out: &mut [u8], at: usize, number: u64, said: u32, kind: u32) -> usize
     requires { ⌜ at + 98 ≤ length (now out) ⌝ }
-    ensures { λ r. ⌜ PutDone (cond (eqb number badLength) (ascii ", length " ++ decimal said ++ ascii " is not that of kind " ++ decimal kind) (ascii ", kind " ++ decimal kind ++ ascii " is not known")) (now (out .entry)) at (now (out .exit)) r ⌝ }
+    ensures { λ r. ⌜ PutDone (cond (eqb number badLength) (ascii ", length " ++ decimal said ++ ascii " is not that of kind " ++ decimal kind) (ascii ", kind " ++ decimal kind ++ ascii " is not known on the link")) (now (out .entry)) at (now (out .exit)) r ⌝ }
     ensures { λ r. ⌜ r ≤ at + 98 ⌝ }
 {
     if number == BAD_LENGTH {

@@ -1,4 +1,5 @@
--- What the program keeps, as the byte-by-byte reading of text/specs/Feed.antt says it, and what its turns come to. Assumes nothing.
+-- What the program keeps, as the byte-by-byte reading of text/specs/Feed.antt says it, and what its turns come to.
+-- Assumes nothing.
 use Prim.Native.Nat.{ℕ}
 use mathlib.Core.Path.{_≡_}
 use mathlib.Core.Bool.{true, not}

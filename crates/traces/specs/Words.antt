@@ -78,7 +78,7 @@ abbrev pub faultWords : LineFault → List ℕ
 faultWords Empty = ascii "the line is empty"
 faultWords Return = ascii "ends with a carriage return"
 faultWords Letter = ascii "unknown letter"
-faultWords (Count wanted) = ascii "wants " ++ decimal wanted ++ ascii " numbers"
+faultWords (Count wanted) = ascii "numbers wanted: " ++ decimal wanted
 faultWords (Digits which) = ascii "number " ++ decimal which ++ ascii " is not in digits"
 faultWords (Large which most) = ascii "number " ++ decimal which ++ ascii " is above " ++ decimal most
 

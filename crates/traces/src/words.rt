@@ -154,13 +154,12 @@ fn put_meaning(out: &mut [u8], at: usize, letter: u8, number: u64) -> usize
 
 // It has not so many numbers.
 fn put_count_fault(out: &mut [u8], at: usize, wanted: u64) -> usize
-    requires { ⌜ at + 34 ≤ length (now out) ⌝ }
-    ensures { λ r. ⌜ PutDone (ascii "wants " ++ decimal wanted ++ ascii " numbers") (now (out .entry)) at (now (out .exit)) r ⌝ }
-    ensures { λ r. ⌜ r ≤ at + 34 ⌝ }
+    requires { ⌜ at + 36 ≤ length (now out) ⌝ }
+    ensures { λ r. ⌜ PutDone (ascii "numbers wanted: " ++ decimal wanted) (now (out .entry)) at (now (out .exit)) r ⌝ }
+    ensures { λ r. ⌜ r ≤ at + 36 ⌝ }
 {
-    let a = put_text(out, at, b"wants ");
-    let b = put_number(out, a, wanted);
-    put_text(out, b, b" numbers")
+    let a = put_text(out, at, b"numbers wanted: ");
+    put_number(out, a, wanted)
 }
 
 // One of its numbers is not in digits.

@@ -39,7 +39,7 @@ pub fn parse(line: &[u8]) -> Result<Command, String> {
     let words: Vec<&[u8]> = line.split(|byte| *byte == b' ').collect();
     let limits = limits(words[0]).ok_or("unknown letter")?;
     if words.len() - 1 != limits.len() {
-        return Err(format!("wants {} numbers", limits.len()));
+        return Err(format!("numbers wanted: {}", limits.len()));
     }
     let mut numbers = Vec::new();
     for (at, (word, limit)) in words[1..].iter().zip(limits).enumerate() {
