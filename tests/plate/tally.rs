@@ -113,7 +113,7 @@ impl Tally {
         }
         let body = stop.contains("body");
         self.reach("header without any body", body && left.len() == 4);
-        let one = body && stop.contains("cut short, 1 bytes");
+        let one = body && stop.ends_with("missing: 1");
         self.reach("one byte of the body is missing", one);
         self.reach("one byte of a whole stream is missing", one && behind);
         let kind = if left.len() < 4 { 0 } else { left[2] as u64 + 256 * left[3] as u64 };
