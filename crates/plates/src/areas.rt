@@ -89,7 +89,7 @@ fn put_area_length(out: &mut [u8], at: usize, n: usize) -> usize
 }
 
 // What is printed of the bytes of an area.
-pub fn put_area_output(out: &mut [u8], at: usize, bytes: &[u8]) -> usize
+pub(crate) fn put_area_output(out: &mut [u8], at: usize, bytes: &[u8]) -> usize
     requires { ⌜ at + 176 ≤ length (now out) ⌝ }
     ensures { λ r. ⌜ PutDone (areaOutput (now (bytes .entry))) (now (out .entry)) at (now (out .exit)) r ⌝ }
     ensures { λ r. ⌜ r ≤ at + 176 ⌝ }

@@ -27,7 +27,7 @@ fn put_fault(out: &mut [u8], at: usize, fault: Fault) -> usize
 }
 
 // The line of a bad line: its first fault, with the place.
-pub fn put_bad(out: &mut [u8], at: usize, fault: Fault, place: usize) -> usize
+pub(crate) fn put_bad(out: &mut [u8], at: usize, fault: Fault, place: usize) -> usize
     requires { ⌜ at + 176 ≤ length (now out) ⌝ }
     ensures { λ r. ⌜ PutDone (badLine fault place) (now (out .entry)) at (now (out .exit)) r ⌝ }
     ensures { λ r. ⌜ r ≤ at + 176 ⌝ }

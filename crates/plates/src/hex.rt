@@ -84,7 +84,7 @@ fn hex_step(half: u8, c: u8) -> HexStep
 }
 
 // The bytes of a line behind its first `from` characters.
-pub fn read_hex(line: &[u8], from: usize) -> HexRead
+pub(crate) fn read_hex(line: &[u8], from: usize) -> HexRead
     requires { ⌜ (from ≤ length (now line)) × (length (now line) ≤ mostLine) ⌝ }
     ensures { λ r. ⌜ hexOf r ≡ hexBehind from (drop from (now (line .entry))) ⌝ }
     ensures { λ r. ⌜ (r .count ≤ 32768) × (length (r .bytes) ≡ 32768) ⌝ }

@@ -66,24 +66,15 @@ fn put_epoch(out: &mut [u8], at: usize, epoch: u32) -> usize
     put_number(out, a, epoch as u64)
 }
 
-fn put_page(out: &mut [u8], at: usize, epoch: u32, page: usize) -> usize
-    requires { ⌜ at + 85 ≤ length (now out) ⌝ }
-    ensures { λ n. ⌜ PutDone (ascii ", epoch " ++ decimal epoch ++ ascii ", page " ++ decimal page) (now (out .entry)) at (now (out .exit)) n ⌝ }
+// The epoch and a number behind a word: a page's or a block's.
+fn put_numbered(out: &mut [u8], at: usize, epoch: u32, word: &[u8], number: usize) -> usize
+    requires { ⌜ (length (now word) ≤ 9) × (at + 85 ≤ length (now out)) ⌝ }
+    ensures { λ n. ⌜ PutDone (ascii ", epoch " ++ decimal epoch ++ now (word .entry) ++ decimal number) (now (out .entry)) at (now (out .exit)) n ⌝ }
     ensures { λ n. ⌜ n ≤ at + 85 ⌝ }
 {
     let a = put_epoch(out, at, epoch);
-    let b = put_text(out, a, b", page ");
-    put_number(out, b, page as u64)
-}
-
-fn put_block(out: &mut [u8], at: usize, epoch: u32, block: usize) -> usize
-    requires { ⌜ at + 85 ≤ length (now out) ⌝ }
-    ensures { λ n. ⌜ PutDone (ascii ", epoch " ++ decimal epoch ++ ascii ", block " ++ decimal block) (now (out .entry)) at (now (out .exit)) n ⌝ }
-    ensures { λ n. ⌜ n ≤ at + 85 ⌝ }
-{
-    let a = put_epoch(out, at, epoch);
-    let b = put_text(out, a, b", block ");
-    put_number(out, b, block as u64)
+    let b = put_text(out, a, word);
+    put_number(out, b, number as u64)
 }
 
 fn put_commit(out: &mut [u8], at: usize, epoch: u32, pages: usize, blocks: usize) -> usize
@@ -109,12 +100,12 @@ fn put_fields(out: &mut [u8], at: usize, r: Record) -> usize
             epoch,
             page,
             at: _,
-        } => put_page(out, at, epoch, page),
+        } => put_numbered(out, at, epoch, b", page ", page),
         Record::Block {
             epoch,
             block,
             at: _,
-        } => put_block(out, at, epoch, block),
+        } => put_numbered(out, at, epoch, b", block ", block),
         Record::State { epoch, at: _ } => put_epoch(out, at, epoch),
         Record::Commit {
             wide: _,
@@ -143,7 +134,7 @@ fn put_kind(out: &mut [u8], at: usize, r: Record) -> usize
 }
 
 // The line of a record at a place, at most 173 bytes.
-pub fn put_record(out: &mut [u8], at: usize, place: usize, r: Record) -> usize
+pub(crate) fn put_record(out: &mut [u8], at: usize, place: usize, r: Record) -> usize
     requires { ⌜ at + 176 ≤ length (now out) ⌝ }
     ensures { λ n. ⌜ PutDone (recordLine place r) (now (out .entry)) at (now (out .exit)) n ⌝ }
     ensures { λ n. ⌜ n ≤ at + 176 ⌝ }

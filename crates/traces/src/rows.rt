@@ -25,7 +25,7 @@ use text::printing::put_right;
 use text::printing::put_text;
 
 // The header line.
-pub fn put_header(out: &mut [u8], at: usize) -> usize
+pub(crate) fn put_header(out: &mut [u8], at: usize) -> usize
     requires { ⌜ at + 200 ≤ length (now out) ⌝ }
     ensures { λ r. ⌜ PutDone headerLine (now (out .entry)) at (now (out .exit)) r ⌝ }
     ensures { λ r. ⌜ r ≤ at + 200 ⌝ }
@@ -204,7 +204,7 @@ fn put_said(
 }
 
 // A row, with its newline.
-pub fn put_row(
+pub(crate) fn put_row(
     out: &mut [u8],
     at: usize,
     c: TraceCommand,

@@ -72,7 +72,7 @@ fn put_trace_numbers(out: &mut [u8], at: usize, c: TraceCommand) -> usize
 }
 
 // A command as it is written: its letter and its numbers.
-pub fn put_command(out: &mut [u8], at: usize, c: TraceCommand) -> usize
+pub(crate) fn put_command(out: &mut [u8], at: usize, c: TraceCommand) -> usize
     requires { ⌜ at + 43 ≤ length (now out) ⌝ }
     ensures { λ r. ⌜ PutDone (commandWords c) (now (out .entry)) at (now (out .exit)) r ⌝ }
     ensures { λ r. ⌜ r ≤ at + 43 ⌝ }
@@ -214,7 +214,7 @@ fn put_reason(out: &mut [u8], at: usize, letter: u8, fault: LineFault, number: u
 }
 
 // The answer to a command: its number, and in words what it is.
-pub fn put_answer(
+pub(crate) fn put_answer(
     out: &mut [u8],
     at: usize,
     c: TraceCommand,

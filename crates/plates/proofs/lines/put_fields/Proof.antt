@@ -6,10 +6,10 @@ use Rattle.plates.proofs.lines.put_fields.Statement.{statement}
 use Rattle.plates.proofs.lines.put_fields.Tie as tie
 
 returns : tie.Need-returns
-returns c = let d = c .before .before .put-page .ensures in rw (c .before .before .before .before .before .r .given .1) (d .0, omega (arith, d .1))
+returns c = let d = c .before .before .put-numbered .ensures in rw (c .before .before .before .before .before .before .r .given .1) (d .0, omega (arith, d .1))
 
 returns-2 : tie.Need-returns-2
-returns-2 c = let d = c .before .before .put-block .ensures in rw (c .before .before .before .before .before .r2 .given .1) (d .0, omega (arith, d .1))
+returns-2 c = let d = c .before .before .put-numbered2 .ensures in rw (c .before .before .before .before .before .before .r2 .given .1) (d .0, omega (arith, d .1))
 
 returns-3 : tie.Need-returns-3
 returns-3 c = let d = c .before .before .put-epoch .ensures in rw (c .before .before .before .before .before .r3 .given .1) (d .0, omega (arith, d .1))
@@ -30,6 +30,8 @@ pub put-fields-spec : {M : Type 1} → statement M
 put-fields-spec =
     tie.close
     (tie.spec
+    (search needs)
+    (search needs)
     (search needs)
     (search needs)
     (search needs)
