@@ -1,4 +1,5 @@
 // One checkpoint on file: judging its records in turn, and writing its normal form (document 02, Job 14).
+#![tactic(auto)]
 pub mod judge;
 pub mod normal;
 pub mod scan;
@@ -6,7 +7,7 @@ pub mod scan;
 use records::Record;
 
 // The settings that a file is judged by.
-#[derive(Drop)]
+#[derive(Clone, Copy)]
 pub struct FileSettings {
     pub u: usize,
     pub m: usize,
@@ -15,7 +16,7 @@ pub struct FileSettings {
 }
 
 // What is kept of the records read so far; the numbers of the different blocks stand in an array beside it.
-#[derive(Drop)]
+#[derive(Clone, Copy)]
 pub struct Counts {
     // whether a record came, and the first one's epoch
     pub begun: bool,
@@ -32,7 +33,7 @@ pub struct Counts {
 
 // Where going through a file ends: the last record judged, cut short or a refusal, with its end, and what was kept
 // before it.
-#[derive(Drop)]
+#[derive(Clone, Copy)]
 pub struct Scanned {
     pub last: Record,
     pub counts: Counts,
@@ -40,7 +41,7 @@ pub struct Scanned {
 }
 
 // What writing a normal form answers.
-#[derive(Drop)]
+#[derive(Clone, Copy)]
 pub enum Saved {
     Written { length: usize },
     Short { missing: usize },

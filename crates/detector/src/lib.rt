@@ -1,9 +1,10 @@
 // The detector of each end: its patience, and the ticks that it has counted.
+#![tactic(auto)]
 ghost use Rattle.std.specs.Prelude.{◌≡◌};
 ghost use Rattle.detector.specs.Range.{detector_ok};
 ghost use Rattle.detector.specs.Tick.{with_count, expired, reset, ticked};
 
-#[derive(Drop)]
+#[derive(Clone, Copy)]
 pub struct Detector {
     pub patience: u32,
     pub count: u32,

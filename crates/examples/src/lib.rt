@@ -1,1 +1,2 @@
 // The worked examples of document 01: definitions and proofs only.
+#![tactic(auto)]

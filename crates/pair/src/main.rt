@@ -1,4 +1,5 @@
 // The program `pair`: reads commands on standard input, to its end or to `k`, and prints what each line gives.
+#![tactic(auto)]
 ghost use Rattle.std.specs.Prelude.{◌≡◌, false, [], ◌∷◌, ◌+◌, ◌-◌, ◌≤◌, ◌<◌, length};
 ghost use Rattle.lists.specs.Part.{part, PutDone};
 ghost use Rattle.text.specs.Line.{newline};
@@ -12,7 +13,7 @@ use script::Site;
 use text::Line;
 
 // What is kept between two parts of the input.
-#[derive(Drop)]
+#[derive(Clone, Copy)]
 struct Run {
     site: Site,
     line: Line,
@@ -20,7 +21,7 @@ struct Run {
 }
 
 // After a part of the input: what is kept, how far the part is read, and how many bytes are to be printed.
-#[derive(Drop)]
+#[derive(Clone, Copy)]
 struct Step {
     run: Run,
     read: usize,
@@ -28,7 +29,7 @@ struct Step {
 }
 
 // After a turn: what is kept, how many bytes are to be written, and whether more is to be read.
-#[derive(Drop)]
+#[derive(Clone, Copy)]
 struct Next {
     run: Run,
     written: usize,

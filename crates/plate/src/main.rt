@@ -1,4 +1,5 @@
 // The program `plate`: reads lines on standard input, to its end, and prints for each what it gives.
+#![tactic(auto)]
 ghost use Rattle.std.specs.Prelude.{◌≡◌, true, [], ◌∷◌, ◌+◌, ◌-◌, ◌≤◌, ◌<◌, length};
 ghost use Rattle.lists.specs.Part.{part, PutDone};
 ghost use Rattle.text.specs.Line.{newline};
@@ -12,7 +13,7 @@ use plates::KeptLine;
 
 // What is kept between two turns: the line under way, and what was read of the input, of which the bytes from `from` to
 // `got` are not yet used.
-#[derive(Drop)]
+#[derive(Clone, Copy)]
 struct Run {
     line: KeptLine,
     input: [u8; 512],
@@ -22,7 +23,7 @@ struct Run {
 
 // After a turn: the line under way, how far the input is used, how many bytes are to be written, and whether more is to
 // be read.
-#[derive(Drop)]
+#[derive(Clone, Copy)]
 struct Turned {
     line: KeptLine,
     used: usize,
@@ -31,7 +32,7 @@ struct Turned {
 }
 
 // After a turn: what is kept, and whether more is to be read.
-#[derive(Drop)]
+#[derive(Clone, Copy)]
 struct Next {
     run: Run,
     more: bool,

@@ -1,4 +1,5 @@
 // The program `plate`: the bytes of a line, record by record, in words.
+#![tactic(auto)]
 pub mod answer;
 pub mod areas;
 pub mod bad;
@@ -15,7 +16,7 @@ pub const MOST_LINE: usize = 65536;
 pub const MOST_BYTES: usize = MOST_LINE / 2;
 
 // What is wrong with a line.
-#[derive(Drop)]
+#[derive(Clone, Copy)]
 pub enum Fault {
     Empty,
     Long,
@@ -27,7 +28,7 @@ pub enum Fault {
 }
 
 // What bytes in hexadecimal are read as: whole bytes, at the head of the array, or a fault and its place, from 1.
-#[derive(Drop)]
+#[derive(Clone, Copy)]
 pub struct HexRead {
     pub bytes: [u8; MOST_BYTES],
     pub count: usize,
@@ -37,7 +38,7 @@ pub struct HexRead {
 }
 
 // A line under way: its bytes, at the head of the array, up to one more than the longest line has.
-#[derive(Drop)]
+#[derive(Clone, Copy)]
 pub struct KeptLine {
     pub bytes: [u8; MOST_LINE + 1],
     pub length: usize,
@@ -45,7 +46,7 @@ pub struct KeptLine {
 
 // What one character of bytes in hexadecimal gives: the first digit of the byte under way, or 16; the byte that is
 // whole with it, where more is 1; or a fault.
-#[derive(Drop)]
+#[derive(Clone, Copy)]
 pub struct HexStep {
     pub half: u8,
     pub more: usize,
@@ -55,7 +56,7 @@ pub struct HexStep {
 }
 
 // The first word of a line: the word area, U in its range, a number that is no U, or none of these.
-#[derive(Drop)]
+#[derive(Clone, Copy)]
 pub enum PlateHead {
     Area,
     Unit { u: usize },

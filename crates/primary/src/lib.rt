@@ -1,4 +1,5 @@
 // The primary's calls: the guest's writes, packets, checkpoint, drain, ACK, take, tick and sum.
+#![tactic(auto)]
 pub mod checkpoint;
 pub mod packets;
 pub mod ranges;

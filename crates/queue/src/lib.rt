@@ -1,4 +1,5 @@
 // The held packets.
+#![tactic(auto)]
 ghost use Rattle.std.specs.Prelude.{◌≡◌, ◌&&◌, ◌+◌, ◌^◌, ◌≤◌, ◌<◌, min, leb, length};
 ghost use Rattle.lists.specs.Part.{part, put, removed};
 ghost use Rattle.settings.specs.Range.{most_packets};
@@ -13,7 +14,7 @@ const MOST_LENGTH: u16 = MOST_PACKET_BYTES as u16;
 const LAST_PORT: u16 = MOST_PORT as u16;
 
 // One held packet, in 8 bytes: the epoch that was open when it came, its length, and the port by which it leaves.
-#[derive(Drop)]
+#[derive(Clone, Copy)]
 pub struct Packet {
     pub epoch: u32,
     pub length: u16,
@@ -21,7 +22,7 @@ pub struct Packet {
 }
 
 // The packets in the order in which they came: how many, their bytes together, and each of them. Their bytes stand in the lent buffer, one after the other.
-#[derive(Drop)]
+#[derive(Clone, Copy)]
 pub struct Queue {
     pub count: usize,
     pub bytes: usize,
@@ -37,7 +38,7 @@ pub fn size(n: u16) -> usize
 
 // What was seen of the first packets: the epoch of the last of them, their bytes together, and whether their lengths
 // and ports were in range and no epoch fell.
-#[derive(Drop)]
+#[derive(Clone, Copy)]
 pub struct Seen {
     pub epoch: u32,
     pub bytes: usize,
@@ -148,7 +149,7 @@ pub fn queue_ok(k: Queue, epoch: u32, q: usize) -> bool
 
 // Where the first packet of a port stands among those looked at, and how many bytes are before its own; 0 and 0 where
 // there is none.
-#[derive(Drop)]
+#[derive(Clone, Copy)]
 pub struct Place {
     pub at: usize,
     pub before: usize,

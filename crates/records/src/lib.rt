@@ -1,4 +1,5 @@
 // The records of the stream: reading one, writing each kind, and the record area.
+#![tactic(auto)]
 pub mod disk_area;
 pub mod kinds;
 pub mod number;
@@ -6,7 +7,7 @@ pub mod reading;
 pub mod writing;
 
 // Where a record's field of bytes stands: from start to end, which is where the record ends. A kind with no such field has start = end.
-#[derive(Drop)]
+#[derive(Clone, Copy)]
 pub struct Cursor {
     pub start: usize,
     pub end: usize,
@@ -14,7 +15,7 @@ pub struct Cursor {
 
 // Who reads: the record test passes kinds 1 to 5, 8 and 9, the standby 1 to 4 or, where it is wide, 8, 2, 3 and 9, the
 // primary 5.
-#[derive(Drop)]
+#[derive(Clone, Copy)]
 pub enum Reader {
     Test,
     Standby { wide: bool },
@@ -22,7 +23,7 @@ pub enum Reader {
 }
 
 // What stands at the head of some bytes. A PAGE or a COMMIT is wide where it is of kind 8 or 9.
-#[derive(Drop)]
+#[derive(Clone, Copy)]
 pub enum Record {
     Page {
         wide: bool,
@@ -59,7 +60,7 @@ pub enum Record {
 }
 
 // What the record area of the standby's disk holds.
-#[derive(Drop)]
+#[derive(Clone, Copy)]
 pub enum Area {
     Zero,
     Activation { epoch: u32 },

@@ -1,11 +1,12 @@
 // The states of both ends and the replies of their calls. What each call does is defined in specs/.
+#![tactic(auto)]
 use detector::Detector;
 use queue::Queue;
 use settings::{MOST_ALLOWANCE, PrimarySettings, StandbySettings};
 use staging::Slots;
 
 // The primary's state.
-#[derive(Drop)]
+#[derive(Clone, Copy)]
 pub struct Primary {
     pub settings: PrimarySettings,
     pub detector: Detector,
@@ -23,7 +24,7 @@ pub struct Primary {
     pub numbers: [u16; MOST_ALLOWANCE],
 }
 
-#[derive(Drop)]
+#[derive(Clone, Copy)]
 pub enum Mode {
     Receiving,
     TakingOver,
@@ -31,7 +32,7 @@ pub enum Mode {
 }
 
 // The standby's state.
-#[derive(Drop)]
+#[derive(Clone, Copy)]
 pub struct Standby {
     pub settings: StandbySettings,
     pub detector: Detector,
@@ -53,14 +54,14 @@ pub struct Standby {
 }
 
 // What a call of the primary gives: number 0 is accepted.
-#[derive(Drop)]
+#[derive(Clone, Copy)]
 pub struct PrimaryReply {
     pub state: Primary,
     pub number: u64,
     pub value: u64,
 }
 
-#[derive(Drop)]
+#[derive(Clone, Copy)]
 pub struct StandbyReply {
     pub state: Standby,
     pub number: u64,
@@ -68,27 +69,27 @@ pub struct StandbyReply {
 }
 
 // What reading a record answers.
-#[derive(Drop)]
+#[derive(Clone, Copy)]
 pub enum Answer {
     Accepted { value: u64, used: usize },
     Short { missing: usize },
     Refused { number: u64 },
 }
 
-#[derive(Drop)]
+#[derive(Clone, Copy)]
 pub struct PrimaryAnswer {
     pub state: Primary,
     pub answer: Answer,
 }
 
-#[derive(Drop)]
+#[derive(Clone, Copy)]
 pub struct StandbyAnswer {
     pub state: Standby,
     pub answer: Answer,
 }
 
 // The lengths of what a read is lent: memory, staged pages, staged marks, staged blocks, reply.
-#[derive(Drop)]
+#[derive(Clone, Copy)]
 pub struct ReadLent {
     pub memory: usize,
     pub pages: usize,
@@ -98,7 +99,7 @@ pub struct ReadLent {
 }
 
 // The lengths of every buffer of the primary.
-#[derive(Drop)]
+#[derive(Clone, Copy)]
 pub struct PrimaryLent {
     pub memory: usize,
     pub disk: usize,
@@ -108,7 +109,7 @@ pub struct PrimaryLent {
 }
 
 // The lengths of every buffer of the standby: memory, disk, staged pages, staged marks, staged blocks, record area.
-#[derive(Drop)]
+#[derive(Clone, Copy)]
 pub struct StandbyLent {
     pub memory: usize,
     pub disk: usize,
@@ -119,14 +120,14 @@ pub struct StandbyLent {
 }
 
 // The lengths of what start is lent.
-#[derive(Drop)]
+#[derive(Clone, Copy)]
 pub struct StartLent {
     pub primary: PrimaryLent,
     pub standby: StandbyLent,
 }
 
 // What start gives.
-#[derive(Drop)]
+#[derive(Clone, Copy)]
 pub struct Started {
     pub primary: Primary,
     pub standby: Standby,
@@ -134,7 +135,7 @@ pub struct Started {
 }
 
 // Which disk is valid after both boxes fail.
-#[derive(Drop)]
+#[derive(Clone, Copy)]
 pub enum Choice {
     PrimaryDisk,
     StandbyDisk,

@@ -1,1 +1,2 @@
 // Whole runs of the pair: definitions and proofs only.
+#![tactic(auto)]

@@ -1,4 +1,5 @@
 // The commands of the program `pair` on both ends and their link, at the settings of `pair`.
+#![tactic(auto)]
 use records::{AREA_LENGTH, EPOCH_RECORD};
 use rules::{Answer, Primary, Standby};
 
@@ -16,7 +17,7 @@ pub const STREAM_BYTES: usize = 1024;
 pub const LINK_BYTES: usize = 2 * STREAM_BYTES;
 
 // The primary's box: its state and every buffer that its calls are lent.
-#[derive(Drop)]
+#[derive(Clone, Copy)]
 pub struct PrimaryBox {
     pub state: Primary,
     pub memory: [u8; 256],
@@ -27,7 +28,7 @@ pub struct PrimaryBox {
 }
 
 // The standby's box.
-#[derive(Drop)]
+#[derive(Clone, Copy)]
 pub struct StandbyBox {
     pub state: Standby,
     pub memory: [u8; 256],
@@ -39,7 +40,7 @@ pub struct StandbyBox {
 }
 
 // Both boxes and the link between them.
-#[derive(Drop)]
+#[derive(Clone, Copy)]
 pub struct Site {
     pub primary: PrimaryBox,
     pub standby: StandbyBox,
@@ -51,14 +52,14 @@ pub struct Site {
 }
 
 // What start gives: the site, and the number of its refusal, 0 where it is accepted.
-#[derive(Drop)]
+#[derive(Clone, Copy)]
 pub struct StartedSite {
     pub site: Site,
     pub number: u64,
 }
 
 // What a read at the standby gives: its box after it, the answer, and the reply buffer of an ACK's bytes.
-#[derive(Drop)]
+#[derive(Clone, Copy)]
 pub struct StandbyRead {
     pub standby: StandbyBox,
     pub answer: Answer,
@@ -66,7 +67,7 @@ pub struct StandbyRead {
 }
 
 // A command, one a line.
-#[derive(Drop)]
+#[derive(Clone, Copy)]
 pub enum Command {
     Write { page: u64, byte: u8 },
     Disk { block: u64, byte: u8 },
@@ -81,7 +82,7 @@ pub enum Command {
 }
 
 // What a command gives: the site after it, what is printed of it, and whether it is the last.
-#[derive(Drop)]
+#[derive(Clone, Copy)]
 pub struct Performed {
     pub site: Site,
     pub number: u64,
@@ -90,7 +91,7 @@ pub struct Performed {
 }
 
 // A line's answer: the site after it, the bytes printed, at the head of an array, and whether it is the last.
-#[derive(Drop)]
+#[derive(Clone, Copy)]
 pub struct Answered {
     pub site: Site,
     pub bytes: [u8; 44],

@@ -1,4 +1,5 @@
 // The settings of a pair, what each end keeps of them, and whether they are in their ranges.
+#![tactic(auto)]
 ghost use Rattle.std.specs.Prelude.{◌≡◌, ◌&&◌, ◌+◌, ◌≤◌};
 ghost use Rattle.records.specs.Kind.{unit_ok, counts_end};
 ghost use Rattle.settings.specs.Range.{memory_pages_ok, disk_blocks_ok, allowance_ok, block_slots_ok, held_bytes_ok, stream_ok, patience_ok, settings_ok, primary_settings_ok, standby_settings_ok};
@@ -37,7 +38,7 @@ pub const MOST_PATIENCE: u32 = 60000;
 pub const MOST_RECORDS: usize = 65535;
 
 // What start is told (document 01, "Settings").
-#[derive(Drop)]
+#[derive(Clone, Copy)]
 pub struct Settings {
     pub u: usize,
     pub m: usize,
@@ -50,7 +51,7 @@ pub struct Settings {
 }
 
 // What the primary keeps; T stands in its detector.
-#[derive(Drop)]
+#[derive(Clone, Copy)]
 pub struct PrimarySettings {
     pub u: usize,
     pub m: usize,
@@ -61,7 +62,7 @@ pub struct PrimarySettings {
 }
 
 // What the standby keeps; T stands in its detector.
-#[derive(Drop)]
+#[derive(Clone, Copy)]
 pub struct StandbySettings {
     pub u: usize,
     pub m: usize,

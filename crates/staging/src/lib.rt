@@ -1,4 +1,5 @@
 // The standby's block slots.
+#![tactic(auto)]
 ghost use Rattle.std.specs.Prelude.{◌≡◌, ◌+◌, ◌*◌, ◌≤◌, ◌<◌, length, take, drop, replicate};
 ghost use Rattle.lists.specs.Part.{put, removed};
 ghost use Rattle.lists.specs.Select.{place_in};
@@ -11,7 +12,7 @@ use settings::MOST_SLOTS;
 
 // The staged blocks in order of first arrival: how many, how many of them are due, and the number of each. Their bytes
 // stand in the lent slots.
-#[derive(Drop)]
+#[derive(Clone, Copy)]
 pub struct Slots {
     pub staged: usize,
     pub due: usize,

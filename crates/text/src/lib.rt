@@ -1,4 +1,5 @@
 // Decimal numbers and lines, a byte at a time: nothing is kept of a line but what its command depends on, so it may be of any length.
+#![tactic(auto)]
 pub mod decimal;
 pub mod kept;
 pub mod lines;
@@ -6,7 +7,7 @@ pub mod printing;
 pub mod rows;
 
 // What is kept of a word that may be a number.
-#[derive(Drop)]
+#[derive(Clone, Copy)]
 pub struct Number {
     // whether the word has a byte, and whether all its bytes are digits
     pub some: bool,
@@ -16,7 +17,7 @@ pub struct Number {
 }
 
 // What is kept of a line under way.
-#[derive(Drop)]
+#[derive(Clone, Copy)]
 pub struct Line {
     // how many words, at most 4
     pub words: usize,
@@ -31,7 +32,7 @@ pub struct Line {
 }
 
 // A number's decimal digits: the bytes from start on.
-#[derive(Drop)]
+#[derive(Clone, Copy)]
 pub struct Digits {
     pub bytes: [u8; 20],
     pub start: usize,

@@ -1,4 +1,5 @@
 // The program `trace`: reads commands on standard input, to its end or to `k`, and prints a header line and a row for each.
+#![tactic(auto)]
 ghost use Rattle.std.specs.Prelude.{◌≡◌, false, [], ◌∷◌, ◌+◌, ◌-◌, ◌≤◌, ◌<◌, length};
 ghost use Rattle.lists.specs.Part.{part, PutDone};
 ghost use Rattle.text.specs.Line.{newline};
@@ -11,7 +12,7 @@ use libc::{STDIN_FILENO, STDOUT_FILENO};
 use traces::{TraceLine, TraceSite};
 
 // What is kept between two parts of the input.
-#[derive(Drop)]
+#[derive(Clone, Copy)]
 struct Run {
     trace: TraceSite,
     line: TraceLine,
@@ -19,7 +20,7 @@ struct Run {
 }
 
 // After a part of the input: what is kept, how far the part is read, and how many bytes are to be printed.
-#[derive(Drop)]
+#[derive(Clone, Copy)]
 struct Step {
     run: Run,
     read: usize,
@@ -27,7 +28,7 @@ struct Step {
 }
 
 // After a turn: what is kept, how many bytes are to be written, and whether more is to be read.
-#[derive(Drop)]
+#[derive(Clone, Copy)]
 struct Next {
     run: Run,
     written: usize,

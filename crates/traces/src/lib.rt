@@ -1,4 +1,5 @@
 // The program `trace`: the commands of `pair` and two more, one row of a table for each.
+#![tactic(auto)]
 use script::{Command, Site};
 use text::Line;
 
@@ -10,7 +11,7 @@ pub mod rows;
 pub mod words;
 
 // A command of `trace`: one of `pair`'s; a byte of what is on the link set; a tick of the primary.
-#[derive(Drop)]
+#[derive(Clone, Copy)]
 pub enum TraceCommand {
     Pair { command: Command },
     Set { at: u64, byte: u8 },
@@ -18,7 +19,7 @@ pub enum TraceCommand {
 }
 
 // What is kept of a line under way: as `pair` keeps it, and its last byte.
-#[derive(Drop)]
+#[derive(Clone, Copy)]
 pub struct TraceLine {
     pub line: Line,
     pub last: u8,
@@ -26,7 +27,7 @@ pub struct TraceLine {
 
 // Why a line is no command: it is empty, ends with a carriage return, its letter is not known, it has not so many
 // numbers, its first or second number is not in digits, or is larger than the most.
-#[derive(Drop)]
+#[derive(Clone, Copy)]
 pub enum LineFault {
     Empty,
     Return,
@@ -37,7 +38,7 @@ pub enum LineFault {
 }
 
 // What is kept between two lines.
-#[derive(Drop)]
+#[derive(Clone, Copy)]
 pub struct TraceSite {
     pub site: Site,
     // whether a byte on the link was changed
@@ -52,7 +53,7 @@ pub const ROW_BYTES: usize = 1000;
 pub const ANSWER_BYTES: usize = 1200;
 
 // A line's answer: what is kept after it, the bytes printed, at the head of an array, and whether it is the last.
-#[derive(Drop)]
+#[derive(Clone, Copy)]
 pub struct TraceAnswer {
     pub after: TraceSite,
     pub bytes: [u8; ANSWER_BYTES],

@@ -1,5 +1,6 @@
 // The program `trial`: reads settings and then ticks on standard input, to its end or to the end of the trial, and prints what
 // each line gives and last the most ticks.
+#![tactic(auto)]
 ghost use Rattle.std.specs.Prelude.{◌≡◌, false, [], ◌∷◌, ◌+◌, ◌-◌, ◌≤◌, ◌<◌, length};
 ghost use Rattle.lists.specs.Part.{part, PutDone};
 ghost use Rattle.text.specs.Line.{newline};
@@ -13,7 +14,7 @@ use text::Line;
 use trials::TrialStage;
 
 // What is kept between two parts of the input.
-#[derive(Drop)]
+#[derive(Clone, Copy)]
 struct Run {
     stage: TrialStage,
     line: Line,
@@ -21,7 +22,7 @@ struct Run {
 }
 
 // After a part of the input: what is kept, how far the part is read, and how many bytes are to be printed.
-#[derive(Drop)]
+#[derive(Clone, Copy)]
 struct Step {
     run: Run,
     read: usize,
@@ -29,7 +30,7 @@ struct Step {
 }
 
 // After a turn: what is kept, how many bytes are to be written, and whether more is to be read.
-#[derive(Drop)]
+#[derive(Clone, Copy)]
 struct Next {
     run: Run,
     written: usize,

@@ -1,4 +1,5 @@
 // Trials of settings (document 02, Job 12): the two ends of `pair`, stepped tick by tick through the functions of `script`.
+#![tactic(auto)]
 use script::Site;
 use settings::MOST_PACKETS;
 
@@ -12,7 +13,7 @@ pub mod ticks;
 pub mod turns;
 
 // A trial under way.
-#[derive(Drop)]
+#[derive(Clone, Copy)]
 pub struct TrialSite {
     pub interval: u64,
     pub rate: u64,
@@ -26,7 +27,7 @@ pub struct TrialSite {
 }
 
 // A trial that goes on or, where it is over, the letter, number and value of the step that ended it.
-#[derive(Drop)]
+#[derive(Clone, Copy)]
 pub struct TrialCourse {
     pub trial: TrialSite,
     pub over: bool,
@@ -36,7 +37,7 @@ pub struct TrialCourse {
 }
 
 // What the guest does a given number of times in a tick.
-#[derive(Drop)]
+#[derive(Clone, Copy)]
 pub enum Work {
     Pages,
     Blocks,
@@ -44,7 +45,7 @@ pub enum Work {
 }
 
 // What is done again and again in a tick.
-#[derive(Drop)]
+#[derive(Clone, Copy)]
 pub enum Repeated {
     Reading,
     Acks,
@@ -52,21 +53,21 @@ pub enum Repeated {
 }
 
 // After one turn of what is repeated: the trial, and whether there was anything to do.
-#[derive(Drop)]
+#[derive(Clone, Copy)]
 pub struct Turn {
     pub course: TrialCourse,
     pub more: bool,
 }
 
 // Before the first line, where no trial has begun, and after it.
-#[derive(Drop)]
+#[derive(Clone, Copy)]
 pub struct TrialStage {
     pub begun: bool,
     pub trial: TrialSite,
 }
 
 // A line's answer: what is kept after it, the bytes printed, at the head of an array, and whether it is the last.
-#[derive(Drop)]
+#[derive(Clone, Copy)]
 pub struct TrialAnswer {
     pub stage: TrialStage,
     pub bytes: [u8; 65],
