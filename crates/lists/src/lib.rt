@@ -1,5 +1,6 @@
 // Copies and moves inside lent slices, and a part of one: the loops that every layer above rests on. Numbers in bytes are in `field`.
 #![tactic(auto)]
+
 pub mod field;
 
 ghost use Rattle.std.specs.Prelude.{◌≡◌, ◌+◌, ◌≤◌, length};

@@ -1,6 +1,7 @@
 // Marks, one bit a page, in lent 64-bit words: page p is bit p % 64 of word p / 64.
 // A page past the last word is not marked, and marking it changes nothing.
 #![tactic(auto)]
+
 ghost use Rattle.std.specs.Prelude.{◌≡◌, ◌+◌, ◌-◌, ◌/◌, ◌%◌, ◌^◌, ◌≤◌, ◌<◌, min, get_or};
 ghost use Rattle.std.specs.Int.Count.{ones, count_trailing_zeros};
 ghost use Rattle.marks.specs.Mark.{with_mark, cleared, count_marks};

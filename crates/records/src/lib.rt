@@ -1,5 +1,6 @@
 // The records of the stream: reading one, writing each kind, and the record area.
 #![tactic(auto)]
+
 pub mod disk_area;
 pub mod kinds;
 pub mod number;

@@ -1,5 +1,6 @@
 // Decimal numbers and lines, a byte at a time: nothing is kept of a line but what its command depends on, so it may be of any length.
 #![tactic(auto)]
+
 pub mod decimal;
 pub mod kept;
 pub mod lines;

@@ -1,0 +1,22 @@
+-- `lists::copy_chunk` meets its contract: the head of the array is the part that was copied into it.
+use native.Mathlib.Omega.{arith}
+use borrow.Author.Rules.{rules}
+use Prim.Native.Nat.{◌≤◌}
+use mathlib.Core.Path.{ap, ◌∙◌}
+use lib.ListN.{length, length-take, length-drop}
+use Rattle.lists.proofs.PartLaws.{length_part}
+use Rattle.lists.proofs.ChunkLaws.{part-most, chunk-copied}
+use Rattle.lists.proofs.copy_chunk.Goals as goal
+
+pub copy_bytes-requires : goal.copy_bytes-requires
+copy_bytes-requires c =
+    let a = c.args in
+    omega (arith, ap length c.part_of.ensures ∙ length_part a.at a.n a.src.now (omega arith))
+
+pub copy_bytes-requires-2 : goal.copy_bytes-requires-2
+copy_bytes-requires-2 c =
+    let g : length c.part_of-2.result.now ≤ c.args.n = rw c.part_of-2.ensures (part-most 0 _ _) in
+    simp (length-take, length-drop) (omega (arith, g))
+
+pub returns : goal.returns
+returns c = chunk-copied _ _ _ _ _ _ _ _ _ _ (omega arith) (omega arith) c.part_of.ensures c.copy_bytes.ensures c.part_of-2.ensures c.copy_bytes-2.ensures

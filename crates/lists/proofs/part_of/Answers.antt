@@ -1,0 +1,6 @@
+use borrow.Author.Rules.{rules}
+use Rattle.lists.proofs.PartLaws.{part-lent}
+use Rattle.lists.proofs.part_of.Goals as goal
+
+pub returns : goal.returns
+returns c = part-lent _ _ _
