@@ -1,0 +1,15 @@
+-- `text::decimal::digits_of` meets its contract. The loop's invariant: the digits of the rest, in front of those stored, are the digits of n.
+use Prim.Native.Nat.{◌^◌, ◌≤◌, ◌<◌}
+use mathlib.Core.Path.{◌≡◌, refl, sym, ◌∙◌}
+use mathlib.Core.List.{[]}
+use native.Mathlib.Omega.{arith}
+use lib.ListN.{length, drop, length-set}
+use Rattle.text.specs.Decimal.{digits_before}
+use Rattle.text.proofs.DecimalLaws.{fewer_digits, digits-turn, digits-end}
+use Rattle.text.proofs.decimal.digits_of.Given as goal
+
+abbrev pub invariant-loop-rest : goal.invariant-loop-rest
+invariant-loop-rest l = (1 ≤ l.start) × (l.start ≤ 20) × (length l.bytes ≡ 20) × (l.rest < 10 ^ l.start) × (digits_before 20 l.n [] ≡ digits_before l.start l.rest (drop l.start l.bytes))
+
+abbrev pub decreases-loop-rest : goal.decreases-loop-rest
+decreases-loop-rest l = l.start
