@@ -1,6 +1,7 @@
 // Dirty pages as PAGE records into the stream, marked pages from the staged pages into memory, and a guest's write.
 // Both loops go from marked page to marked page.
 #![tactic(auto)]
+
 ghost use Rattle.std.specs.Prelude.{◌≡◌, ◌+◌, ◌*◌, ◌^◌, ◌<◌, ◌≤◌, length};
 ghost use Rattle.lists.specs.Part.{put, PutDone};
 ghost use Rattle.lists.specs.Page.{page, with_page};

@@ -1,5 +1,6 @@
 // The settings of a pair, what each end keeps of them, and whether they are in their ranges.
 #![tactic(auto)]
+
 ghost use Rattle.std.specs.Prelude.{◌≡◌, ◌&&◌, ◌+◌, ◌≤◌};
 ghost use Rattle.records.specs.Kind.{unit_ok, counts_end};
 ghost use Rattle.settings.specs.Range.{memory_pages_ok, disk_blocks_ok, allowance_ok, block_slots_ok, held_bytes_ok, stream_ok, patience_ok, settings_ok, primary_settings_ok, standby_settings_ok};

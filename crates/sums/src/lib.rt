@@ -1,5 +1,6 @@
 // The sum of an image: whole, page by page in an order, and of one page (document 02, Job 11).
 #![tactic(auto)]
+
 ghost use Rattle.std.specs.Prelude.{◌≡◌, true, ◌+◌, ◌*◌, ◌≤◌, ◌<◌, length};
 ghost use Rattle.sums.specs.Sum.{weighted, page_sum, sum_over, rising, names_each};
 

@@ -1,0 +1,5 @@
+use borrow.Author.Rules.{rules}
+use Rattle.settings.proofs.shared_ok.Goals as goal
+
+pub returns : goal.returns
+returns c = cc
