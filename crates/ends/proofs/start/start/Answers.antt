@@ -22,7 +22,14 @@ pub returns-then-number-ne0 : goal.returns-then-number-ne0
 unfolding start_copy start_marks start_area
 returns-then-number-ne0 c =
     let k = c.opened-made.ensures in
-    rw (ne_eqb _ _ (λ z. c.if-number-ne0.true (sym (number_is _ _ _ _ k) ∙ z))) (k, (refl, (refl, (refl, (refl, refl)))))
+    rw (ne_eqb _ _ (λ z. c.if-number-ne0.true (sym (number_is _ _ _ _ k) ∙ z))) (record {
+      value = k;
+      dirty_after = refl;
+      standby_memory_after = refl;
+      standby_disk_after = refl;
+      staged_marks_after = refl;
+      area_after = refl;
+    })
 
 pub copy_front-requires : goal.copy_front-requires
 copy_front-requires c = let f = (start-accepted _ _ (number_is _ _ _ _ c.opened-made.ensures ∙ c.if-number-ne0.false)).lent in omega (arith, f.memory-is, f.standby-memory-is)
@@ -41,4 +48,11 @@ returns c =
     let f = (start-accepted _ _ e).lent in
     let memory = c.copy_front.ensures ∙ put_whole _ _ (f.memory-is ∙ sym f.standby-memory-is) in
     let disk = c.copy_front-2.ensures ∙ put_whole _ _ (f.disk-is ∙ sym f.standby-disk-is) in
-    rw (eq-eqb _ _ e) (k, (c.clear.ensures, (memory, (disk, (c.clear-2.ensures, c.zero_area.ensures)))))
+    rw (eq-eqb _ _ e) (record {
+      value = k;
+      dirty_after = c.clear.ensures;
+      standby_memory_after = memory;
+      standby_disk_after = disk;
+      staged_marks_after = c.clear-2.ensures;
+      area_after = c.zero_area.ensures;
+    })
