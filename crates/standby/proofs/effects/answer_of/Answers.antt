@@ -1,7 +1,6 @@
 use mathlib.Core.Path.{sym}
 use Rattle.records.proofs.ReadLaws.{found-arm}
 use Rattle.rules.proofs.ReplyLaws.{answer-found}
-use borrow.Author.Rules.{rules}
 use borrow.Enum.Refused.{opened}
 use Rattle.standby.proofs.effects.answer_of.Goals as goal
 

@@ -1,7 +1,6 @@
-use mathlib.Core.Path.{refl, ◌∙◌}
+use mathlib.Core.Path.{◌∙◌}
 use Rattle.staging.specs.Slot.{with_block_bytes}
 use Rattle.standby.proofs.ArmLaws.{buffers-arm}
-use borrow.Author.Rules.{rules}
 use borrow.Enum.Refused.{opened}
 use Rattle.standby.proofs.effects.apply.Goals as goal
 
@@ -22,13 +21,13 @@ install-requires c = rw c.in-Commit.is at c.requires.0
 pub returns-in-Page : goal.returns-in-Page
 returns-in-Page c =
     let w = c.stage_page.ensures in
-    rw c.inlet told = -Page.is (refl, (w.pages_after, (w.marks_after, (refl, refl)))) in
+    let e = c.in-Page.is in
     record {
-      memory_after = told.0;
-      pages_after = told.1.0;
-      marks_after = told.1.1.0;
-      blocks_after = told.1.1.1.0;
-      reply_after = told.1.1.1.1;
+      memory_after = rw e;
+      pages_after = rw e w.pages_after;
+      marks_after = rw e w.marks_after;
+      blocks_after = rw e;
+      reply_after = rw e;
     }
 
 pub returns-in-Block : goal.returns-in-Block
@@ -36,13 +35,25 @@ unfolding with_block_bytes
 returns-in-Block c =
     let e = c.in-Block.is in
     let k = rw e at c.requires.1 in
-    rw e (refl, (refl, (rw e, (c.stage_block.ensures ∙ rw k, refl))))
+    record {
+      memory_after = rw e;
+      pages_after = rw e;
+      marks_after = rw e;
+      blocks_after = rw e (c.stage_block.ensures ∙ rw k);
+      reply_after = rw e;
+    }
 
 pub returns-in-Commit : goal.returns-in-Commit
 returns-in-Commit c =
     let w = c.install.ensures in
     let e = c.in-Commit.is in
-    rw e (w.memory_after, (refl, (rw e w.marks_after, (refl, w.reply_after))))
+    record {
+      memory_after = rw e w.memory_after;
+      pages_after = rw e;
+      marks_after = rw e w.marks_after;
+      blocks_after = rw e;
+      reply_after = rw e w.reply_after;
+    }
 
 -- the arm behind those for PAGE, BLOCK and COMMIT
 pub returns-in_default : goal.returns-in_default

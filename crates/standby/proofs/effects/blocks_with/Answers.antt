@@ -1,5 +1,4 @@
 -- `standby::effects::blocks_with` meets its contract. Assumes nothing.
-use borrow.Author.Rules.{rules}
 use Rattle.standby.proofs.effects.blocks_with.Goals as goal
 
 pub returns : goal.returns

@@ -1,7 +1,6 @@
 use mathlib.Core.Path.{refl}
 use Rattle.records.proofs.FrameLaws.{length-epoch}
 use Rattle.records.proofs.WriteLaws.{room_of, written-bytes}
-use borrow.Author.Rules.{rules}
 use Rattle.standby.proofs.effects.install.Goals as goal
 
 pub returns : goal.returns

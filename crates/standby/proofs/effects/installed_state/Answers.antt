@@ -1,5 +1,4 @@
 use mathlib.Core.Path.{◌∙◌}
-use borrow.Author.Rules.{rules}
 use Rattle.standby.proofs.effects.installed_state.Goals as goal
 
 pub returns : goal.returns

@@ -2,7 +2,6 @@ use mathlib.Core.Path.{◌∙◌}
 use native.Mathlib.Omega.{arith}
 use Rattle.lists.proofs.PartLaws.{put_whole}
 use Rattle.standby.proofs.FitsLaws.{field-length}
-use borrow.Author.Rules.{rules}
 use Rattle.standby.proofs.effects.processor.Goals as goal
 
 pub copy_front-requires : goal.copy_front-requires

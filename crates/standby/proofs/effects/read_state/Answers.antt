@@ -5,8 +5,6 @@ use Rattle.staging.specs.Fits.{StageFits}
 use Rattle.rules.specs.declared.Standby.{Standby}
 use Rattle.rules.specs.StandbyState.{with_detector}
 use Rattle.standby.proofs.ArmLaws.{state-arm}
-use borrow.Author.Rules.{rules}
-use borrow.Enum.Refused.{opened}
 use Rattle.standby.proofs.effects.read_state.Goals as goal
 
 pub with_page-requires : goal.with_page-requires
@@ -52,4 +50,4 @@ returns-in-Commit c =
 pub returns-in_default : goal.returns-in_default
 returns-in_default c =
     let a = c.args in
-    sym (state-arm a.s a.bytes.now a.r (opened c.in_default.in_default-own.keys5))
+    sym (state-arm a.s a.bytes.now a.r c.in_default.in_default-own.keys5)

@@ -1,7 +1,6 @@
 -- `standby::effects::slot_of` meets its contract. Assumes nothing.
 use mathlib.Core.Path.{sym}
 use Rattle.standby.proofs.ArmLaws.{slot-arm}
-use borrow.Author.Rules.{rules}
 use borrow.Enum.Refused.{opened}
 use Rattle.standby.proofs.effects.slot_of.Goals as goal
 

@@ -1,6 +1,5 @@
 use mathlib.Core.Path.{◌∙◌}
 use Rattle.standby.proofs.FitsLaws.{field-length}
-use borrow.Author.Rules.{rules}
 use Rattle.standby.proofs.effects.stage_block.Goals as goal
 
 pub stage_block-requires : goal.stage_block-requires

@@ -1,7 +1,6 @@
 use mathlib.Core.Path.{◌∙◌}
 use Rattle.lists.specs.Page.{with_page}
 use Rattle.standby.proofs.FitsLaws.{field-length}
-use borrow.Author.Rules.{rules}
 use Rattle.standby.proofs.effects.stage_page.Goals as goal
 
 pub copy_into-requires : goal.copy_into-requires

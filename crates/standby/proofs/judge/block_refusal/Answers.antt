@@ -10,7 +10,6 @@ use Rattle.staging.specs.Slot.{is_staged}
 use Rattle.rules.specs.Judge.{free_for, block_refusal}
 use Rattle.rules.proofs.StandbyFacts.{standby-facts}
 use Rattle.rules.proofs.JudgeLaws.{block-accepts}
-use borrow.Author.Rules.{rules}
 use Rattle.standby.proofs.judge.block_refusal.Goals as goal
 use Rattle.standby.proofs.judge.block_refusal.Goals.{Else-records-ge-MOST_RECORDS}
 

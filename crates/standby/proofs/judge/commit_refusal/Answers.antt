@@ -1,7 +1,6 @@
-use borrow.Author.Tests.{not-true, not-false, ne_eqb, eq-eqb, le-leb, lt-leb}
+use borrow.Author.Tests.{ne_eqb, eq-eqb, le-leb, lt-leb}
 use Rattle.rules.specs.Judge.{commit_refusal}
 use Rattle.records.specs.Kind.{body_length, record_length}
-use borrow.Author.Rules.{rules}
 use Rattle.standby.proofs.judge.commit_refusal.Goals as goal
 
 pub returns-then-reply-lt-EPOCH_RECORD : goal.returns-then-reply-lt-EPOCH_RECORD

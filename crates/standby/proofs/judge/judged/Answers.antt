@@ -1,12 +1,10 @@
 use mathlib.Core.Path.{◌≡◌, sym, ◌∙◌}
 use mathlib.Core.Bool.{true}
-use borrow.Author.Tests.{not-true, not-false}
 use Rattle.records.specs.Read.{read_record}
 use Rattle.rules.specs.StandbyState.{is_receiving, standby_ok}
 use Rattle.rules.specs.Judge.{read_lent_ok, reader_of}
 use Rattle.rules.proofs.ReplyLaws.{unless-refused, unless-accepted}
 use Rattle.rules.proofs.JudgeLaws.{judged-range, judged-lent, judged-mode, judged-number}
-use borrow.Author.Rules.{rules}
 use Rattle.standby.proofs.judge.judged.Goals as goal
 use Rattle.standby.proofs.judge.judged.Goals.{After-read-r, Else-not-is_receiving, Else-not-lent_ok, Else-not-standby_ok}
 

@@ -1,6 +1,5 @@
 use borrow.Author.Tests.{ne_eqb, eq-eqb, lt-ltb, le-ltb, le-leb, lt-leb}
 use Rattle.rules.specs.Judge.{page_refusal}
-use borrow.Author.Rules.{rules}
 use Rattle.standby.proofs.judge.page_refusal.Goals as goal
 
 pub returns-then-m-page : goal.returns-then-m-page

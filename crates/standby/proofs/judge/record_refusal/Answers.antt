@@ -1,7 +1,5 @@
 use mathlib.Core.Path.{sym, ◌∙◌}
 use Rattle.standby.proofs.ArmLaws.{refusal-arm}
-use borrow.Author.Rules.{rules}
-use borrow.Enum.Refused.{opened}
 use Rattle.standby.proofs.judge.record_refusal.Goals as goal
 
 pub returns-in-Page : goal.returns-in-Page
@@ -20,4 +18,4 @@ returns-in-Commit c = rw c.in-Commit.is c.commit_refusal.ensures
 pub returns-in_default : goal.returns-in_default
 returns-in_default c =
     let a = c.args in
-    c.other_refusal.ensures ∙ sym (refusal-arm a.s a.reply a.r (opened c.in_default.in_default-own.keys5))
+    c.other_refusal.ensures ∙ sym (refusal-arm a.s a.reply a.r c.in_default.in_default-own.keys5)

@@ -1,6 +1,5 @@
 use borrow.Author.Tests.{ne_eqb, eq-eqb}
 use Rattle.rules.specs.Judge.{state_refusal}
-use borrow.Author.Rules.{rules}
 use Rattle.standby.proofs.judge.state_refusal.Goals as goal
 
 pub returns-then-epoch-received : goal.returns-then-epoch-received

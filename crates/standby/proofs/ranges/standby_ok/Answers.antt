@@ -1,7 +1,5 @@
 -- `standby::ranges::standby_ok` meets its contract. Assumes nothing.
 use mathlib.Core.Path.{sym, ◌∙◌}
-use borrow.Author.Rules.{rules}
-use borrow.Author.Tests.{not-true, not-false}
 use Rattle.rules.specs.StandbyState.{standby_ok}
 use Rattle.standby.proofs.ranges.standby_ok.Goals as goal
 

@@ -1,5 +1,4 @@
 -- `standby::sum::sum` meets its contract. Assumes nothing.
-use borrow.Author.Rules.{rules}
 use mathlib.Core.Path.{sym, ◌∙◌}
 use Rattle.rules.specs.Sums.{standby_sum_reply}
 use Rattle.rules.proofs.ReplyLaws.{standby-accepts, standby-refuses}

@@ -1,8 +1,7 @@
 -- `standby::takeover::activation_refusal` meets its contract. Assumes nothing.
-use borrow.Author.Rules.{rules}
 use mathlib.Core.Path.{◌≡◌, sym, ◌∙◌}
 use mathlib.Core.Bool.{true}
-use borrow.Author.Tests.{not-true, not-false, ne_eqb, eq-eqb}
+use borrow.Author.Tests.{ne_eqb, eq-eqb}
 use Rattle.rules.specs.StandbyState.{standby_ok, is_taking_over}
 use Rattle.rules.specs.Takeover.{activation_refusal}
 use Rattle.standby.proofs.takeover.activation_refusal.Goals as goal

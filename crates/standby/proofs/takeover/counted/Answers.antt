@@ -1,7 +1,5 @@
 -- `standby::takeover::counted` meets its contract. Assumes nothing.
-use borrow.Author.Rules.{rules}
 use mathlib.Core.Path.{sym, ◌∙◌}
-use borrow.Author.Tests.{not-true, not-false}
 use Rattle.standby.proofs.takeover.counted.Goals as goal
 
 pub returns-then-not-expired : goal.returns-then-not-expired

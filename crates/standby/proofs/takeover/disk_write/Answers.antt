@@ -1,5 +1,4 @@
 -- `standby::takeover::disk_write` meets its contract. Assumes nothing.
-use borrow.Author.Rules.{rules}
 use native.Mathlib.Omega.{arith}
 use native.Mathlib.Nat.{add-zero}
 use lib.ListN.{length}
@@ -13,8 +12,11 @@ use Rattle.standby.proofs.takeover.disk_write.Goals as goal
 pub write-requires : goal.write-requires
 write-requires c =
     let a = c.args in
-    (λ e. omega (arith, (standby-facts _ e).settings.shared.d-high), λ e. omega (arith, eqb-true (length a.bytes.now) a.s.settings.u e))
+    record {
+      units_bound = λ e. omega (arith, (standby-facts _ e).settings.shared.d-high);
+      bytes_bound = λ e. omega (arith, eqb-true (length a.bytes.now) a.s.settings.u e);
+    }
 
 pub returns : goal.returns
 unfolding active_disk_write_refusal active_disk_write_reply active_disk_write_disk written with_page
-returns c = rw add-zero at (c.write.ensures.value, (c.write.ensures.image_after, (c.write.ensures.value, c.write.ensures.image_after)))
+returns c = record { value = c.write.ensures.value; disk_after = rw add-zero at c.write.ensures.image_after }

@@ -1,5 +1,4 @@
 -- `standby::takeover::drop_marks` meets its contract. Assumes nothing.
-use borrow.Author.Rules.{rules}
 use mathlib.Core.Path.{sym, ◌∙◌}
 use Rattle.lists.proofs.TestLaws.{cond-true}
 use Rattle.standby.proofs.takeover.drop_marks.Goals as goal

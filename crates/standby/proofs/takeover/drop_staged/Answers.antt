@@ -1,5 +1,4 @@
 -- `standby::takeover::drop_staged` meets its contract. Assumes nothing.
-use borrow.Author.Rules.{rules}
 use Rattle.standby.proofs.takeover.drop_staged.Goals as goal
 
 pub returns : goal.returns

@@ -1,5 +1,4 @@
 -- `standby::takeover::memory_write` meets its contract. Assumes nothing.
-use borrow.Author.Rules.{rules}
 use mathlib.Core.Path.{sym, ◌∙◌}
 use Prim.Native.Nat.{◌+◌}
 use lib.Dec.{leb}
@@ -15,8 +14,14 @@ write-requires c =
     let a = c.args in
     let n = length a.bytes.now in
     let u = a.s.settings.u in
-    (λ e. (standby-facts _ e).settings.shared.m-high, λ e. leb-true (a.offset + n) u (both (leb 1 n) (leb (a.offset + n) u) (sym c.inside_page-sized.ensures ∙ e)).1)
+    record {
+      units_bound = λ e. (standby-facts _ e).settings.shared.m-high;
+      bytes_bound = λ e. leb-true (a.offset + n) u (both (leb 1 n) (leb (a.offset + n) u) (sym c.inside_page-sized.ensures ∙ e)).1;
+    }
 
 pub returns : goal.returns
 unfolding active_memory_write_refusal active_memory_write_reply active_memory_write_memory
-returns c = rw c.inside_page-sized.ensures at (c.write.ensures.value, (c.write.ensures.image_after, (c.write.ensures.value, c.write.ensures.image_after)))
+returns c = record {
+  value = rw c.inside_page-sized.ensures at c.write.ensures.value;
+  memory_after = rw c.inside_page-sized.ensures at c.write.ensures.image_after;
+}

@@ -1,9 +1,8 @@
 -- `standby::takeover::tick_refusal` meets its contract. Assumes nothing.
-use borrow.Author.Rules.{rules}
 use native.Mathlib.Omega.{arith}
 use mathlib.Core.Path.{◌≡◌, sym, ◌∙◌}
 use mathlib.Core.Bool.{true}
-use borrow.Author.Tests.{not-true, not-false, ne_eqb, eq-eqb}
+use borrow.Author.Tests.{ne_eqb, eq-eqb}
 use Rattle.rules.specs.StandbyState.{standby_ok}
 use Rattle.rules.specs.Takeover.{standby_tick_refusal}
 use Rattle.rules.proofs.StandbyFacts.{standby-facts}

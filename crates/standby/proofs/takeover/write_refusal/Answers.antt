@@ -1,9 +1,8 @@
 -- `standby::takeover::write_refusal` meets its contract. Assumes nothing.
-use borrow.Author.Rules.{rules}
 use native.Mathlib.Omega.{arith}
 use mathlib.Core.Path.{◌≡◌, sym, ◌∙◌}
 use mathlib.Core.Bool.{true}
-use borrow.Author.Tests.{not-true, not-false, ne_eqb, eq-eqb, lt-ltb, le-ltb}
+use borrow.Author.Tests.{ne_eqb, eq-eqb, lt-ltb, le-ltb}
 use Rattle.settings.proofs.RangeLaws.{bytes_le}
 use Rattle.rules.specs.StandbyState.{standby_ok, is_active}
 use Rattle.rules.proofs.StandbyFacts.{standby-facts}
