@@ -10,7 +10,6 @@ use lib.ListN.{length, take, replicate}
 use mir.Val.{Val}
 use denote.Laws.{Is}
 use denote.Struct.Declared.{row}
-use borrow.Author.Rules.{length_unmapped}
 use Rattle.lists.specs.Refusal.{pick}
 use Rattle.settings.specs.declared.Settings.{Settings}
 use Rattle.detector.specs.Tick.{expired, ticked}
@@ -42,12 +41,12 @@ lengths s vs g =
     let p = g.1.1.0.1.1.1.1.1.1 in
     let b = g.1.1.1.0.1.1.1.1.1.1 in
     record {
-      held = sym (length_unmapped ℕ s.primary.held _ p.0.1.0.1);
-      stream = sym (length_unmapped ℕ s.primary.stream _ p.1.0.1.0.1);
-      marks = sym (length_unmapped ℕ s.standby.marks _ b.0.1.0.1);
-      blocks = sym (length_unmapped ℕ s.standby.blocks _ b.1.0.1.0.1);
-      area = sym (length_unmapped ℕ s.standby.area _ b.1.1.0.1.0.1);
-      link = sym (length_unmapped ℕ s.link _ g.1.1.1.1.0.1.0.1);
+      held = sym p.0.1.0.1;
+      stream = sym p.1.0.1.0.1;
+      marks = sym b.0.1.0.1;
+      blocks = sym b.1.0.1.0.1;
+      area = sym b.1.1.0.1.0.1;
+      link = sym g.1.1.1.1.0.1.0.1;
     }
 
 -- the last received epoch is of 4 bytes

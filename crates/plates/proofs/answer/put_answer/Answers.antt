@@ -49,5 +49,5 @@ returns c =
     let h = plate-headed _ _ c.if-n-eq0.false c.if-n-gt-MOST_LINE.false c.if-line-n-eq13.false c.part_end-end.ensures in
     rw h (record {
       put_done = c.put_headed.ensures.put_done;
-      upper_bound = (c.put_headed.ensures.upper_bound, (c.put_headed.ensures.put_done, c.put_headed.ensures.upper_bound));
+      upper_bound = c.put_headed.ensures.upper_bound;
     })

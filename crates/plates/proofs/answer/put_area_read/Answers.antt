@@ -15,10 +15,10 @@ pub returns-then-read : goal.returns-then-read
 returns-then-read c =
     rw c.if-read.true (record {
       put_done = c.put_bad.ensures.put_done;
-      upper_bound = (c.put_bad.ensures.upper_bound, (c.put_bad.ensures.put_done, c.put_bad.ensures.upper_bound));
+      upper_bound = c.put_bad.ensures.upper_bound;
     })
 
 pub returns : goal.returns
 returns c =
     let p = c.part_of.ensures ∙ part-zero _ _ in
-    rw c.if-read.false (rw p at (c.put_area_output.ensures.put_done, (c.put_area_output.ensures.upper_bound, (c.put_area_output.ensures.put_done, c.put_area_output.ensures.upper_bound))))
+    rw c.if-read.false (rw p at (c.put_area_output.ensures.put_done, c.put_area_output.ensures.upper_bound))

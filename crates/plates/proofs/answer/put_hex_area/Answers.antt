@@ -7,5 +7,5 @@ returns c =
     let r = c.read_hex-read.ensures in
     rw r.result_value at (record {
       put_done = c.put_area_read.ensures.put_done;
-      upper_bound = (c.put_area_read.ensures.upper_bound, (c.put_area_read.ensures.put_done, c.put_area_read.ensures.upper_bound));
+      upper_bound = c.put_area_read.ensures.upper_bound;
     })

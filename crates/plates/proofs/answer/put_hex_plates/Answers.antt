@@ -13,5 +13,5 @@ returns c =
     let r = c.read_hex-read.ensures in
     rw r.result_value at (record {
       put_done = c.put_plates_read.ensures.put_done;
-      upper_bound = (c.put_plates_read.ensures.upper_bound, (c.put_plates_read.ensures.put_done, c.put_plates_read.ensures.upper_bound));
+      upper_bound = c.put_plates_read.ensures.upper_bound;
     })

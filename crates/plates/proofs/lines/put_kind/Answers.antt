@@ -9,5 +9,5 @@ returns c =
     let name = c.put_name-a.ensures in
     let kind = c.put_number-c.ensures in
     let head = put_then (put-within name.put_done name.upper_bound) (put-text c.put_text-b.ensures) in
-    let p = put-end (put_then (put_then head (put-within kind.put_done kind.lower_bound.1)) (put-text c.put_text-b.ensures)) c.requires in
+    let p = put-end (put_then (put_then head (put-within kind.put_done kind.lower_bound.1)) (put-text c.put_text.ensures)) c.requires in
     rw c.kind_of-kind.ensures at p

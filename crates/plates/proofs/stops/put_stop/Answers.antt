@@ -11,7 +11,7 @@ pub returns-then-bytes-eq0 : goal.returns-then-bytes-eq0
 returns-then-bytes-eq0 c =
     rw (stop-end 0 _ _ _ c.if-bytes-eq0.true) (record {
       put_done = c.put_end.ensures.put_done;
-      upper_bound = (c.put_end.ensures.upper_bound, (c.put_end.ensures.put_done, c.put_end.ensures.upper_bound));
+      upper_bound = c.put_end.ensures.upper_bound;
     })
 
 pub put_refused-requires : goal.put_refused-requires
@@ -24,7 +24,7 @@ returns-in-Short c =
     rw (stop-short 0 _ _ _ c.if-bytes-eq0.false _ (sym c.read-r.ensures ∙ c.in-Short.is))
     (record {
       put_done = c.put_short.ensures.put_done;
-      upper_bound = (c.put_short.ensures.upper_bound, (c.put_short.ensures.put_done, c.put_short.ensures.upper_bound));
+      upper_bound = c.put_short.ensures.upper_bound;
     })
 
 pub returns-in-Refused : goal.returns-in-Refused
@@ -32,7 +32,7 @@ returns-in-Refused c =
     rw (stop-refused 0 _ _ _ c.if-bytes-eq0.false _ (sym c.read-r.ensures ∙ c.in-Refused.is))
     (record {
       put_done = c.put_refused.ensures.put_done;
-      upper_bound = (c.put_refused.ensures.upper_bound, (c.put_refused.ensures.put_done, c.put_refused.ensures.upper_bound));
+      upper_bound = c.put_refused.ensures.upper_bound;
     })
 
 pub returns-in_default : goal.returns-in_default

@@ -12,5 +12,5 @@ pub returns : goal.returns
 returns c =
     rw (lent-rest c.args.place c.args.bytes.now) at (record {
       put_done = c.put_stop.ensures.put_done;
-      upper_bound = (c.put_stop.ensures.upper_bound, (c.put_stop.ensures.put_done, c.put_stop.ensures.upper_bound));
+      upper_bound = c.put_stop.ensures.upper_bound;
     })
