@@ -1,5 +1,4 @@
 -- `primary::checkpoint::append_pages` meets its contract. Assumes nothing.
-use borrow.Author.Rules.{rules}
 use native.Mathlib.Omega.{arith}
 use Rattle.primary.proofs.AppendLaws.{pages-done}
 use Rattle.primary.proofs.checkpoint.append_pages.Goals as goal

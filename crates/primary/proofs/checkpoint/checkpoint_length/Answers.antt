@@ -5,7 +5,6 @@ use Rattle.records.proofs.KindLaws.{width-range}
 use Rattle.rules.specs.Checkpoint.{checkpoint_length}
 use Rattle.rules.proofs.CheckpointLaws.{checkpoint-length}
 use Rattle.primary.proofs.AppendLaws.{checkpoint-length-le}
-use borrow.Author.Rules.{rules}
 use Rattle.primary.proofs.checkpoint.checkpoint_length.Goals as goal
 use Rattle.primary.proofs.checkpoint.checkpoint_length.Goals.{After-checkpoint_end, After-number_end}
 

@@ -4,14 +4,13 @@ use mathlib.Core.Bool.{true, ◌&&◌}
 use Prim.Native.Nat.{◌+◌, ◌<◌, ◌≤◌}
 use native.Mathlib.Omega.{arith}
 use lib.Dec.{eqb}
-use borrow.Author.Tests.{not-true, not-false, lt-ltb, le-ltb, le-leb, lt-leb, eq-eqb, ne_eqb}
+use borrow.Author.Tests.{lt-ltb, le-ltb, le-leb, lt-leb, eq-eqb, ne_eqb}
 use Rattle.lists.proofs.TestLaws.{both}
 use Rattle.records.specs.Kind.{is_wide}
 use Rattle.rules.specs.PrimaryState.{primary_ok, memory_length, marks_length}
 use Rattle.rules.specs.Checkpoint.{checkpoint_length, checkpoint_refusal}
 use Rattle.rules.proofs.PrimaryFacts.{PrimaryFacts, primary-facts}
 use Rattle.primary.proofs.AppendLaws.{checkpoint-length-le}
-use borrow.Author.Rules.{rules}
 use Rattle.primary.proofs.checkpoint.checkpoint_refusal.Goals as goal
 use Rattle.primary.proofs.checkpoint.checkpoint_refusal.Goals.{After-checkpoint_length, Else-alone, Else-not-memory_ok}
 

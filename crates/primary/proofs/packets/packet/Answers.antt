@@ -1,27 +1,23 @@
 use borrow.Author.Rules.{rules}
 use mathlib.Core.Path.{◌≡◌, sym, ◌∙◌}
-use mathlib.Core.Logic.{⊎_elim}
-use mathlib.Core.List.{map}
 use native.Mathlib.Omega.{arith}
-use Prim.Native.Nat.{◌-◌}
-use lib.ListN.{length, length-map}
+use lib.ListN.{length}
 use Rattle.lists.proofs.TestLaws.{pick-accepted, pick-refused}
 use Rattle.settings.specs.Range.{most_packets}
 use Rattle.queue.specs.Held.{added, added_bytes}
-use Rattle.queue.specs.contracts.Packet.{the_type}
-use Rattle.queue.proofs.SeenLaws.{Looked, looked-none, looked-next, looked-all}
+use Rattle.queue.proofs.SeenLaws.{looked-none, looked-next, looked-all}
 use Rattle.rules.specs.Packets.{packet_reply, packet_held}
 use Rattle.rules.proofs.ReplyLaws.{primary-accepts, primary-refuses}
 use Rattle.rules.proofs.PrimaryFacts.{primary-facts}
 use Rattle.rules.proofs.PacketLaws.{PacketFacts, packet-accepted}
 use Rattle.primary.proofs.packets.packet.Goals as goal
-use Rattle.primary.proofs.packets.packet.Goals.{Start, Then-number-eq0}
+use Rattle.primary.proofs.packets.packet.Goals.{Start, Then-number-eq0, then-number-eq0, else-number-eq0}
 
 -- the array's length, which the type gives
 array : (c : Start) → length c.args.p.queue.packets ≡ most_packets
 array c =
-    let m : length (map the_type.to c.args.p.queue.packets) ≡ most_packets = search rules in
-    sym (length-map c.args.p.queue.packets the_type.to) ∙ m
+    let h : length c.args.p.queue.packets ≡ 64 = search rules in
+    h
 
 pub loop-i-init : goal.loop-i-init
 loop-i-init c = looked-none _ _ _ c.none_seen-seen.ensures
@@ -90,22 +86,21 @@ overflow_add-total c =
     let q = (primary-facts _ f.ok).settings.stream.q-high in
     omega arith
 
-pub shape_of-held : goal.shape_of-held
-shape_of-held c = ⊎_elim (λ w. rw w.5 (search rules)) (λ w. rw w.1 (search rules)) c.if-number-eq0.branch
-
 pub returns : goal.returns
 unfolding packet_reply packet_held added added_bytes
 returns c =
     let e = c.packet_refusal-number.ensures in
-    ⊎_elim
-    (λ w.
-    let z = w.0.taken in
-    (rw (c.with_queue-state.ensures, w.6, w.7, w.8, w.9, z) (primary-accepts _ _ _ _ _ e z), rw w.5 (w.2.ensures ∙ sym (pick-accepted _ _ _ (sym e ∙ z)))))
-    (λ w.
-    let z = w.0.left in
-    let told = (rw (c.with_queue-state.ensures, w.2, w.3, w.4, w.5) (primary-refuses _ _ _ _ _ e z), rw w.1 (sym (pick-refused _ _ _ (λ x. z (e ∙ x))))))
-    c.if-number-eq0.branch in
-    record {
-      value = told.0;
-      held_after = told.1;
-    }
+    elim c.if-number-eq0.branch [
+      | then-number-eq0 w ↦
+          let z = w.if-number-eq0.true in
+          record {
+            value = rw (c.with_queue-state.ensures, w.packets-is, w.count-is, w.total-is, w.value-is, z) (primary-accepts _ _ _ _ _ e z);
+            held_after = rw w.held-is (w.copy_into.ensures ∙ sym (pick-accepted _ _ _ (sym e ∙ z)));
+          }
+      | else-number-eq0 w ↦
+          let z = w.if-number-eq0.false in
+          record {
+            value = rw (c.with_queue-state.ensures, w.packets-is, w.count-is, w.total-is, w.value-is) (primary-refuses _ _ _ _ _ e z);
+            held_after = rw w.held-is (sym (pick-refused _ _ _ (λ x. z (e ∙ x))));
+          }
+    ]

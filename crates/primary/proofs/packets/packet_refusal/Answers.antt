@@ -1,8 +1,7 @@
 -- `primary::packets::packet_refusal` meets its contract. Assumes nothing.
-use borrow.Author.Rules.{rules}
 use mathlib.Core.Path.{◌≡◌, sym, ◌∙◌}
 use mathlib.Core.Bool.{true}
-use borrow.Author.Tests.{not-true, not-false, ne_eqb, eq-eqb, le-leb, lt-leb}
+use borrow.Author.Tests.{ne_eqb, eq-eqb, le-leb, lt-leb}
 use Rattle.rules.specs.PrimaryState.{primary_ok}
 use Rattle.rules.specs.Packets.{packet_refusal}
 use Rattle.primary.proofs.RangeLaws.{numbers-bad, held-bad, both_ok}

@@ -1,16 +1,14 @@
 -- `primary::packets::take_refusal` meets its contract. Assumes nothing.
-use borrow.Author.Rules.{rules}
 use mathlib.Core.Path.{◌≡◌, sym, ◌∙◌}
 use mathlib.Core.Bool.{true, ◌||◌}
-use mathlib.Core.Logic.{⊎_elim}
 use lib.Dec.{leb}
-use borrow.Author.Tests.{not-true, not-false, ne_eqb, eq-eqb, le-leb, lt-leb}
+use borrow.Author.Tests.{ne_eqb, eq-eqb, le-leb, lt-leb}
 use Rattle.queue.specs.Held.{queue_ok, has_packet, oldest}
 use Rattle.rules.specs.PrimaryState.{primary_ok}
 use Rattle.rules.specs.Packets.{take_refusal}
 use Rattle.primary.proofs.RangeLaws.{numbers-bad, held-bad, both_ok}
 use Rattle.primary.proofs.packets.take_refusal.Goals as goal
-use Rattle.primary.proofs.packets.take_refusal.Goals.{Else-not-found, Else-not-seen_ok, Joined-not-alone}
+use Rattle.primary.proofs.packets.take_refusal.Goals.{Else-not-found, Else-not-seen_ok, Joined-not-alone, then-not-alone+else-acknowledged-first, else-not-alone}
 
 -- the queue is in range past the second test, and with it the state
 queue : (c : Else-not-seen_ok) → let p = c.args.p in queue_ok p.queue p.epoch p.settings.q ≡ true
@@ -33,11 +31,11 @@ has c =
 -- past the test of its epoch it may leave
 free : (c : Joined-not-alone) → let a = c.args in (a.p.alone || leb (oldest a.p.queue a.port).epoch a.p.acknowledged) ≡ true
 free c =
-    let p = c.args.p in
-    ⊎_elim
-    (λ w. simp (not-true p.alone w.0.taken, le-leb _ _ (rw (has c.before).1 at w.1.left)))
-    (λ w. simp (not-false p.alone w.left))
-    c.if-not-alone.branch
+    elim c.if-not-alone.branch [
+      | then-not-alone+else-acknowledged-first w ↦
+          simp (w.if-not-alone.true, le-leb _ _ (rw (has c.before).1 at w.if-acknowledged-first.false))
+      | else-not-alone w ↦ simp w.if-not-alone.false
+    ]
 
 pub returns-then-not-numbers_ok : goal.returns-then-not-numbers_ok
 unfolding take_refusal

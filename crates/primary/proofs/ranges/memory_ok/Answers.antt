@@ -1,9 +1,8 @@
 -- `primary::ranges::memory_ok` meets its contract. Assumes nothing.
-use borrow.Author.Rules.{rules}
 use mathlib.Core.Path.{◌≡◌, sym, ◌∙◌}
 use mathlib.Core.Bool.{true}
 use native.Mathlib.Omega.{arith}
-use borrow.Author.Tests.{not-true, not-false, eq-eqb, ne_eqb}
+use borrow.Author.Tests.{eq-eqb, ne_eqb}
 use Rattle.settings.proofs.RangeLaws.{memory-bytes}
 use Rattle.rules.specs.PrimaryState.{primary_ok}
 use Rattle.rules.proofs.PrimaryFacts.{primary-facts}

@@ -1,8 +1,7 @@
 -- `primary::ranges::numbers_ok` meets its contract. Assumes nothing.
-use borrow.Author.Rules.{rules}
 use mathlib.Core.Path.{◌≡◌, sym, ◌∙◌}
 use mathlib.Core.Bool.{true}
-use borrow.Author.Tests.{not-true, not-false, lt-ltb, le-ltb, le-leb, lt-leb}
+use borrow.Author.Tests.{lt-ltb, le-ltb, le-leb, lt-leb}
 use Rattle.settings.specs.Range.{primary_settings_ok}
 use Rattle.primary.proofs.ranges.numbers_ok.Goals as goal
 use Rattle.primary.proofs.ranges.numbers_ok.Goals.{Else-not-primary_settings_ok}

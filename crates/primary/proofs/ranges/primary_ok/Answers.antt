@@ -1,7 +1,5 @@
 -- `primary::ranges::primary_ok` meets its contract. Assumes nothing.
-use borrow.Author.Rules.{rules}
 use mathlib.Core.Path.{sym, ◌∙◌}
-use borrow.Author.Tests.{not-true, not-false}
 use Rattle.primary.proofs.RangeLaws.{numbers-bad, held-bad, both_ok}
 use Rattle.primary.proofs.ranges.primary_ok.Goals as goal
 

@@ -1,8 +1,6 @@
 -- `primary::stream::ack_judged` meets its contract. Assumes nothing.
-use borrow.Author.Rules.{rules}
 use mathlib.Core.Path.{◌≡◌, sym, ◌∙◌}
 use mathlib.Core.Bool.{true, false}
-use borrow.Author.Tests.{not-true, not-false}
 use Rattle.rules.specs.PrimaryState.{primary_ok, protected}
 use Rattle.rules.proofs.ReplyLaws.{unless-accepted, unless-refused}
 use Rattle.rules.proofs.StreamLaws.{ack-range, ack-mode, ack-number}

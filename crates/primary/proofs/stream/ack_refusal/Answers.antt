@@ -4,7 +4,6 @@ use Rattle.lists.specs.Refusal.{refusal}
 use Rattle.records.specs.Read.{other_refusal}
 use Rattle.records.proofs.ReadLaws.{ack-arm}
 use Rattle.rules.specs.Stream.{ack_tests}
-use borrow.Author.Rules.{rules}
 use borrow.Enum.Refused.{opened}
 use Rattle.primary.proofs.stream.ack_refusal.Goals as goal
 

@@ -3,7 +3,6 @@ use mathlib.Core.Path.{sym}
 use Rattle.records.proofs.ReadLaws.{ack-arm}
 use Rattle.detector.specs.Tick.{reset}
 use Rattle.rules.specs.PrimaryState.{with_acknowledged_detector}
-use borrow.Author.Rules.{rules}
 use borrow.Enum.Refused.{opened}
 use Rattle.primary.proofs.stream.ack_state.Goals as goal
 

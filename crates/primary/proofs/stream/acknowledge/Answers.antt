@@ -1,5 +1,4 @@
 -- `primary::stream::acknowledge` meets its contract. Assumes nothing.
-use borrow.Author.Rules.{rules}
 use mathlib.Core.Path.{ap}
 use Rattle.records.specs.declared.Record.{Record}
 use Rattle.rules.specs.Reply.{answer_of}

@@ -2,7 +2,6 @@
 use mathlib.Core.Path.{sym}
 use Rattle.records.proofs.ReadLaws.{found-arm}
 use Rattle.rules.proofs.ReplyLaws.{answer-found}
-use borrow.Author.Rules.{rules}
 use borrow.Enum.Refused.{opened}
 use Rattle.primary.proofs.stream.answer_of.Goals as goal
 

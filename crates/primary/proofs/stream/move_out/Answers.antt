@@ -1,5 +1,4 @@
 -- `primary::stream::move_out` meets its contract. Assumes nothing.
-use borrow.Author.Rules.{rules}
 use mathlib.Core.Path.{◌∙◌}
 use native.Mathlib.Omega.{arith}
 use Rattle.lists.proofs.PartLaws.{length_part, part-zero}

@@ -1,5 +1,4 @@
 -- `primary::stream::moved` meets its contract. Assumes nothing.
-use borrow.Author.Rules.{rules}
 use mathlib.Core.Path.{sym, ◌∙◌}
 use native.Mathlib.Omega.{arith}
 use Rattle.lists.proofs.TestLaws.{pick-accepted, pick-refused}

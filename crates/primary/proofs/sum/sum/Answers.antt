@@ -1,5 +1,4 @@
 -- `primary::sum::sum` meets its contract. Assumes nothing.
-use borrow.Author.Rules.{rules}
 use mathlib.Core.Path.{sym, ◌∙◌}
 use Rattle.rules.specs.Sums.{primary_sum_reply}
 use Rattle.rules.proofs.ReplyLaws.{primary-accepts, primary-refuses}

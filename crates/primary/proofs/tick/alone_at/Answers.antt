@@ -1,5 +1,4 @@
 -- `primary::tick::alone_at` meets its contract. Assumes nothing.
-use borrow.Author.Rules.{rules}
 use mathlib.Core.Path.{sym, ◌∙◌}
 use Rattle.primary.proofs.tick.alone_at.Goals as goal
 

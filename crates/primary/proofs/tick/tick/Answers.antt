@@ -1,5 +1,4 @@
 -- `primary::tick::tick` meets its contract. Assumes nothing.
-use borrow.Author.Rules.{rules}
 use Rattle.rules.specs.PrimaryTick.{primary_tick_reply}
 use Rattle.rules.proofs.ReplyLaws.{primary-accepts, primary-refuses}
 use Rattle.primary.proofs.tick.tick.Goals as goal

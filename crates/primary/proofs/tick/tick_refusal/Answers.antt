@@ -1,7 +1,5 @@
 -- `primary::tick::tick_refusal` meets its contract. Assumes nothing.
-use borrow.Author.Rules.{rules}
 use mathlib.Core.Path.{sym, ◌∙◌}
-use borrow.Author.Tests.{not-true, not-false}
 use Rattle.rules.specs.PrimaryTick.{primary_tick_refusal}
 use Rattle.primary.proofs.tick.tick_refusal.Goals as goal
 

@@ -1,5 +1,4 @@
 -- `primary::tick::tick_state` meets its contract. Assumes nothing.
-use borrow.Author.Rules.{rules}
 use mathlib.Core.Path.{sym, ◌∙◌}
 use Rattle.rules.proofs.PrimaryTickLaws.{tick-alone, tick-protected}
 use Rattle.primary.proofs.tick.tick_state.Goals as goal

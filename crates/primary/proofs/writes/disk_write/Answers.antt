@@ -1,5 +1,4 @@
 -- `primary::writes::disk_write` meets its contract. Assumes nothing.
-use borrow.Author.Rules.{rules}
 use mathlib.Core.Path.{◌≡◌, sym, ◌∙◌}
 use native.Mathlib.Omega.{arith}
 use lib.ListN.{length}
@@ -45,9 +44,6 @@ disk_write_state-state-requires c =
     let f = facts (goal.at.disk_write_state-state-requires c).Else-number-ne0 in
     let g = primary-facts _ f.ok in
     (f.ok, omega arith, λ a. block-allowed _ _ _ _ (f.allowance a))
-
-pub overflow_cast-result : goal.overflow_cast-result
-overflow_cast-result c = let g = c.well-formed.0 in omega arith
 
 pub returns : goal.returns
 unfolding disk_write_reply disk_write_disk disk_write_stream

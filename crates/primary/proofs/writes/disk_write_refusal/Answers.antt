@@ -1,10 +1,9 @@
 -- `primary::writes::disk_write_refusal` meets its contract: one rewrite for each test. Assumes nothing.
-use borrow.Author.Rules.{rules}
 use mathlib.Core.Path.{◌≡◌, sym, ◌∙◌}
 use mathlib.Core.Bool.{true}
 use Prim.Native.Nat.{◌+◌, ◌<◌, ◌≤◌}
 use native.Mathlib.Omega.{arith}
-use borrow.Author.Tests.{not-true, not-false, lt-ltb, le-ltb, le-leb, lt-leb, eq-eqb, ne_eqb}
+use borrow.Author.Tests.{lt-ltb, le-ltb, le-leb, lt-leb, eq-eqb, ne_eqb}
 use Rattle.records.specs.Kind.{BLOCK, record_length}
 use Rattle.settings.proofs.RangeLaws.{disk-bytes, block-record}
 use Rattle.rules.specs.Blocks.{block_allowed}

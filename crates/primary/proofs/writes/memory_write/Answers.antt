@@ -1,5 +1,4 @@
 -- `primary::writes::memory_write` meets its contract. Assumes nothing.
-use borrow.Author.Rules.{rules}
 use mathlib.Core.Path.{◌≡◌, sym, ◌∙◌}
 use lib.ListN.{length}
 use Rattle.lists.proofs.TestLaws.{pick-accepted, pick-refused}

@@ -1,9 +1,8 @@
 -- `primary::writes::memory_write_refusal` meets its contract: one rewrite for each test. Assumes nothing.
-use borrow.Author.Rules.{rules}
 use mathlib.Core.Path.{◌≡◌, sym, ◌∙◌}
 use mathlib.Core.Bool.{true, ◌&&◌}
 use lib.Dec.{eqb}
-use borrow.Author.Tests.{not-true, not-false, lt-ltb, le-ltb}
+use borrow.Author.Tests.{lt-ltb, le-ltb}
 use Rattle.rules.specs.PrimaryState.{primary_ok, memory_length, marks_length}
 use Rattle.rules.specs.PrimaryWrites.{memory_write_refusal}
 use Rattle.primary.proofs.writes.memory_write_refusal.Goals as goal
