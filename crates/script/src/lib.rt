@@ -1,5 +1,6 @@
 // The commands of the program `pair` on both ends and their link, at the settings of `pair`.
 #![tactic(auto)]
+
 use records::{AREA_LENGTH, EPOCH_RECORD};
 use rules::{Answer, Primary, Standby};
 

@@ -8,7 +8,6 @@ use lib.ListN.{length}
 use mir.Val.{Val}
 use denote.Laws.{Is}
 use denote.Struct.Declared.{row}
-use borrow.Author.Rules.{length_unmapped}
 use Rattle.lists.specs.Part.{PutDone}
 use Rattle.text.specs.Decimal.{decimal}
 use Rattle.text.specs.Column.{right}
@@ -34,10 +33,10 @@ head-lengths s vs g =
     let p = g.1.1.0.1.1.1 in
     let b = g.1.1.1.0.1.1.1 in
     record {
-      primary-memory = sym (length_unmapped ℕ s.primary.memory _ p.0.1.0.1);
-      primary-disk = sym (length_unmapped ℕ s.primary.disk _ p.1.0.1.0.1);
-      standby-memory = sym (length_unmapped ℕ s.standby.memory _ b.0.1.0.1);
-      standby-disk = sym (length_unmapped ℕ s.standby.disk _ b.1.0.1.0.1);
+      primary-memory = sym p.0.1.0.1;
+      primary-disk = sym p.1.0.1.0.1;
+      standby-memory = sym b.0.1.0.1;
+      standby-disk = sym b.1.0.1.0.1;
     }
 
 -- the primary's epochs are of 4 bytes

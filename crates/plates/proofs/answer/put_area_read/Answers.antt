@@ -21,4 +21,4 @@ returns-then-read c =
 pub returns : goal.returns
 returns c =
     let p = c.part_of.ensures ∙ part-zero _ _ in
-    rw c.if-read.false (rw p at (c.put_area_output.ensures.put_done, c.put_area_output.ensures.upper_bound))
+    rw c.if-read.false (rw p at c.put_area_output.ensures)

@@ -11,7 +11,4 @@ put_plates_read-requires c =
 pub returns : goal.returns
 returns c =
     let r = c.read_hex-read.ensures in
-    rw r.result_value at (record {
-      put_done = c.put_plates_read.ensures.put_done;
-      upper_bound = c.put_plates_read.ensures.upper_bound;
-    })
+    rw r.result_value at c.put_plates_read.ensures

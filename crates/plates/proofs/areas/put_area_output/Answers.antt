@@ -14,4 +14,4 @@ pub returns : goal.returns
 returns c =
     let a = c.read_area-area.ensures in
     let d = c.decide-choice.ensures in
-    rw (area-whole _ c.if-bytes-ne-AREA_LENGTH.false) (rw (a, d) at (c.put_area_line.ensures.put_done, c.put_area_line.ensures.upper_bound))
+    rw (area-whole _ c.if-bytes-ne-AREA_LENGTH.false) (rw (a, d) at c.put_area_line.ensures)

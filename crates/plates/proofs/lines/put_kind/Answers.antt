@@ -10,4 +10,4 @@ returns c =
     let kind = c.put_number-c.ensures in
     let head = put_then (put-within name.put_done name.upper_bound) (put-text c.put_text-b.ensures) in
     let p = put-end (put_then (put_then head (put-within kind.put_done kind.lower_bound.1)) (put-text c.put_text.ensures)) c.requires in
-    rw c.kind_of-kind.ensures at p
+    record { put_done = rw c.kind_of-kind.ensures at p.0; upper_bound = p.1; }

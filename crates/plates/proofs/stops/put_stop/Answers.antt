@@ -37,8 +37,4 @@ returns-in-Refused c =
 
 pub returns-in_default : goal.returns-in_default
 returns-in_default c =
-    let told = absurd (found_none _ _ _ c.read-r.result c.read-r.ensures c.requires.2 (found-arm c.read-r.result (opened c.in_default.in_default-own.keys3))) in
-    record {
-      put_done = told.0;
-      upper_bound = told.1;
-    }
+    absurd (found_none _ _ _ c.read-r.result c.read-r.ensures c.requires.2 (found-arm c.read-r.result (opened c.in_default.in_default-own.keys3)))

@@ -9,8 +9,4 @@ put_stop-requires c =
     rw (lent-rest c.args.place c.args.bytes.now) (p.0, p.1, p.3)
 
 pub returns : goal.returns
-returns c =
-    rw (lent-rest c.args.place c.args.bytes.now) at (record {
-      put_done = c.put_stop.ensures.put_done;
-      upper_bound = c.put_stop.ensures.upper_bound;
-    })
+returns c = rw (lent-rest c.args.place c.args.bytes.now) at c.put_stop.ensures

@@ -1,0 +1,35 @@
+-- `script::link::drain_record` meets its contract. Assumes nothing.
+use mathlib.Core.Path.{◌≡◌, sym, ◌∙◌}
+use native.Mathlib.Omega.{arith}
+use lib.ListN.{length}
+use borrow.Author.Rules.{rules}
+use Rattle.lists.proofs.TestLaws.{cond-false}
+use Rattle.script.specs.Site.{world_of}
+use Rattle.script.proofs.LinkLaws.{full-link, drain-record}
+use Rattle.script.proofs.SiteLaws.{lengths}
+use Rattle.script.proofs.link.drain_record.Goals as goal
+use Rattle.script.proofs.link.drain_record.Goals.{Start}
+
+-- arrays of their sizes
+stream-long : (c : Start) → length c.args.s.primary.stream ≡ 1024
+stream-long c = sym (lengths c.args.s _ c.well-formed.0).stream
+
+link-long : (c : Start) → length c.args.s.link ≡ 2048
+link-long c = sym (lengths c.args.s _ c.well-formed.0).link
+
+pub returns-then-linked-ne0 : goal.returns-then-linked-ne0
+returns-then-linked-ne0 c =
+    let a = c in
+    sym (cond-false _ _ _ (full-link a.args.s (link-long (goal.at.returns-then-linked-ne0 c).Start) c.if-linked-ne0.true))
+
+pub slice_bounds-first_length-end : goal.slice_bounds-first_length-end
+slice_bounds-first_length-end c = sym (stream-long (goal.at.slice_bounds-first_length-end c).Start)
+
+pub first_length-n-requires : goal.first_length-n-requires
+first_length-n-requires c = let h = stream-long (goal.at.first_length-n-requires c).Start in omega arith
+
+pub returns : goal.returns
+unfolding world_of
+returns c =
+    let a = c in
+    rw c.first_length-n.ensures at c.drain_bytes.ensures ∙ drain-record a.args.s (link-long (goal.at.returns c).Start) c.if-linked-ne0.false (stream-long (goal.at.returns c).Start)

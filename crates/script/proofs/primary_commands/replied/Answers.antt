@@ -1,0 +1,6 @@
+-- `script::primary_commands::replied` meets its contract. Assumes nothing.
+use borrow.Author.Rules.{rules}
+use Rattle.script.proofs.primary_commands.replied.Goals as goal
+
+pub returns : goal.returns
+returns c = rw c.with_primary-site.ensures
