@@ -1,6 +1,7 @@
 // Every call of the two ends, start, the disk choice and a page's part of a sum, for C: a state is lent as words, and the
 // answer is one word.
 #![tactic(auto)]
+
 mod pair_calls;
 mod primary_calls;
 mod primary_words;

@@ -1,5 +1,6 @@
 // One checkpoint on file: judging its records in turn, and writing its normal form (document 02, Job 14).
 #![tactic(auto)]
+
 pub mod judge;
 pub mod normal;
 pub mod scan;

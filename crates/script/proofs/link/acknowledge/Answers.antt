@@ -11,14 +11,14 @@ use Rattle.script.proofs.AckLaws.{acks-none, acks-some}
 use Rattle.script.proofs.link.acknowledge.Goals as goal
 
 pub overflow_cast-received : goal.overflow_cast-received
-overflow_cast-received c = let h = received-low c.args.s _ c.well-formed.0 in omega arith
+overflow_cast-received c = let h = received-low c.args.s _ c.well_formed.0 in omega arith
 
 pub returns-then-received-unread : goal.returns-then-received-unread
 unfolding perform acknowledge_done world_of
 returns-then-received-unread c = c.nothing_there.ensures ∙ sym (cond-true _ _ _ (ap is_empty (acks-none _ _ c.if-received-unread.true)))
 
 pub overflow_cast-unread : goal.overflow_cast-unread
-overflow_cast-unread c = let h = received-low c.args.s _ c.well-formed.0 in omega arith
+overflow_cast-unread c = let h = received-low c.args.s _ c.well_formed.0 in omega arith
 
 pub returns : goal.returns
 unfolding perform acknowledge_done world_of

@@ -6,17 +6,17 @@ use borrow.Author.Rules.{rules}
 use Rattle.script.proofs.LinkLaws.{drain-fits, drain-bytes}
 use Rattle.script.proofs.SiteLaws.{lengths}
 use Rattle.script.proofs.link.drain_bytes.Goals as goal
-use Rattle.script.proofs.link.drain_bytes.Goals.{After-p-1, Start}
+use Rattle.script.proofs.link.drain_bytes.Goals.{Start}
 
 link-long : (c : Start) → length c.args.s.link ≡ 2048
-link-long c = sym (lengths c.args.s _ c.well-formed.0).link
+link-long c = sym (lengths c.args.s _ c.well_formed.0).link
 
 pub slice_bounds-drain_behind-end : goal.slice_bounds-drain_behind-end
-slice_bounds-drain_behind-end c = let a = c in (lengths a.args.s _ a.well-formed.0).stream
+slice_bounds-drain_behind-end c = let a = c in (lengths a.args.s _ a.well_formed.0).stream
 
 pub drain_behind-r-requires : goal.drain_behind-r-requires
 drain_behind-r-requires c =
-    let h = link-long (goal.at.drain_behind-r-requires c).After-p-1 in
+    let h = link-long (goal.at.drain_behind-r-requires c).Start in
     let e = c.in_link-count.ensures in
     omega arith
 
@@ -25,7 +25,7 @@ overflow_add-next c =
     let a = c in
     let k = c.in_link-count in
     let r = c.drain_behind-r in
-    let h = drain-fits a.args.s (link-long (goal.at.overflow_add-next c).After-p-1) k.result k.ensures a.args.n r.result r.ensures.value in
+    let h = drain-fits a.args.s (link-long (goal.at.overflow_add-next c).Start) k.result k.ensures a.args.n r.result r.ensures.value in
     omega arith
 
 pub returns : goal.returns
@@ -33,4 +33,4 @@ returns c =
     let a = c in
     let k = c.in_link-count in
     let r = c.drain_behind-r in
-    drain-bytes a.args.s (link-long (goal.at.returns c).After-p-1) k.result k.ensures a.args.n r.result r.ensures.value _ _ r.ensures.stream_after r.ensures.link_after
+    drain-bytes a.args.s (link-long (goal.at.returns c).Start) k.result k.ensures a.args.n r.result r.ensures.value _ _ r.ensures.stream_after r.ensures.link_after

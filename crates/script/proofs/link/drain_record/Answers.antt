@@ -12,10 +12,10 @@ use Rattle.script.proofs.link.drain_record.Goals.{Start}
 
 -- arrays of their sizes
 stream-long : (c : Start) → length c.args.s.primary.stream ≡ 1024
-stream-long c = sym (lengths c.args.s _ c.well-formed.0).stream
+stream-long c = sym (lengths c.args.s _ c.well_formed.0).stream
 
 link-long : (c : Start) → length c.args.s.link ≡ 2048
-link-long c = sym (lengths c.args.s _ c.well-formed.0).link
+link-long c = sym (lengths c.args.s _ c.well_formed.0).link
 
 pub returns-then-linked-ne0 : goal.returns-then-linked-ne0
 returns-then-linked-ne0 c =

@@ -7,27 +7,27 @@ use borrow.Author.Rules.{rules}
 use Rattle.script.proofs.LinkLaws.{used_low, read_done}
 use Rattle.script.proofs.SiteLaws.{lengths}
 use Rattle.script.proofs.link.read_link.Goals as goal
-use Rattle.script.proofs.link.read_link.Goals.{After-link-1, After-used_of-used, Start}
+use Rattle.script.proofs.link.read_link.Goals.{After-used_of-used, Start}
 
 link-long : (c : Start) → length c.args.s.link ≡ 2048
-link-long c = sym (lengths c.args.s _ c.well-formed.0).link
+link-long c = sym (lengths c.args.s _ c.well_formed.0).link
 
 -- what is used is in the link
 used-inside : (c : After-used_of-used) → c.used_of-used.result ≤ c.in_link-count.result
 used-inside c =
     let a = c in
-    used_low a.args.s (link-long a.before.before.before.before.before.before.before.before) _ c.in_link-count.ensures _ c.part_of.ensures c.read_reply-r.result c.read_reply-r.ensures.value c.used_of-used.result c.used_of-used.ensures
+    used_low a.args.s (link-long a.before.before.before.before.before.before.before.before.before) _ c.in_link-count.ensures _ c.part_of.ensures c.read_reply-r.result c.read_reply-r.ensures.value c.used_of-used.result c.used_of-used.ensures
 
 pub part_of-requires : goal.part_of-requires
-part_of-requires c = let h = link-long (goal.at.part_of-requires c).After-link-1 in let e = c.in_link-count.ensures in omega arith
+part_of-requires c = let h = link-long (goal.at.part_of-requires c).Start in let e = c.in_link-count.ensures in omega arith
 
 pub slice_bounds-remove-end : goal.slice_bounds-remove-end
-slice_bounds-remove-end c = sym (link-long (goal.at.slice_bounds-remove-end c).After-link-1)
+slice_bounds-remove-end c = sym (link-long (goal.at.slice_bounds-remove-end c).Start)
 
 pub remove-requires : goal.remove-requires
 remove-requires c =
     let l = used-inside (goal.at.remove-requires c).After-used_of-used in
-    let h = link-long (goal.at.remove-requires c).After-link-1 in
+    let h = link-long (goal.at.remove-requires c).Start in
     let e = c.in_link-count.ensures in
     (omega (arith, l), omega arith)
 
@@ -39,6 +39,6 @@ returns c =
     let a = c in
     let r = c.read_reply-r in
     c.answered.ensures
-    ∙ read_done a.args.s (link-long (goal.at.returns c).After-link-1) c.in_link-count.result c.in_link-count.ensures
+    ∙ read_done a.args.s (link-long (goal.at.returns c).Start) c.in_link-count.result c.in_link-count.ensures
     _ c.part_of.ensures r.result r.ensures.value c.used_of-used.result c.used_of-used.ensures
     _ c.first_unread-unread.result c.remove.ensures c.first_unread-unread.ensures

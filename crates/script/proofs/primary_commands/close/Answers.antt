@@ -7,7 +7,7 @@ use Rattle.script.proofs.SiteLaws.{lengths}
 use Rattle.script.proofs.primary_commands.close.Goals as goal
 
 pub slice_bounds-checkpoint-end-3 : goal.slice_bounds-checkpoint-end-3
-slice_bounds-checkpoint-end-3 c = let b = c in (lengths b.args.s _ b.well-formed.0).stream
+slice_bounds-checkpoint-end-3 c = let b = c in (lengths b.args.s _ b.well_formed.0).stream
 
 pub returns : goal.returns
 unfolding perform step world_of

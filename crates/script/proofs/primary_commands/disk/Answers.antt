@@ -7,7 +7,7 @@ use Rattle.script.proofs.SiteLaws.{lengths}
 use Rattle.script.proofs.primary_commands.disk.Goals as goal
 
 pub slice_bounds-disk_write-end-2 : goal.slice_bounds-disk_write-end-2
-slice_bounds-disk_write-end-2 c = let b = c in (lengths b.args.s _ b.well-formed.0).stream
+slice_bounds-disk_write-end-2 c = let b = c in (lengths b.args.s _ b.well_formed.0).stream
 
 pub returns : goal.returns
 unfolding perform step world_of

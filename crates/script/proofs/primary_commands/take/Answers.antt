@@ -7,7 +7,7 @@ use Rattle.script.proofs.SiteLaws.{lengths}
 use Rattle.script.proofs.primary_commands.take.Goals as goal
 
 pub slice_bounds-take-end : goal.slice_bounds-take-end
-slice_bounds-take-end c = let b = c in (lengths b.args.s _ b.well-formed.0).held
+slice_bounds-take-end c = let b = c in (lengths b.args.s _ b.well_formed.0).held
 
 pub returns : goal.returns
 unfolding perform step world_of

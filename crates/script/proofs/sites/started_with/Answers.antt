@@ -13,9 +13,11 @@ unfolding started
 returns c =
     let s = c in
     let g = s.settings_with in
-    let m = rw g.ensures at s.start-r.ensures in
+    let k = s.start-r.ensures in
+    let made = rw g.ensures at k.value in
     let t = settings_with s.args.t in
     record {
-      site_value = ap world_of c.opened-site.ensures ∙ start-world t (processor_of 0) (zero_buffers t) _ _ _ _ _ _ _ m;
-      number_value = ap (λ (r : Started). r.number) m.0;
+      site_value = ap world_of c.opened-site.ensures ∙ start-world t (processor_of 0) (zero_buffers t) _ _ _ _ _ _ _
+          (made, (rw g.ensures at k.dirty_after, (rw g.ensures at k.standby_memory_after, (rw g.ensures at k.standby_disk_after, (rw g.ensures at k.staged_marks_after, rw g.ensures at k.area_after)))));
+      number_value = ap (λ (r : Started). r.number) made;
     }

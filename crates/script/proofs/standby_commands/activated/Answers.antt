@@ -7,7 +7,7 @@ use Rattle.script.proofs.SiteLaws.{lengths, activation-received}
 use Rattle.script.proofs.standby_commands.activated.Goals as goal
 
 pub slice_bounds-activate-end : goal.slice_bounds-activate-end
-slice_bounds-activate-end c = let b = c in (lengths b.args.s _ b.well-formed.0).area
+slice_bounds-activate-end c = let b = c in (lengths b.args.s _ b.well_formed.0).area
 
 pub with_standby-site-requires : goal.with_standby-site-requires
 with_standby-site-requires c = rw c.activate-r.ensures.value (activation-received _ _)

@@ -6,7 +6,7 @@ use Rattle.script.proofs.SiteLaws.{lengths, flush-received}
 use Rattle.script.proofs.standby_commands.flushed.Goals as goal
 
 pub slice_bounds-flush-end : goal.slice_bounds-flush-end
-slice_bounds-flush-end c = let b = c in (lengths b.args.s _ b.well-formed.0).blocks
+slice_bounds-flush-end c = let b = c in (lengths b.args.s _ b.well_formed.0).blocks
 
 pub with_standby-site-requires : goal.with_standby-site-requires
 with_standby-site-requires c = rw c.flush-r.ensures.value (flush-received _ _ _ _)

@@ -6,7 +6,7 @@ use Rattle.script.proofs.SiteLaws.{lengths, tick-received}
 use Rattle.script.proofs.standby_commands.ticked.Goals as goal
 
 pub slice_bounds-tick-end : goal.slice_bounds-tick-end
-slice_bounds-tick-end c = let b = c in (lengths b.args.s _ b.well-formed.0).marks
+slice_bounds-tick-end c = let b = c in (lengths b.args.s _ b.well_formed.0).marks
 
 pub with_standby-requires : goal.with_standby-requires
 with_standby-requires c = rw c.tick-r.ensures.value (tick-received _ _)

@@ -1,0 +1,26 @@
+-- `primary_calls::primary_sum` meets its contract. Assumes nothing.
+use mathlib.Core.Path.{◌≡◌, sym, ◌∙◌}
+use mathlib.Core.Bool.{true, false}
+use borrow.Author.Tests.{not-true, not-false}
+use borrow.Author.Rules.{rules}
+use Rattle.lists.proofs.TestLaws.{cond-true, cond-false}
+use Rattle.capi.specs.PrimaryWords.{primary_words_ok}
+use Rattle.capi.proofs.primary_calls.primary_sum.Goals as goal
+use Rattle.capi.proofs.primary_calls.primary_sum.Goals.{Else-not-words_ok, Then-not-words_ok}
+
+bad : (c : Then-not-words_ok) → primary_words_ok c.args.state.now ≡ false
+bad c = sym c.words_ok.ensures ∙ c.if-not-words_ok.true
+
+good : (c : Else-not-words_ok) → primary_words_ok c.args.state.now ≡ true
+good c = sym c.words_ok.ensures ∙ c.if-not-words_ok.false
+
+pub returns-then-not-words_ok : goal.returns-then-not-words_ok
+returns-then-not-words_ok c = sym (cond-false _ _ _ (bad (goal.at.returns-then-not-words_ok c).Then-not-words_ok))
+
+pub primary_of-p-requires : goal.primary_of-p-requires
+primary_of-p-requires c = good (goal.at.primary_of-p-requires c).Else-not-words_ok
+
+pub returns : goal.returns
+returns c =
+    rw (sym c.primary_of-p.ensures, sym c.sum-r.ensures)
+    (c.reply_word.ensures ∙ sym (cond-true _ _ _ (good (goal.at.returns c).Else-not-words_ok)))

@@ -1,0 +1,20 @@
+-- `primary_words::packets_fit` meets its contract. The loop's invariant: the bits of the packets passed and the test of
+-- the rest. Assumes nothing.
+use Prim.Native.Nat.{ℕ, ◌+◌, ◌*◌, ◌-◌, ◌≤◌}
+use mathlib.Core.Path.{◌≡◌, refl, sym, ap, ◌∙◌}
+use mathlib.Core.List.{List}
+use mathlib.Core.Bool.{Bool, true, false, ◌&&◌}
+use native.Mathlib.Omega.{arith}
+use lib.ListN.{get_or}
+use Rattle.capi.specs.Word.{fits32, fits16, most32, most16, between}
+use Rattle.capi.specs.PrimaryWords.{packets_fit, packets_at, written_at, packets_in}
+use Rattle.capi.proofs.WordLaws.{fits_or, test-end}
+use Rattle.capi.proofs.PrimaryWordLaws.{packets-fit-more, packets-fit-end}
+use borrow.Author.Rules.{rules}
+use Rattle.capi.proofs.primary_words.packets_fit.Given as goal
+
+abbrev pub invariant-loop-i : goal.invariant-loop-i
+invariant-loop-i l = (l.i ≤ 64) × ((fits32 l.epochs && fits16 l.lengths && fits16 l.ports) && packets_fit (between (packets_at + 3 * l.i) written_at l.w) ≡ packets_fit (packets_in l.w))
+
+abbrev pub decreases-loop-i : goal.decreases-loop-i
+decreases-loop-i l = 64 - l.i
