@@ -1,5 +1,6 @@
 // The program `trace`: the commands of `pair` and two more, one row of a table for each.
 #![tactic(auto)]
+
 use script::{Command, Site};
 use text::Line;
 

@@ -1,5 +1,6 @@
 // Trials of settings (document 02, Job 12): the two ends of `pair`, stepped tick by tick through the functions of `script`.
 #![tactic(auto)]
+
 use script::Site;
 use settings::MOST_PACKETS;
 

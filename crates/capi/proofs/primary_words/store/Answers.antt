@@ -13,9 +13,7 @@ use Rattle.capi.proofs.primary_words.store.Goals.{Start}
 
 -- the arrays' lengths, which the type gives
 array : (c : Start) → length c.args.p.queue.packets ≡ 64
-array c =
-    let m : length (map the_type.to c.args.p.queue.packets) ≡ 64 = search rules in
-    sym (length-map c.args.p.queue.packets the_type.to) ∙ m
+array c = search rules
 
 numbers : (c : Start) → length c.args.p.numbers ≡ 64
 numbers c = search rules

@@ -21,8 +21,7 @@ use Rattle.capi.proofs.primary_words.store_one.Goals.{Start}
 -- the arrays' lengths, which the type gives, and that a number fits
 array : (c : Start) → length c.args.p.queue.packets ≡ 64
 array c =
-    let m : length (map the_type.to c.args.p.queue.packets) ≡ 64 = search rules in
-    sym (length-map c.args.p.queue.packets the_type.to) ∙ m
+    search rules
 
 numbers : (c : Start) → length c.args.p.numbers ≡ 64
 numbers c = search rules
@@ -60,7 +59,7 @@ returns c =
     ap (λ (x : List ℕ). set x (written_at + j) n) (packet.w_after ∙ ap (λ (x : List ℕ). put x (packets_at + 3 * i) (packet_words (k ∷ []))) first)
     ∙ store-one w p i k ok start.requires.2 one j n many number in
     let packets : packets_fit (packet_words p.queue.packets) ≡ true = rw one (fits_one w i k ok packet.k_value) in
-    let written : all_fit16 p.numbers ≡ true = rw number (fits-number w j n ok (low (goal.at.returns c).Start).ranges) in
+    let written : all_fit16 p.numbers ≡ true = rw number (fits-number w j n ok (low (goal.at.returns c).Start).fits) in
     record {
       w_after = e;
       w_after_2 = rw e (primary-words-ok p many (numbers (goal.at.returns c).Start) (rw head.value at head.result_value) packets written);

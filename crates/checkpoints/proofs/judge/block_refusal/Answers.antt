@@ -12,10 +12,10 @@ use Rattle.checkpoints.proofs.judge.block_refusal.Goals as goal
 use Rattle.checkpoints.proofs.judge.block_refusal.Goals.{After-place_in}
 
 -- whether the block came before, by its place
-again : (c : After-place_in) → let a = c.args in is_in a.block (take a.k.blocks a.numbers.now) ≡ ltb c.IsPlace-in.result a.k.blocks
+again : (c : After-place_in) → let a = c.args in is_in a.block (take a.k.blocks a.numbers.now) ≡ ltb c.place_in.result a.k.blocks
 again c =
     let a = c.args in
-    rw (length-take-le c.args.k.blocks c.args.numbers.now c.requires, sym c.IsPlace-in.ensures) refl
+    rw (length-take-le c.args.k.blocks c.args.numbers.now c.requires, sym c.place_in.ensures) refl
 
 pub returns-then-d-block : goal.returns-then-d-block
 returns-then-d-block c = simp (le-ltb _ _ c.if-d-block.true)

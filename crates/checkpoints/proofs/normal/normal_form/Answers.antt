@@ -38,7 +38,7 @@ scanned c =
     scan-made t.args.g t.args.file.now (replicate 64 0) (replicate 64 0) c.scan-s.result c.scan-s.new.1.1.0 c.scan-s.new.1.1.1.0 bytes (ok (View.up-Else-not-shared_ok Tie.the-claims Reads.Pre Reads.Post c.before.before.before.before)) refl refl c.scan-s.ensures.0 c.scan-s.ensures.1 c.scan-s.ensures.2
 
 -- with a COMMIT
-whole : (c : In_default-last) → let q = ¤ in Committed q.args.g q.args.file.now (end_of q)
+whole : (c : In_default-last) → let q = c in Committed q.args.g q.args.file.now (end_of q)
 whole c =
     let q = c in
     ends-committed _ _ (end_of (View.up-After-scan-s Tie.the-claims Reads.Pre Reads.Post q.before.before.before.before.before)) (scanned (View.up-After-scan-s Tie.the-claims Reads.Pre Reads.Post q.before.before.before.before.before)) (opened c.in_default.in_default-own.keys2) (opened c.in_default-last.in_default-last-own.keys2)

@@ -24,7 +24,7 @@ pub part_of-requires : goal.part_of-requires
 part_of-requires c = let t = c in rw (sym (block-length t.args.u), c.pages_length-n.ensures) t.requires.0.pages
 
 -- the bytes copied are PAGEs and STATE
-pages-are : (c : After-part_of) → let t = ¤ in c.part_of.result.now ≡ kept_pages t.args.u t.args.wide (kept_of t.args.k t.args.numbers.now t.args.places.now t.args.file.now)
+pages-are : (c : After-part_of) → let t = c in c.part_of.result.now ≡ kept_pages t.args.u t.args.wide (kept_of t.args.k t.args.numbers.now t.args.places.now t.args.file.now)
 pages-are c =
     let t = c in
     c.part_of.ensures

@@ -15,14 +15,14 @@ use Rattle.checkpoints.proofs.normal.write_one.Goals as goal
 use Rattle.checkpoints.proofs.normal.write_one.Goals.{After-place_in-slot, After-slice_known-2-1}
 
 -- the block came, so its place is one of those counted
-slot : (c : After-place_in-slot) → c.IsPlace-in.result < length c.args.places.now
+slot : (c : After-place_in-slot) → c.place_in-slot.result < length c.args.places.now
 slot c =
     let t = c in
-    omega (arith, c.IsPlace-in.ensures, ltb-true (place_in t.args.n (take t.args.k.blocks t.args.numbers.now)) (length (take t.args.k.blocks t.args.numbers.now)) t.requires.5, length-take-le t.args.k.blocks t.args.numbers.now t.requires.3, t.requires.3, t.requires.4)
+    omega (arith, c.place_in-slot.ensures, ltb-true (place_in t.args.n (take t.args.k.blocks t.args.numbers.now)) (length (take t.args.k.blocks t.args.numbers.now)) t.requires.5, length-take-le t.args.k.blocks t.args.numbers.now t.requires.3, t.requires.3, t.requires.4)
 
 -- its last bytes stand in the file
-inside : (c : After-place_in-slot) → let t = ¤ in get_or t.args.places.now c.IsPlace-in.result 0 + t.args.u ≤ length t.args.file.now
-inside c = let t = c in rw c.IsPlace-in.ensures t.requires.6
+inside : (c : After-place_in-slot) → let t = c in get_or t.args.places.now c.place_in-slot.result 0 + t.args.u ≤ length t.args.file.now
+inside c = let t = c in rw c.place_in-slot.ensures t.requires.6
 
 pub offset_bounds-places-slot : goal.offset_bounds-places-slot
 offset_bounds-places-slot c = let h = slot (goal.at.offset_bounds-places-slot c).After-place_in-slot in search rules
@@ -37,7 +37,7 @@ pub returns : goal.returns
 returns c =
     let t = c in
     let a = t.args in
-    let q = c.IsPlace-in in
+    let q = c.place_in-slot in
     let body = c.part_of-body in
     let call = c.write_block-length in
     rw (← q.ensures)

@@ -4,4 +4,4 @@ use borrow.Author.Rules.{rules}
 use Rattle.checkpoints.proofs.scan.keep_block.Goals as goal
 
 pub returns : goal.returns
-returns c = rw c.IsPlace-in.ensures (refl, refl, refl)
+returns c = rw c.place_in-slot.ensures (refl, refl, refl)

@@ -11,7 +11,7 @@ use Rattle.checkpoints.specs.Scan.{known_of, judged, counts_with, numbers_with, 
 use Rattle.checkpoints.specs.ScanFits.{TurnFits}
 use Rattle.checkpoints.proofs.ScanLaws.{rest-whole, Scans, scans-start, scans-end, scans-used, scans-next, turn-used, turn-fits, turn_low}
 use Rattle.checkpoints.proofs.scan.scan.Goals as goal
-use Rattle.checkpoints.proofs.scan.scan.Goals.{After-goes_on, In-loop-g}
+use Rattle.checkpoints.proofs.scan.scan.Goals.{In-loop-g}
 
 -- a record that goes on: it can be kept, and its bytes stand in the file
 module _ (c : In-loop-g) where
@@ -50,21 +50,21 @@ pub overflow_add-at : goal.overflow_add-at
 overflow_add-at c = record { fits = omega (arith, (used (goal.at.overflow_add-at c).In-loop-g).1, c.used_of-at.ensures) }
 
 pub slice_bounds-judged-count : goal.slice_bounds-judged-count
-slice_bounds-judged-count c = omega (arith, (used (goal.at.slice_bounds-judged-count c).After-goes_on).1, c.used_of-at.ensures)
+slice_bounds-judged-count c = omega (arith, (used (goal.at.slice_bounds-judged-count c).In-loop-g).1, c.used_of-at.ensures)
 
 pub slice_bounds-judged-start : goal.slice_bounds-judged-start
-slice_bounds-judged-start c = let u = used (goal.at.slice_bounds-judged-start c).After-goes_on in let e = c.used_of-at.ensures in search rules
+slice_bounds-judged-start c = let u = used (goal.at.slice_bounds-judged-start c).In-loop-g in let e = c.used_of-at.ensures in search rules
 
 pub slice_bounds-judged-end : goal.slice_bounds-judged-end
-slice_bounds-judged-end c = let u = used (goal.at.slice_bounds-judged-end c).After-goes_on in let e = c.used_of-at.ensures in search rules
+slice_bounds-judged-end c = let u = used (goal.at.slice_bounds-judged-end c).In-loop-g in let e = c.used_of-at.ensures in search rules
 
 pub judged-r-requires-in-loop-g : goal.judged-r-requires-in-loop-g
 judged-r-requires-in-loop-g c =
     let q = c.kept_with-k in
-    omega (arith, ap (λ (x : Counts). x.blocks) q.ensures.0, ap length q.ensures.1, low (goal.at.judged-r-requires-in-loop-g c).After-goes_on)
+    omega (arith, ap (λ (x : Counts). x.blocks) q.ensures.0, ap length q.ensures.1, low (goal.at.judged-r-requires-in-loop-g c).In-loop-g)
 
 pub loop-g-smaller : goal.loop-g-smaller
-loop-g-smaller c = let u = used (goal.at.loop-g-smaller c).After-goes_on in omega (arith, u.0, u.1, c.used_of-at.ensures)
+loop-g-smaller c = let u = used (goal.at.loop-g-smaller c).In-loop-g in omega (arith, u.0, u.1, c.used_of-at.ensures)
 
 pub loop-g-preserved : goal.loop-g-preserved
 loop-g-preserved c =
@@ -73,7 +73,7 @@ loop-g-preserved c =
     let q = c.kept_with-k in
     let h : c.judged-r-in-loop-g.result ≡ judged t.args.g (known_of q.result q.new.places) (drop (at.at + c.used_of-at.result) t.args.file.now)
     = c.judged-r-in-loop-g.ensures ∙ ap (judged t.args.g (known_of q.result q.new.places)) (rest-whole (at.at + c.used_of-at.result) t.args.file.now) in
-    scans-next t.args.g t.args.file.now t.args.numbers.now t.args.places.now t.requires.0 at.numbers at.places at.k at.at at.r at.invariant (on (goal.at.loop-g-preserved c).After-goes_on)
+    scans-next t.args.g t.args.file.now t.args.numbers.now t.args.places.now t.requires.0 at.numbers at.places at.k at.at at.r at.invariant (on (goal.at.loop-g-preserved c).In-loop-g)
     q.new.places q.new.1.1.0 q.result c.used_of-at.result c.judged-r-in-loop-g.result q.ensures.1 q.ensures.2 q.ensures.0 c.used_of-at.ensures h
 
 pub overflow_add-result : goal.overflow_add-result

@@ -1,0 +1,6 @@
+-- `traces::kept::no_trace_line` meets its contract. Assumes nothing.
+use borrow.Author.Rules.{rules}
+use Rattle.traces.proofs.kept.no_trace_line.Goals as goal
+
+pub returns : goal.returns
+returns c = rw c.no_line-line.ensures

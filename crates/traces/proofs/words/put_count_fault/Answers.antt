@@ -1,0 +1,13 @@
+-- `traces::words::put_count_fault` meets its contract. Assumes nothing.
+use borrow.Author.Rules.{rules}
+use Rattle.text.proofs.PrintLaws.{put-text, put-within, put_then, put-end}
+use Rattle.traces.proofs.words.put_count_fault.Goals as goal
+
+pub returns : goal.returns
+returns c =
+    let n = c.put_number.ensures in
+    let told = put-end (put_then (put-text c.put_text-a.ensures) (put-within n.put_done n.lower_bound.1)) c.requires in
+    record {
+      put_done = told.0;
+      upper_bound = told.1;
+    }
