@@ -21,4 +21,4 @@ returns-in-Commit c = rw c.in-Commit.is c.commit_refusal.ensures
 pub returns-in_default : goal.returns-in_default
 returns-in_default c =
     let a = c.args in
-    c.other_refusal.ensures ∙ sym (refusal-arm a.g (known_of a.k a.numbers.now) a.r (opened c.in_default.in_default-own.keys5))
+    c.other_refusal.ensures ∙ sym (refusal-arm a.g (known_of a.k a.numbers.now) a.r c.in_default.in_default-own.keys5)

@@ -38,7 +38,7 @@ loop-place-preserved c =
     let at = c.loop-place in
     let one = c.write_one-at in
     let next = c.marked_after-place in (
-      one.auto.0 ∙ at.invariant.0,
+      one.auto.out ∙ at.invariant.0,
       writing_more t.args.u t.args.d (kept_of t.args.k t.args.numbers.now t.args.places.now t.args.file.now) t.args.ws.now t.args.out.now t.requires.0 t.requires.1 t.requires.2 at.out at.at at.place.page at.invariant.1 one.new.out one.result next.result.page c.loop-place-test.true one.ensures next.ensures.0,
       next.ensures.1,
     )

@@ -71,10 +71,10 @@ loop-g-preserved c =
     let t = c in
     let at = c.loop-g in
     let q = c.kept_with-k in
-    let h : c.judged-r-in-loop-g.result ≡ judged t.args.g (known_of q.result q.new.places) (drop (at.at + c.used_of-at.result) t.args.file.now)
-    = c.judged-r-in-loop-g.ensures ∙ ap (judged t.args.g (known_of q.result q.new.places)) (rest-whole (at.at + c.used_of-at.result) t.args.file.now) in
+    let h : c.judged-r-in-loop-g.result ≡ judged t.args.g (known_of q.result q.new.numbers) (drop (at.at + c.used_of-at.result) t.args.file.now)
+    = c.judged-r-in-loop-g.ensures ∙ ap (judged t.args.g (known_of q.result q.new.numbers)) (rest-whole (at.at + c.used_of-at.result) t.args.file.now) in
     scans-next t.args.g t.args.file.now t.args.numbers.now t.args.places.now t.requires.0 at.numbers at.places at.k at.at at.r at.invariant (on (goal.at.loop-g-preserved c).In-loop-g)
-    q.new.places q.new.1.1.0 q.result c.used_of-at.result c.judged-r-in-loop-g.result q.ensures.1 q.ensures.2 q.ensures.0 c.used_of-at.ensures h
+    q.new.numbers q.new.places q.result c.used_of-at.result c.judged-r-in-loop-g.result q.ensures.1 q.ensures.2 q.ensures.0 c.used_of-at.ensures h
 
 pub overflow_add-result : goal.overflow_add-result
 overflow_add-result c =

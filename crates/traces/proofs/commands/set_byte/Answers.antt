@@ -16,7 +16,7 @@ use Rattle.script.proofs.SiteLaws.{lengths}
 use Rattle.traces.specs.Command.{set_done}
 use Rattle.traces.proofs.CommandLaws.{set_in}
 use Rattle.traces.proofs.commands.set_byte.Goals as goal
-use Rattle.traces.proofs.commands.set_byte.Goals.{Joined-linked-eq0, Start}
+use Rattle.traces.proofs.commands.set_byte.Goals.{Joined-linked-eq0, Start, then-linked-eq0+else-waiting-eq0, else-linked-eq0}
 
 link-long : (c : Start) → length c.args.s.link ≡ 2048
 link-long c = sym (lengths c.args.s _ c.well_formed.0).link
@@ -25,10 +25,10 @@ link-long c = sym (lengths c.args.s _ c.well_formed.0).link
 something : (c : Joined-linked-eq0) → is_empty (world_of c.args.s).link && eqb c.args.s.primary.state.waiting 0 ≡ false
 something c =
     let a = c in
-    ⊎_elim
-    (λ w. rw (ne_eqb _ _ w.1.left) (and-false (is_empty (world_of a.args.s).link)))
-    (λ w. rw (full-link a.args.s (link-long a.before.before.before) w.left))
-    c.if-linked-eq0.branch
+    elim c.if-linked-eq0.branch [
+      | then-linked-eq0+else-waiting-eq0 w ↦ rw (ne_eqb _ _ w.if-waiting-eq0.false) (and-false (is_empty (world_of a.args.s).link))
+      | else-linked-eq0 w ↦ rw (full-link a.args.s (sym (lengths a.args.s _ a.well_formed.0).link) w.if-linked-eq0.false)
+    ]
 
 pub returns-then-waiting-eq0 : goal.returns-then-waiting-eq0
 unfolding set_done world_of

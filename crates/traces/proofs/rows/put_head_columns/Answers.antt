@@ -30,7 +30,7 @@ pub slice_bounds-put_heads-end-4 : goal.slice_bounds-put_heads-end-4
 slice_bounds-put_heads-end-4 c = let s = c in (head-lengths s.args.site _ s.well_formed.1.1.0).standby-disk
 
 pub put_heads-requires : goal.put_heads-requires
-put_heads-requires c = let s = c in (omega (arith, s.requires, c.put_heads-a.ensures.upper_bound, c.put_heads-a.auto.0, c.put_heads-b.ensures.upper_bound, c.put_heads-b.auto.0, c.put_heads-c.ensures.upper_bound, c.put_heads-c.auto.0), sym (head-lengths s.args.site _ s.well_formed.1.1.0).standby-disk)
+put_heads-requires c = let s = c in (omega (arith, s.requires, c.put_heads-a.ensures.upper_bound, c.put_heads-a.auto.out, c.put_heads-b.ensures.upper_bound, c.put_heads-b.auto.out, c.put_heads-c.ensures.upper_bound, c.put_heads-c.auto.out), sym (head-lengths s.args.site _ s.well_formed.1.1.0).standby-disk)
 
 pub returns : goal.returns
 unfolding head_columns world_of

@@ -15,7 +15,7 @@ unfolding trial_of
 returns-then-count-gt-MOST_PACKETS c =
     let start = c in
     let t = start.args.t in
-    let l : length t.sent ≡ 64 = length_unmapped ℕ t.sent _ start.well_formed.0.1.1.1.1.1.1.0.1.0.1 in
+    let l : length t.sent ≡ 64 = start.well_formed.0.1.1.1.1.1.1.0.1.0.1 in
     c.most_of.ensures ∙ ap (longest_to t.tick t.most) (take_all 64 t.sent (omega arith) ∙ sym (take_all t.site.primary.state.queue.count t.sent (omega (arith, c.if-count-gt-MOST_PACKETS.true))))
 
 pub returns : goal.returns

@@ -19,7 +19,7 @@ loop-left-preserved c =
     let t = turn_test a.k in
     let p = turn_part a.k in (
       λ e. not-true _ (both r.result.more _ e).1,
-      at.invariant.1 ∙ ap (λ (b : Bool). at_most t p at.false b at.course) on ∙ whilst-turn t p at.course r.result.course at.false r.result.more c.loop-left-test.true (at.invariant.0 on) r.ensures.course_value r.ensures.more_value,
+      at.invariant.1 ∙ ap (λ (b : Bool). at_most t p at.left b at.course) on ∙ whilst-turn t p at.course r.result.course at.left r.result.more c.loop-left-test.true (at.invariant.0 on) r.ensures.course_value r.ensures.more_value,
     )
 
 pub returns-else-more : goal.returns-else-more
@@ -29,7 +29,7 @@ returns-else-more c =
     let a = c.args in
     let t = turn_test a.k in
     let p = turn_part a.k in
-    sym (whilst-first t p (trial_of a.t) r.result.course a.n r.result.more r.ensures.course_value r.ensures.more_value ∙ at.invariant.1 ∙ whilst-enough t p at.course at.false at.more c.if-more.false)
+    sym (whilst-first t p (trial_of a.t) r.result.course a.n r.result.more r.ensures.course_value r.ensures.more_value ∙ at.invariant.1 ∙ whilst-enough t p at.course at.left at.more c.if-more.false)
 
 pub returns-after-loop-left : goal.returns-after-loop-left
 returns-after-loop-left c =
@@ -38,7 +38,7 @@ returns-after-loop-left c =
     let a = c.args in
     let t = turn_test a.k in
     let p = turn_part a.k in
-    sym (whilst-first t p (trial_of a.t) r.result.course a.n r.result.more r.ensures.course_value r.ensures.more_value ∙ at.invariant.1 ∙ whilst-out t p at.course at.false at.more (omega (arith, c.loop-left-test.false)))
+    sym (whilst-first t p (trial_of a.t) r.result.course a.n r.result.more r.ensures.course_value r.ensures.more_value ∙ at.invariant.1 ∙ whilst-out t p at.course at.left at.more (omega (arith, c.loop-left-test.false)))
 
 pub turn-first-requires : goal.turn-first-requires
 turn-first-requires c = tt
