@@ -1,5 +1,6 @@
 // The detector of each end: its patience, and the ticks that it has counted.
 #![tactic(auto)]
+
 ghost use Rattle.std.specs.Prelude.{◌≡◌};
 ghost use Rattle.detector.specs.Range.{detector_ok};
 ghost use Rattle.detector.specs.Tick.{with_count, expired, reset, ticked};

@@ -1,5 +1,6 @@
 // What the link daemon, written in C, calls: numbers and bytes in, a number back.
 #![tactic(auto)]
+
 ghost use Rattle.std.specs.Prelude.{◌≡◌, length};
 ghost use Rattle.records.specs.declared.Reader.TheVariants.{Test};
 ghost use Rattle.records.specs.Read.{read_record};

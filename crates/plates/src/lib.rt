@@ -1,5 +1,6 @@
 // The program `plate`: the bytes of a line, record by record, in words.
 #![tactic(auto)]
+
 pub mod answer;
 pub mod areas;
 pub mod bad;

@@ -1,5 +1,6 @@
 // The primary's calls: the guest's writes, packets, checkpoint, drain, ACK, take, tick and sum.
 #![tactic(auto)]
+
 pub mod checkpoint;
 pub mod packets;
 pub mod ranges;

@@ -1,5 +1,6 @@
 // The held packets.
 #![tactic(auto)]
+
 ghost use Rattle.std.specs.Prelude.{◌≡◌, ◌&&◌, ◌+◌, ◌^◌, ◌≤◌, ◌<◌, min, leb, length};
 ghost use Rattle.lists.specs.Part.{part, put, removed};
 ghost use Rattle.settings.specs.Range.{most_packets};

@@ -1,5 +1,6 @@
 // The standby's block slots.
 #![tactic(auto)]
+
 ghost use Rattle.std.specs.Prelude.{◌≡◌, ◌+◌, ◌*◌, ◌≤◌, ◌<◌, length, take, drop, replicate};
 ghost use Rattle.lists.specs.Part.{put, removed};
 ghost use Rattle.lists.specs.Select.{place_in};

@@ -1,5 +1,6 @@
 // The standby's calls: reading a record, flush, tick, activation, the guest's writes once it is active, and sum.
 #![tactic(auto)]
+
 mod effects;
 pub mod flush;
 mod judge;

@@ -44,10 +44,11 @@ write_one-at-requires-else-wide c = rw c.if-wide.false at (next-requires (goal.a
 -- whichever arm it was, the record is written in the width that is asked for
 one-done : (c : Joined-wide) → let a = c.args in let at = c.loop-place in
     (length c.if-wide.out ≡ length at.out) × PutDone (page_record a.wide a.epoch at.place.page (page a.u a.memory.now at.place.page)) at.out at.at c.if-wide.out c.if-wide.at
-one-done c = elim c.if-wide.branch [
-  then-wide w ↦ ?
-| else-wide w ↦ ?
-]
+one-done c =
+    elim c.if-wide.branch [
+      then-wide w ↦ rw (w.out-is, w.at-is, w.if-wide.true) (w.write_one-at.auto.out, w.write_one-at.ensures)
+    | else-wide w ↦ rw (w.out-is, w.at-is, w.if-wide.false) (w.write_one-at-else-wide.auto.out, w.write_one-at-else-wide.ensures)
+    ]
 
 pub marked_after-place-requires : goal.marked_after-place-requires
 marked_after-place-requires c =

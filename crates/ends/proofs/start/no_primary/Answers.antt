@@ -1,0 +1,6 @@
+-- `ends::start::no_primary` meets its contract. Assumes nothing.
+use borrow.Author.Rules.{rules}
+use Rattle.ends.proofs.start.no_primary.Goals as goal
+
+pub returns : goal.returns
+returns c = rw (c.opened_primary-p.ensures, c.no_settings.ensures)

@@ -1,0 +1,6 @@
+-- `ends::start::no_standby` meets its contract. Assumes nothing.
+use borrow.Author.Rules.{rules}
+use Rattle.ends.proofs.start.no_standby.Goals as goal
+
+pub returns : goal.returns
+returns c = rw (c.opened_standby.ensures, c.no_settings.ensures)

@@ -1,0 +1,6 @@
+-- `ends::start::opened_primary` meets its contract. Assumes nothing.
+use borrow.Author.Rules.{rules}
+use Rattle.ends.proofs.start.opened_primary.Goals as goal
+
+pub returns : goal.returns
+returns c = rw c.empty_queue-queue.ensures

@@ -1,0 +1,11 @@
+-- `plates::answer::put_hex_area` meets its contract. Assumes nothing.
+use borrow.Author.Rules.{rules}
+use Rattle.plates.proofs.answer.put_hex_area.Goals as goal
+
+pub returns : goal.returns
+returns c =
+    let r = c.read_hex-read.ensures in
+    rw r.result_value at (record {
+      put_done = c.put_area_read.ensures.put_done;
+      upper_bound = (c.put_area_read.ensures.upper_bound, (c.put_area_read.ensures.put_done, c.put_area_read.ensures.upper_bound));
+    })

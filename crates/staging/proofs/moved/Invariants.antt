@@ -1,0 +1,16 @@
+-- `staging::moved` meets its contract. The loop's invariant: i of the numbers behind the first n stand at their new places. Assumes nothing.
+use mathlib.Core.Path.{◌≡◌, refl, ◌∙◌}
+use Prim.Native.Nat.{◌-◌, ◌≤◌}
+use native.Mathlib.Omega.{arith}
+use lib.ListN.{length, drop, length-set}
+use lib.Seq.{paste, paste-zero}
+use borrow.Author.Rules.{rules}
+use Rattle.lists.proofs.ArrayLaws.{front-turn}
+use Rattle.staging.proofs.ArrayLaws.{front-end}
+use Rattle.staging.proofs.moved.Given as goal
+
+abbrev pub invariant-loop-i : goal.invariant-loop-i
+invariant-loop-i l = (l.i ≤ l.rest) × (length l.out ≡ length l.numbers) × (l.out ≡ paste l.numbers 0 (drop l.n l.numbers) l.i)
+
+abbrev pub decreases-loop-i : goal.decreases-loop-i
+decreases-loop-i l = l.rest - l.i
