@@ -1,6 +1,7 @@
 // Calls of the two ends on states that are made from numbers, and the count and the walk of the marks, exported so that
 // a program in another language can time them.
 #![tactic(auto)]
+
 use detector::Detector;
 use marks::{count, marked_after, marked_from};
 use primary::checkpoint::checkpoint;

@@ -1,6 +1,7 @@
 // The normal form of a checkpoint kept on file, for C. A library of its own: with one more reader of records in it, the
 // compiler no longer inlines the reading in the standby's call of libcapi.a (docs/BENCHMARKS.md).
 #![tactic(auto)]
+
 ghost use Rattle.std.specs.Prelude.{◌≡◌, length};
 ghost use Rattle.checkpoints.specs.Saving.{saved, saved_destination};
 ghost use Rattle.files.specs.Saved.{file_settings, saved_answer, saved_word};

@@ -10,7 +10,6 @@ use lib.ListN.{length, get_or}
 use types.Run.{OneOf, miss}
 use denote.Enum.Declared.{tag_of}
 use borrow.Author.Tests.{leb-true, leb-false, eqb-true, le-leb, lt-leb, eq-eqb, ne_eqb}
-use Rattle.lists.specs.Refusal.{within}
 use Rattle.lists.specs.LittleEndian.{le_at}
 use Rattle.lists.proofs.LittleEndianLaws.{le_at-lt}
 use Rattle.records.specs.declared.Cursor.{Cursor}

@@ -1,6 +1,5 @@
 -- `lists::copy_chunk` meets its contract: the head of the array is the part that was copied into it.
 use native.Mathlib.Omega.{arith}
-use borrow.Author.Rules.{rules}
 use Prim.Native.Nat.{◌≤◌}
 use mathlib.Core.Path.{ap, ◌∙◌}
 use lib.ListN.{length, length-take, length-drop}

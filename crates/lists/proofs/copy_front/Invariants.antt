@@ -1,14 +1,8 @@
 -- `lists::copy_front` meets its contract. The loop's invariant: the first i bytes are src's, the others as at entry.
-use native.Mathlib.Omega.{arith}
-use borrow.Author.Rules.{rules}
-use Prim.Native.Nat.{ℕ, ◌+◌, ◌-◌, ◌≤◌}
-use mathlib.Core.Path.{◌≡◌, refl, sym, ap, ◌∙◌}
-use mathlib.Core.List.{List}
+use Prim.Native.Nat.{◌-◌, ◌≤◌}
+use mathlib.Core.Path.{◌≡◌}
 use lib.ListN.{length, take}
-use lib.Seq.{take_all}
-use Rattle.lists.specs.Part.{part, put}
-use Rattle.lists.proofs.PartLaws.{put-none, part-zero}
-use Rattle.lists.proofs.ChunkLaws.{front-chunk-turn, front-all}
+use Rattle.lists.specs.Part.{put}
 use Rattle.lists.proofs.copy_front.Given as goal
 
 abbrev pub invariant-loop-i : goal.invariant-loop-i

@@ -1,4 +1,3 @@
-use borrow.Author.Rules.{rules}
 use native.Mathlib.Omega.{arith}
 use Rattle.lists.proofs.PartLaws.{part-back-front}
 use Rattle.lists.proofs.copy_into.Goals as goal

@@ -1,6 +1,5 @@
 -- `lists::move_chunk` meets its contract: the array holds the part as it was before the move.
 use native.Mathlib.Omega.{arith}
-use borrow.Author.Rules.{rules}
 use Prim.Native.Nat.{◌≤◌}
 use lib.ListN.{length, length-take, length-drop}
 use Rattle.lists.proofs.ChunkLaws.{part-most, chunk-copied}

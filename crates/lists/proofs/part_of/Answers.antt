@@ -1,4 +1,3 @@
-use borrow.Author.Rules.{rules}
 use Rattle.lists.proofs.PartLaws.{part-lent}
 use Rattle.lists.proofs.part_of.Goals as goal
 

@@ -1,13 +1,8 @@
 -- `lists::remove` meets its contract. The loop's invariant: i of the bytes behind the removed ones stand at their new places.
-use native.Mathlib.Omega.{arith}
-use borrow.Author.Rules.{rules}
-use Prim.Native.Nat.{ℕ, ◌+◌, ◌-◌, ◌≤◌}
-use mathlib.Core.Path.{◌≡◌, refl, sym, ap, ◌∙◌}
-use mathlib.Core.List.{List}
+use Prim.Native.Nat.{◌-◌, ◌≤◌}
+use mathlib.Core.Path.{◌≡◌}
 use lib.ListN.{length, take, drop}
-use Rattle.lists.specs.Part.{part, put}
-use Rattle.lists.proofs.PartLaws.{put-none}
-use Rattle.lists.proofs.ChunkLaws.{move-chunk-turn, removed-take}
+use Rattle.lists.specs.Part.{put}
 use Rattle.lists.proofs.remove.Given as goal
 
 abbrev pub invariant-loop-i : goal.invariant-loop-i

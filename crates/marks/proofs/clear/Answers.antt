@@ -1,9 +1,6 @@
-use Prim.Native.Nat.{◌-◌, ◌*◌, ◌≤◌}
 use mathlib.Core.Path.{◌≡◌, refl, sym, ◌∙◌}
 use native.Mathlib.Omega.{arith}
 use lib.ListN.{length-set, length}
-use borrow.Author.Rules.{rules}
-use Rattle.marks.specs.Mark.{cleared}
 use Rattle.marks.proofs.MarkLaws.{cleared-none}
 use Rattle.marks.proofs.WordLaws.{clear_whole, clear-last, clear-all}
 use Rattle.marks.proofs.clear.Goals as goal

@@ -1,12 +1,8 @@
 -- `marks::clear` meets its contract. The loop's invariant: the first i words are cleared.
 use Prim.Native.Nat.{◌-◌, ◌*◌, ◌≤◌}
-use mathlib.Core.Path.{◌≡◌, refl, sym, ◌∙◌}
-use native.Mathlib.Omega.{arith}
-use lib.ListN.{length-set, length}
-use borrow.Author.Rules.{rules}
+use mathlib.Core.Path.{◌≡◌}
+use lib.ListN.{length}
 use Rattle.marks.specs.Mark.{cleared}
-use Rattle.marks.proofs.MarkLaws.{cleared-none}
-use Rattle.marks.proofs.WordLaws.{clear_whole, clear-last, clear-all}
 use Rattle.marks.proofs.clear.Given as goal
 
 abbrev pub invariant-loop-i : goal.invariant-loop-i

@@ -1,11 +1,9 @@
-use Prim.Native.Nat.{◌%◌, ◌+◌, ◌-◌, ◌*◌, ◌≤◌}
+use Prim.Native.Nat.{◌%◌, ◌+◌, ◌*◌}
 use mathlib.Core.Path.{◌≡◌, sym, ap, ◌∙◌}
 use native.Mathlib.Omega.{arith}
 use lib.Count.{ones}
 use lib.Pow.{pow_pos}
 use lib.ListN.{get_or, length}
-use borrow.Author.Rules.{rules}
-use Rattle.marks.specs.Mark.{count_marks}
 use Rattle.marks.proofs.BitLaws.{shifted_one, low_mask}
 use Rattle.marks.proofs.MarkLaws.{count-zero, count-le}
 use Rattle.marks.proofs.WordLaws.{count-whole, count-last, count-all}

@@ -1,15 +1,7 @@
 -- `marks::count` meets its contract. The loop's invariant: the pages of the first i words are counted.
-use Prim.Native.Nat.{◌%◌, ◌+◌, ◌-◌, ◌*◌, ◌≤◌}
-use mathlib.Core.Path.{◌≡◌, sym, ap, ◌∙◌}
-use native.Mathlib.Omega.{arith}
-use lib.Count.{ones}
-use lib.Pow.{pow_pos}
-use lib.ListN.{get_or, length}
-use borrow.Author.Rules.{rules}
+use Prim.Native.Nat.{◌-◌, ◌*◌, ◌≤◌}
+use mathlib.Core.Path.{◌≡◌}
 use Rattle.marks.specs.Mark.{count_marks}
-use Rattle.marks.proofs.BitLaws.{shifted_one, low_mask}
-use Rattle.marks.proofs.MarkLaws.{count-zero, count-le}
-use Rattle.marks.proofs.WordLaws.{count-whole, count-last, count-all}
 use Rattle.marks.proofs.count.Given as goal
 
 abbrev pub invariant-loop-i : goal.invariant-loop-i

@@ -3,7 +3,6 @@ use Prim.Native.Nat.{◌/◌, ◌%◌}
 use mathlib.Core.Path.{sym}
 use native.Mathlib.Omega.{arith}
 use lib.ListN.{get_or}
-use borrow.Author.Rules.{rules}
 use Rattle.marks.specs.Mark.{with_mark}
 use Rattle.marks.proofs.BitLaws.{shifted_one, or-with}
 use Rattle.marks.proofs.MarkLaws.{with_mark-past}

@@ -1,7 +1,6 @@
 -- `marks::marked_beyond` meets its contract: no page lies between, or the walk goes on at the next word.
 use mathlib.Core.Path.{refl}
 use native.Mathlib.Omega.{arith}
-use borrow.Author.Rules.{rules}
 use Rattle.marks.proofs.NextLaws.{next-none}
 use Rattle.marks.proofs.marked_beyond.Goals as goal
 

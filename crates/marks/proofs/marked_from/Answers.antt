@@ -1,7 +1,6 @@
 -- `marks::marked_from` meets its contract.
 use mathlib.Core.Path.{◌≡◌, refl}
 use native.Mathlib.Omega.{arith}
-use borrow.Author.Rules.{rules}
 use Rattle.marks.proofs.marked_from.Goals as goal
 
 pub returns-then-m-page : goal.returns-then-m-page

@@ -2,7 +2,6 @@
 use Prim.Native.Nat.{◌/◌, ◌%◌}
 use mathlib.Core.Path.{refl, ◌∙◌}
 use lib.ListN.{get_or}
-use borrow.Author.Rules.{rules}
 use Rattle.marks.proofs.BitLaws.{low-cleared}
 use Rattle.marks.proofs.PlaceLaws.{behind-past, behind-word}
 use Rattle.marks.proofs.marks_behind.Goals as goal

@@ -2,7 +2,6 @@
 use mathlib.Core.Path.{refl}
 use native.Mathlib.Nat.{zero-div}
 use lib.ListN.{get_or-eq_default}
-use borrow.Author.Rules.{rules}
 use Rattle.marks.proofs.marks_from.Goals as goal
 
 pub returns-then-ws-i : goal.returns-then-ws-i

@@ -1,11 +1,9 @@
-use Prim.Native.Nat.{◌-◌, ◌/◌, ◌%◌, ◌^◌, ◌≤◌}
+use Prim.Native.Nat.{◌/◌, ◌%◌, ◌^◌}
 use mathlib.Core.Path.{◌≡◌, ◌∙◌, ap}
 use native.Mathlib.Nat.{le_refl}
 use native.Mathlib.Omega.{arith}
 use lib.Count.{count_trailing_zeros}
 use lib.ListN.{get_or}
-use borrow.Author.Rules.{rules}
-use Rattle.marks.specs.Next.{NextMarked}
 use Rattle.marks.proofs.BitLaws.{zeros-shr-lt}
 use Rattle.marks.proofs.NextLaws.{next-none, next_past, next-on, next-min, run-clear, run-next}
 use Rattle.marks.proofs.next_marked.Goals as goal

@@ -1,7 +1,6 @@
 -- `marks::ones_of_word` meets its contract: it counts at most 64, which fits the machine's word.
 use native.Mathlib.Omega.{arith}
 use lib.Count.{ones-le}
-use borrow.Author.Rules.{rules}
 use Rattle.marks.proofs.ones_of_word.Goals as goal
 
 pub overflow_cast-result : goal.overflow_cast-result

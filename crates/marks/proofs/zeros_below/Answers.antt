@@ -1,7 +1,6 @@
 -- `marks::zeros_below` meets its contract: it counts at most 64, which fits the machine's word.
 use native.Mathlib.Omega.{arith}
 use lib.Count.{trailing_le}
-use borrow.Author.Rules.{rules}
 use Rattle.marks.proofs.zeros_below.Goals as goal
 
 pub overflow_cast-result : goal.overflow_cast-result

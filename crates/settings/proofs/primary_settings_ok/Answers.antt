@@ -1,6 +1,4 @@
 use mathlib.Core.Path.{sym, ◌∙◌}
-use borrow.Author.Rules.{rules}
-use borrow.Author.Tests.{not-true, not-false}
 use Rattle.settings.specs.Range.{primary_settings_ok}
 use Rattle.settings.proofs.RangeLaws.{SharedFacts, shared-facts, shared_of}
 use Rattle.settings.proofs.primary_settings_ok.Goals as goal

@@ -1,4 +1,3 @@
-use borrow.Author.Rules.{rules}
 use Rattle.settings.proofs.RangeLaws.{settings-parts}
 use Rattle.settings.proofs.settings_ok.Goals as goal
 

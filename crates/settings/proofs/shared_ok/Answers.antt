@@ -1,4 +1,3 @@
-use borrow.Author.Rules.{rules}
 use Rattle.settings.proofs.shared_ok.Goals as goal
 
 pub returns : goal.returns

@@ -1,4 +1,3 @@
-use borrow.Author.Rules.{rules}
 use Rattle.settings.specs.Range.{standby_settings_ok}
 use Rattle.settings.proofs.standby_settings_ok.Goals as goal
 

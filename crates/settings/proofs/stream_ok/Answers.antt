@@ -4,7 +4,6 @@ use native.Mathlib.Omega.{arith}
 use Rattle.records.specs.Kind.{is_wide, number_end, counts_end}
 use Rattle.records.proofs.KindLaws.{width-range}
 use Rattle.settings.proofs.RangeLaws.{least-stream, least-stream-le}
-use borrow.Author.Rules.{rules}
 use Rattle.settings.proofs.stream_ok.Goals as goal
 use Rattle.settings.proofs.stream_ok.Goals.{After-checkpoint_end, After-number_end}
 

@@ -1,4 +1,3 @@
-use borrow.Author.Rules.{rules}
 use mathlib.Core.Path.{refl}
 use Rattle.lists.specs.LittleEndian.{le_bytes}
 use Rattle.lists.proofs.field.bytes4.Goals as goal

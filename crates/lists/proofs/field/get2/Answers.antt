@@ -1,7 +1,6 @@
 use native.Mathlib.Omega.{arith}
 use Rattle.lists.specs.LittleEndian.{le_at}
 use native.Mathlib.Numerals.{towards_numerals}
-use borrow.Author.Rules.{rules}
 use Rattle.lists.proofs.field.get2.Goals as goal
 
 pub returns : goal.returns

@@ -1,6 +1,5 @@
 use mathlib.Core.Path.{◌≡◌, sym, ap, ◌∙◌}
 use mathlib.Core.Bool.{false}
-use borrow.Author.Rules.{rules}
 use Rattle.records.specs.Area.{all_zero}
 use Rattle.records.specs.declared.Area.TheVariants.{Activation}
 use Rattle.records.proofs.AreaLaws.{area-other-length, area-of-zero, area-of-record, area-other-body, area-other-kind}

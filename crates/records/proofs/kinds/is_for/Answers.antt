@@ -1,4 +1,3 @@
-use borrow.Author.Rules.{rules}
 use Rattle.records.proofs.kinds.is_for.Goals as goal
 
 pub returns-in-Test : goal.returns-in-Test

@@ -1,6 +1,5 @@
 use Rattle.records.specs.Kind.{body_length}
 use Rattle.records.proofs.KindLaws.{other-ack, page-or, commit-or}
-use borrow.Author.Rules.{rules}
 use Rattle.records.proofs.reading.body_length.Goals as goal
 
 pub returns-in-1 : goal.returns-in-1

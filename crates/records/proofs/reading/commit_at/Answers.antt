@@ -2,7 +2,6 @@ use mathlib.Core.Path.{◌≡◌, sym, ◌∙◌}
 use native.Mathlib.Omega.{arith}
 use Rattle.records.specs.Kind.{commit_kind, record_length}
 use Rattle.records.proofs.KindLaws.{commit-length}
-use borrow.Author.Rules.{rules}
 use Rattle.records.proofs.reading.commit_at.Goals as goal
 
 pub get4-requires : goal.get4-requires

@@ -4,7 +4,6 @@ use native.Mathlib.Omega.{arith}
 use Rattle.records.specs.Kind.{BLOCK, body_length, record_length}
 use Rattle.records.specs.Read.{fields_of}
 use Rattle.records.proofs.KindLaws.{page-or, commit-or, other-ack, record-ge}
-use borrow.Author.Rules.{rules}
 use Rattle.records.proofs.reading.fields.Goals as goal
 
 pub get4-epoch-requires : goal.get4-epoch-requires

@@ -1,4 +1,3 @@
-use borrow.Author.Rules.{rules}
 use Rattle.records.proofs.reading.number_at.Goals as goal
 
 pub get4-requires : goal.get4-requires

@@ -1,5 +1,4 @@
 use mathlib.Core.Path.{sym}
-use borrow.Author.Rules.{rules}
 use Rattle.records.proofs.ReadLaws.{other-found, found-arm}
 use borrow.Enum.Refused.{opened}
 use Rattle.records.proofs.reading.other_refusal.Goals as goal

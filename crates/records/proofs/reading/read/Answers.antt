@@ -1,12 +1,10 @@
 use mathlib.Core.Path.{◌≡◌, sym, ◌∙◌}
 use mathlib.Core.Bool.{true}
 use native.Mathlib.Omega.{arith}
-use borrow.Author.Tests.{not-true, not-false}
 use Rattle.lists.specs.LittleEndian.{le_at}
 use Rattle.records.specs.Kind.{unit_ok, body_length, record_length, is_for}
 use Rattle.records.proofs.KindLaws.{unit-le, for-test}
 use Rattle.records.proofs.ReadLaws.{Whole, read-unit, read-no-header, read-kind, read_length, BodyCut, read-no-body, read_whole}
-use borrow.Author.Rules.{rules}
 use Rattle.records.proofs.reading.read.Lts.View
 use Rattle.records.proofs.reading.read.Tie
 use Rattle.records.proofs.reading.read.Reads

@@ -1,4 +1,3 @@
-use borrow.Author.Rules.{rules}
 use Rattle.records.proofs.reading.used_of.Goals as goal
 
 pub returns-in-Page : goal.returns-in-Page

@@ -1,5 +1,4 @@
 use mathlib.Core.Path.{sym, ◌∙◌}
-use borrow.Author.Rules.{rules}
 use Rattle.records.specs.Read.{kind_of}
 use Rattle.records.proofs.ReadLaws.{ack-arm}
 use borrow.Enum.Refused.{opened}

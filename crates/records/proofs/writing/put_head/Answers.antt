@@ -1,5 +1,4 @@
 use Rattle.records.proofs.WriteLaws.{put-fields}
-use borrow.Author.Rules.{rules}
 use Rattle.records.proofs.writing.put_head.Goals as goal
 
 pub returns : goal.returns

@@ -2,7 +2,6 @@ use mathlib.Core.Path.{ap}
 use native.Mathlib.Omega.{arith}
 use lib.ListN.{length}
 use Rattle.lists.proofs.LittleEndianLaws.{length-le_bytes}
-use borrow.Author.Rules.{rules}
 use Rattle.records.proofs.writing.put_number.Goals as goal
 
 pub copy_into-requires : goal.copy_into-requires

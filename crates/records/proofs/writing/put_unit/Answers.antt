@@ -4,7 +4,6 @@ use lib.ListN.{length}
 use Rattle.records.specs.Kind.{number_width}
 use Rattle.records.specs.Write.{unit_record}
 use Rattle.records.proofs.WriteLaws.{put-number-rest}
-use borrow.Author.Rules.{rules}
 use Rattle.records.proofs.writing.put_unit.Goals as goal
 
 pub returns : goal.returns

@@ -2,7 +2,6 @@ use mathlib.Core.Path.{refl}
 use native.Mathlib.Omega.{arith}
 use Rattle.records.proofs.FrameLaws.{length-epoch}
 use Rattle.records.proofs.WriteLaws.{head-epoch, room_of, no_room, written_of, unwritten_of}
-use borrow.Author.Rules.{rules}
 use Rattle.records.proofs.writing.write_epoch.Goals as goal
 
 pub returns-then-out-lt-EPOCH_RECORD : goal.returns-then-out-lt-EPOCH_RECORD

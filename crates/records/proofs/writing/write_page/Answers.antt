@@ -1,4 +1,3 @@
-use borrow.Author.Rules.{rules}
 use Rattle.records.proofs.writing.write_page.Goals as goal
 
 pub returns : goal.returns

@@ -1,9 +1,7 @@
-use Prim.Native.Nat.{◌^◌, ◌≤◌, ◌<◌}
-use mathlib.Core.Path.{◌≡◌, refl, sym, ◌∙◌}
-use mathlib.Core.List.{[]}
+use Prim.Native.Nat.{◌≤◌, ◌<◌}
+use mathlib.Core.Path.{refl, sym, ◌∙◌}
 use native.Mathlib.Omega.{arith}
-use lib.ListN.{length, drop, length-set}
-use Rattle.text.specs.Decimal.{digits_before}
+use lib.ListN.{length, length-set}
 use Rattle.text.proofs.DecimalLaws.{fewer_digits, digits-turn, digits-end}
 use Rattle.text.proofs.decimal.digits_of.Goals as goal
 

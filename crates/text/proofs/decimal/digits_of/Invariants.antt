@@ -1,11 +1,9 @@
 -- `text::decimal::digits_of` meets its contract. The loop's invariant: the digits of the rest, in front of those stored, are the digits of n.
 use Prim.Native.Nat.{◌^◌, ◌≤◌, ◌<◌}
-use mathlib.Core.Path.{◌≡◌, refl, sym, ◌∙◌}
+use mathlib.Core.Path.{◌≡◌}
 use mathlib.Core.List.{[]}
-use native.Mathlib.Omega.{arith}
-use lib.ListN.{length, drop, length-set}
+use lib.ListN.{length, drop}
 use Rattle.text.specs.Decimal.{digits_before}
-use Rattle.text.proofs.DecimalLaws.{fewer_digits, digits-turn, digits-end}
 use Rattle.text.proofs.decimal.digits_of.Given as goal
 
 abbrev pub invariant-loop-rest : goal.invariant-loop-rest

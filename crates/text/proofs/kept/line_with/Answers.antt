@@ -1,5 +1,4 @@
 use borrow.Author.Tests.{ne_eqb, eq-eqb}
-use borrow.Author.Rules.{rules}
 use Rattle.text.specs.Kept.{line_with}
 use Rattle.text.proofs.kept.line_with.Goals as goal
 

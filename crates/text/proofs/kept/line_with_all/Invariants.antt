@@ -1,11 +1,8 @@
 -- `text::kept::line_with_all` meets its contract. The loop's invariant: the rest of the bytes, from what is kept, gives what all of them give.
-use Prim.Native.Nat.{◌-◌, ◌≤◌, ◌<◌}
-use mathlib.Core.Path.{◌≡◌, refl, sym, ◌∙◌}
-use native.Mathlib.Omega.{arith}
-use native.Mathlib.Numerals.{add-one}
+use Prim.Native.Nat.{◌-◌, ◌≤◌}
+use mathlib.Core.Path.{◌≡◌}
 use lib.ListN.{length, drop}
-use Rattle.text.specs.Kept.{line_with, line_with_all}
-use Rattle.text.proofs.KeptLaws.{kept_next, kept-done}
+use Rattle.text.specs.Kept.{line_with_all}
 use Rattle.text.proofs.kept.line_with_all.Given as goal
 
 abbrev pub invariant-loop-i : goal.invariant-loop-i

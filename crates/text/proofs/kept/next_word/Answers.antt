@@ -1,5 +1,4 @@
 use borrow.Author.Tests.{lt-ltb, le-ltb}
-use borrow.Author.Rules.{rules}
 use Rattle.text.proofs.kept.next_word.Goals as goal
 
 pub returns-then-words-lt4 : goal.returns-then-words-lt4

@@ -1,4 +1,4 @@
-use borrow.Author.Tests.{not-true, not-false, le-leb, lt-leb}
+use borrow.Author.Tests.{le-leb, lt-leb}
 use Rattle.text.proofs.kept.number_is.Goals as goal
 
 pub returns-then-not-some : goal.returns-then-not-some

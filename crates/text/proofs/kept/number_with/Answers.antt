@@ -1,6 +1,5 @@
 use native.Mathlib.Omega.{arith}
 use borrow.Author.Tests.{le-leb, lt-leb}
-use borrow.Author.Rules.{rules}
 use Rattle.text.specs.Kept.{number_with}
 use Rattle.text.proofs.kept.number_with.Goals as goal
 

@@ -1,4 +1,3 @@
-use borrow.Author.Rules.{rules}
 use Rattle.text.proofs.kept.with_second_number.Goals as goal
 
 pub returns : goal.returns

@@ -1,9 +1,8 @@
-use Prim.Native.Nat.{◌+◌, ◌-◌, ◌≤◌, ◌<◌}
-use mathlib.Core.Path.{◌≡◌, refl, ap}
+use Prim.Native.Nat.{◌≤◌, ◌<◌}
+use mathlib.Core.Path.{refl, ap}
 use native.Mathlib.Omega.{arith}
 use native.Mathlib.Numerals.{add-one}
-use lib.ListN.{length, drop}
-use Rattle.text.specs.Line.{first_part}
+use lib.ListN.{length}
 use Rattle.text.proofs.LineLaws.{part-behind, part-stops, part-goes-on}
 use Rattle.text.proofs.lines.part_end.Goals as goal
 

@@ -1,11 +1,8 @@
 -- `text::lines::part_end` meets its contract. The loop's invariant: the part ends where it ended, seen from i.
-use Prim.Native.Nat.{◌+◌, ◌-◌, ◌≤◌, ◌<◌}
-use mathlib.Core.Path.{◌≡◌, refl, ap}
-use native.Mathlib.Omega.{arith}
-use native.Mathlib.Numerals.{add-one}
+use Prim.Native.Nat.{◌+◌, ◌-◌}
+use mathlib.Core.Path.{◌≡◌}
 use lib.ListN.{length, drop}
 use Rattle.text.specs.Line.{first_part}
-use Rattle.text.proofs.LineLaws.{part-behind, part-stops, part-goes-on}
 use Rattle.text.proofs.lines.part_end.Given as goal
 
 abbrev pub invariant-loop-i : goal.invariant-loop-i

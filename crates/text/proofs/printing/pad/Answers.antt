@@ -1,6 +1,5 @@
 -- `text::printing::pad` meets its contract. Assumes nothing.
 use mathlib.Core.Path.{sym}
-use borrow.Author.Rules.{rules}
 use Rattle.text.proofs.printing.pad.Goals as goal
 
 pub returns : goal.returns

@@ -1,6 +1,5 @@
 -- `text::printing::put_byte` meets its contract. Assumes nothing.
 use native.Mathlib.Omega.{arith}
-use borrow.Author.Rules.{rules}
 use Rattle.lists.proofs.ArrayLaws.{set-put}
 use Rattle.text.proofs.printing.put_byte.Goals as goal
 

@@ -1,6 +1,5 @@
 -- `text::printing::put_number` meets its contract. Assumes nothing.
 use native.Mathlib.Omega.{arith}
-use borrow.Author.Rules.{rules}
 use Rattle.text.proofs.PrintLaws.{number_put}
 use Rattle.text.proofs.printing.put_number.Goals as goal
 

@@ -1,6 +1,4 @@
 -- `text::printing::put_right` meets its contract. Assumes nothing.
-use native.Mathlib.Omega.{arith}
-use borrow.Author.Rules.{rules}
 use Rattle.text.proofs.PrintLaws.{right-put}
 use Rattle.text.proofs.printing.put_right.Goals as goal
 

@@ -1,10 +1,6 @@
-use Prim.Native.Nat.{◌+◌, ◌-◌, ◌≤◌}
-use mathlib.Core.Path.{◌≡◌, refl}
+use mathlib.Core.Path.{refl}
 use native.Mathlib.Omega.{arith}
 use borrow.Author.Rules.{rules}
-use lib.ListN.{length, replicate}
-use Rattle.lists.specs.Part.{PutDone}
-use Rattle.text.specs.Line.{space}
 use Rattle.text.proofs.PrintLaws.{spaces-none, spaces-more, spaces-all}
 use Rattle.text.proofs.printing.put_spaces.Goals as goal
 

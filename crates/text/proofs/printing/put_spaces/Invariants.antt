@@ -1,12 +1,9 @@
 -- `text::printing::put_spaces` meets its contract. The loop's invariant: i spaces are put. Assumes nothing.
 use Prim.Native.Nat.{◌+◌, ◌-◌, ◌≤◌}
-use mathlib.Core.Path.{◌≡◌, refl}
-use native.Mathlib.Omega.{arith}
-use borrow.Author.Rules.{rules}
+use mathlib.Core.Path.{◌≡◌}
 use lib.ListN.{length, replicate}
 use Rattle.lists.specs.Part.{PutDone}
 use Rattle.text.specs.Line.{space}
-use Rattle.text.proofs.PrintLaws.{spaces-none, spaces-more, spaces-all}
 use Rattle.text.proofs.printing.put_spaces.Given as goal
 
 abbrev pub invariant-loop-i : goal.invariant-loop-i

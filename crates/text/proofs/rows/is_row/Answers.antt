@@ -1,7 +1,6 @@
 -- `text::rows::is_row` meets its contract. Assumes nothing.
 use mathlib.Core.Path.{sym, ◌∙◌}
-use borrow.Author.Rules.{rules}
-use borrow.Author.Tests.{eq-eqb, ne_eqb, not-true, not-false}
+use borrow.Author.Tests.{ne_eqb}
 use Rattle.lists.proofs.TestLaws.{and-false}
 use Rattle.text.specs.Row.{is_row_kept}
 use Rattle.text.proofs.rows.is_row.Goals as goal

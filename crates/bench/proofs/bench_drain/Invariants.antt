@@ -1,0 +1,13 @@
+-- `bench::bench_drain` is safe and ends. The loop's invariant: the slices keep their lengths.
+use Prim.Native.Nat.{◌≤◌, ◌-◌}
+use mathlib.Core.Path.{◌≡◌}
+use lib.ListN.{length}
+use native.Mathlib.Omega.{arith}
+use borrow.Author.Rules.{rules}
+use Rattle.bench.proofs.bench_drain.Given as goal
+
+abbrev pub invariant-loop-i : goal.invariant-loop-i
+invariant-loop-i l = (l.i ≤ l.rounds) × (length l.stream ≡ length l.initial.stream) × (length l.destination ≡ length l.initial.destination)
+
+abbrev pub decreases-loop-i : goal.decreases-loop-i
+decreases-loop-i l = l.rounds - l.i
