@@ -1,11 +1,11 @@
 -- What a standby reads, written again, is the bytes that were read. Assumes nothing.
-use Prim.Native.Nat.{ℕ, zero, suc, ◌+◌, ◌*◌, ◌/◌, ◌%◌, ◌-◌, ◌≤◌, ◌<◌}
+use Prim.Native.Nat.{ℕ, ◌+◌, ◌-◌, ◌≤◌}
 use mathlib.Core.Path.{◌≡◌, refl, sym, ap, ap₂, ◌∙◌}
 use mathlib.Core.Bool.{Bool, true, false, false≢true}
-use mathlib.Core.List.{List, ◌∷◌, ◌++◌}
+use mathlib.Core.List.{List, ◌++◌}
 use native.Mathlib.Omega.{arith}
-use lib.ListN.{length, get_or, take, drop}
-use lib.Seq.{drop-cons, length-take-le, get_or-drop, drop-drop, take-add}
+use lib.ListN.{length, take, drop}
+use lib.Seq.{length-take-le, get_or-drop}
 use Rattle.lists.specs.Part.{part}
 use Rattle.lists.specs.LittleEndian.{le_bytes, le_at}
 use Rattle.lists.proofs.LittleEndianLaws.{le_at-lt, le_bytes-le_at}

@@ -1,5 +1,5 @@
 -- What `normal_form` answers and leaves, by where going through the file ended. Assumes nothing.
-use Prim.Native.Nat.{ℕ, ◌+◌, ◌-◌, ◌≤◌}
+use Prim.Native.Nat.{ℕ, ◌-◌, ◌≤◌}
 use mathlib.Core.Path.{◌≡◌, refl, sym, ap, ◌∙◌, subst}
 use mathlib.Core.Bool.{Bool, true, false}
 use mathlib.Core.List.{List, [], ◌∷◌}
@@ -18,7 +18,6 @@ use Rattle.records.specs.Kind.{is_wide}
 use Rattle.records.specs.contracts.Record.{the_type}
 use Rattle.checkpoints.specs.declared.FileSettings.{FileSettings}
 use Rattle.checkpoints.specs.declared.Scanned.{Scanned}
-use Rattle.checkpoints.specs.declared.Saved.{Saved}
 use Rattle.checkpoints.specs.declared.Saved.TheVariants as saved-of
 use Rattle.checkpoints.specs.File.{file_in}
 use Rattle.checkpoints.specs.Scan.{ScanEnd, scan_of}

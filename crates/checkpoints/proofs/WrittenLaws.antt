@@ -1,18 +1,16 @@
 -- Writing the BLOCKs that were kept, in rising order. Assumes nothing.
 use Prim.Native.Nat.{ℕ, zero, suc, ◌+◌, ◌*◌, ◌-◌, ◌^◌, ◌≤◌, ◌<◌}
 use mathlib.Core.Path.{◌≡◌, refl, sym, ap, ◌∙◌}
-use mathlib.Core.Bool.{Bool, true, false, cond}
+use mathlib.Core.Bool.{Bool, true, false}
 use mathlib.Core.Logic.{⊎_elim}
 use mathlib.Core.List.{List, [], ◌++◌, append-nil, append_assoc}
-use native.Mathlib.Nat.{le_refl, zero-add, mul-le-mul}
+use native.Mathlib.Nat.{le_refl, mul-le-mul}
 use native.Mathlib.Numerals.{add-one}
 use native.Mathlib.Omega.{arith}
-use lib.ListN.{length, take, get_or, length-append}
-use borrow.Author.Tests.{lt-ltb, ltb-true}
+use lib.ListN.{length, length-append}
+use borrow.Author.Tests.{lt-ltb}
 use borrow.Rule.Slice.PartMut.{put_mid, mid_of}
 use Rattle.lists.specs.Part.{part, put, PutDone}
-use Rattle.lists.specs.Page.{gather}
-use Rattle.lists.specs.Select.{place_in}
 use Rattle.lists.proofs.TestLaws.{by-test, eq-or-ne, join, cond-true, cond-false}
 use Rattle.lists.proofs.PartLaws.{length_part, length-put, put-done-none, put-done-more, put-done-length}
 use Rattle.lists.proofs.PageLaws.{gather_none, gather-more}
@@ -21,7 +19,6 @@ use Rattle.records.proofs.KindLaws.{width-range, page-length, commit-length}
 use Rattle.records.specs.Write.{block_record, fits_in, unit_fits, counts_fit, Written}
 use Rattle.records.proofs.FrameLaws.{length-unit, length-commit}
 use Rattle.records.proofs.WriteLaws.{written-done}
-use Rattle.marks.specs.Mark.{marked}
 use Rattle.marks.specs.Next.{NextMarked}
 use Rattle.checkpoints.specs.declared.Counts.{Counts}
 use Rattle.checkpoints.specs.Form.{pages_at, pages_length, kept_pages, kept_commit, kept_form, form_length, FormFits, Kept, keeps_block, place_of_block, kept_block, kept_blocks, BlocksFit, MarksKept}

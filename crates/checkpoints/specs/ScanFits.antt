@@ -1,7 +1,7 @@
 -- What keeping a record requires of what is kept. Assumes nothing.
 use Rattle.std.specs.Prelude.{ℕ, ◌+◌, ◌^◌, ◌≤◌, ◌<◌, List, length}
 use Rattle.records.specs.declared.Record.{Record}
-use Rattle.records.specs.Cases.{on_block, by_kind}
+use Rattle.records.specs.Cases.{by_kind}
 use Rattle.checkpoints.specs.declared.Counts.{Counts}
 use Rattle.checkpoints.specs.Scan.{slot_in}
 

@@ -6,7 +6,7 @@ use mathlib.Core.Logic.{◌⊎◌, inl, inr}
 use mathlib.Core.Bool.{Bool, true, false, cond}
 use mathlib.Core.List.{List, [], ◌∷◌, ◌++◌}
 use native.Mathlib.Omega.{arith}
-use lib.Dec.{ltb, eqb}
+use lib.Dec.{eqb}
 use lib.ListN.{length, drop, get_or, length-drop}
 use borrow.Author.Tests.{lt-ltb, le-ltb, ne_eqb, eqb-false}
 use Rattle.lists.proofs.TestLaws.{lt-or-ge}
@@ -18,7 +18,7 @@ use Rattle.records.specs.Cases.{on_found}
 use Rattle.records.specs.Read.{read_record, kind_of, used_of}
 use Rattle.records.proofs.KindLaws.{for-test, record-ge}
 use Rattle.records.proofs.ReadLaws.{is_found, on-found, found-cases, found-facts, read-facts}
-use Rattle.plates.specs.Hex.{Hex, whole, with_byte, no_digit, digit_of, hex_from, hex_digit, written}
+use Rattle.plates.specs.Hex.{whole, with_byte, no_digit, digit_of, hex_from, hex_digit, written}
 use Rattle.plates.specs.Words.{record_line, end_line, short_line, refused_line}
 use Rattle.plates.specs.Plate.{plates_from}
 use Rattle.plates.proofs.HexLaws.{digit-decimal, digit-lower}

@@ -2,11 +2,10 @@
 use Prim.Native.Nat.{ℕ, zero, suc, ◌+◌, ◌-◌, ◌≤◌, ◌<◌, min}
 use mathlib.Core.Path.{◌≡◌, refl, sym, ap, ◌∙◌}
 use mathlib.Core.Logic.{◌⊎◌, inl, inr}
-use mathlib.Core.Bool.{true, false, cond}
+use mathlib.Core.Bool.{false}
 use mathlib.Core.List.{List, [], ◌∷◌, ◌++◌, append-nil}
 use native.Mathlib.Omega.{arith}
-use lib.Dec.{leb, ltb, eqb}
-use lib.ListN.{length, take, drop, length-append, length-take}
+use lib.ListN.{length, take, length-append, length-take}
 use lib.Seq.{take_all, take-append-le, take-append-add, append_snoc}
 use borrow.Author.Tests.{le-leb, lt-leb, lt-ltb, ne_eqb, eq-eqb, eqb-true}
 use Rattle.lists.specs.Part.{part, put}
@@ -14,7 +13,7 @@ use Rattle.lists.proofs.TestLaws.{agree, lt-or-ge}
 use Rattle.lists.proofs.PartLaws.{length_part, part-zero, take-put-end}
 use Rattle.text.specs.Line.{is_empty}
 use Rattle.text.specs.Kept.{kept_all}
-use Rattle.text.specs.Feed.{Answered, KeptRight}
+use Rattle.text.specs.Feed.{KeptRight}
 use Rattle.plates.specs.declared.Fault.TheVariants.{Long}
 use Rattle.plates.specs.declared.KeptLine.{KeptLine}
 use Rattle.plates.specs.Words.{bad_line}

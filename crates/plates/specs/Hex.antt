@@ -1,5 +1,5 @@
 -- Bytes written in hexadecimal. Assumes nothing.
-use Rattle.std.specs.Prelude.{ℕ, ◌+◌, ◌-◌, ◌*◌, ◌/◌, ◌%◌, Bool, cond, List, [], ◌∷◌, ltb, eqb}
+use Rattle.std.specs.Prelude.{ℕ, ◌+◌, ◌-◌, ◌*◌, ◌/◌, ◌%◌, cond, List, [], ◌∷◌, ltb, eqb}
 use Rattle.lists.specs.Refusal.{within}
 use Rattle.text.specs.Line.{space}
 use Rattle.plates.specs.declared.Fault.{Fault}

@@ -1,6 +1,6 @@
 -- The words of `plate`: a record as its plate says, what stops the reading, the record area, a bad line. Assumes
 -- nothing.
-use Rattle.std.specs.Prelude.{ℕ, Bool, cond, List, [], ◌∷◌, ◌++◌, leb, eqb, length}
+use Rattle.std.specs.Prelude.{ℕ, cond, List, [], ◌∷◌, ◌++◌, leb, eqb, length}
 use Rattle.lists.specs.LittleEndian.{le_at}
 use Rattle.text.specs.Ascii.{ascii}
 use Rattle.text.specs.Line.{newline}

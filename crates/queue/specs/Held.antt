@@ -1,5 +1,5 @@
 -- The held packets of all ports, in one queue. Assumes nothing.
-use Rattle.std.specs.Prelude.{ℕ, ◌+◌, ◌-◌, Bool, true, ◌&&◌, List, [], ◌∷◌, leb, ltb, eqb, length, take, get_or, set, replicate}
+use Rattle.std.specs.Prelude.{ℕ, ◌+◌, ◌-◌, Bool, true, ◌&&◌, List, [], ◌∷◌, leb, ltb, eqb, take, get_or, set, replicate}
 use Rattle.lists.specs.Part.{part, put, removed, freed}
 use Rattle.lists.specs.Select.{place_of}
 use Rattle.settings.specs.Range.{most_packets, packet_length_ok, port_ok}

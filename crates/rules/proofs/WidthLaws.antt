@@ -7,7 +7,6 @@ use mathlib.Core.Bool.{false, not}
 use mathlib.Core.List.{List}
 use lib.ListN.{length}
 use Rattle.lists.specs.LittleEndian.{le_at}
-use Rattle.records.specs.declared.Reader.TheVariants as reader
 use Rattle.records.specs.declared.Record.TheVariants as record_of
 use Rattle.records.specs.Kind.{is_wide, page_kind, commit_kind, header_length, is_for}
 use Rattle.records.specs.Number.{bad_kind}

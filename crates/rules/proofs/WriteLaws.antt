@@ -9,7 +9,6 @@ use lib.Dec.{leb, eqb}
 use lib.ListN.{length, set, length-set}
 use lib.Seq.{take-suc-set}
 use borrow.Author.Tests.{leb-true, le-leb, ltb-true, lt-ltb, eqb-true, eq-eqb}
-use Rattle.lists.specs.Refusal.{test}
 use Rattle.lists.specs.Select.{NoRepeats}
 use Rattle.lists.proofs.TestLaws.{by-test, both, join, unless, or-unless, cond-true, cond-false, accepted, accepts}
 use Rattle.lists.proofs.SelectLaws.{with_number, no-repeats-with}

@@ -1,5 +1,6 @@
 // The states of both ends and the replies of their calls. What each call does is defined in specs/.
 #![tactic(auto)]
+
 use detector::Detector;
 use queue::Queue;
 use settings::{MOST_ALLOWANCE, PrimarySettings, StandbySettings};

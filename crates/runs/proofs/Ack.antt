@@ -17,7 +17,6 @@ use Rattle.records.specs.Message as message
 use Rattle.records.proofs.MessageLaws.{used-message}
 use Rattle.settings.specs.declared.Settings.{Settings}
 use Rattle.detector.specs.Tick.{reset}
-use Rattle.rules.specs.declared.Primary.{Primary}
 use Rattle.rules.specs.PrimaryState.{protected, with_acknowledged_detector}
 use Rattle.rules.specs.World as call
 use Rattle.rules.specs.Step.{Stepped}

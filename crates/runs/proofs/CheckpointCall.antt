@@ -8,7 +8,6 @@ use lib.ListN.{length, length-append}
 use lib.Seq.{drop-append-le}
 use borrow.Author.Tests.{not-true, eq-eqb}
 use Rattle.lists.specs.Part.{put}
-use Rattle.lists.proofs.TestLaws.{accepted}
 use Rattle.lists.proofs.PartLaws.{length-put}
 use Rattle.records.specs.Kind.{is_wide}
 use Rattle.records.specs.Write.{state_record, commit_record}

@@ -9,7 +9,7 @@ use native.Mathlib.Omega.{arith}
 use lib.ListN.{length, take, drop, length-append}
 use lib.Seq.{take_all, take-add, length-take-le}
 use Rattle.lists.specs.Part.{part, put}
-use Rattle.lists.specs.Page.{page, with_page, gather}
+use Rattle.lists.specs.Page.{page, with_page}
 use Rattle.lists.proofs.PartLaws.{put_same}
 use Rattle.lists.proofs.PageLaws.{page-end, gather_none, gather-more, page-with-same, length-page}
 use Rattle.sums.specs.Sum.{modulus, weighted, image_sum, page_sum, sum_over, rising}

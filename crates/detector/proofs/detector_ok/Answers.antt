@@ -1,5 +1,4 @@
 -- `detector::detector_ok` meets its contract. Assumes nothing.
-use borrow.Author.Rules.{rules}
 use Rattle.detector.specs.Range.{detector_ok}
 use Rattle.detector.proofs.detector_ok.Goals as goal
 

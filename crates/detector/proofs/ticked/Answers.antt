@@ -3,7 +3,6 @@ use mathlib.Core.Path.{◌≡◌, sym, ◌∙◌}
 use mathlib.Core.Bool.{true, false}
 use native.Mathlib.Omega.{arith}
 use borrow.Author.Tests.{le-leb, lt-leb}
-use borrow.Author.Rules.{rules}
 use Rattle.detector.specs.Tick.{expired}
 use Rattle.detector.proofs.TickLaws.{ticked-expired, ticked-counts, ticked-rests}
 use Rattle.detector.proofs.ticked.Goals as goal

@@ -1,6 +1,5 @@
 use mathlib.Core.Path.{sym, ◌∙◌}
 use native.Mathlib.Nat.{add-zero}
-use borrow.Author.Rules.{rules}
 use Rattle.link.proofs.disk_choice.Goals as goal
 
 pub returns-in-PrimaryDisk : goal.returns-in-PrimaryDisk

@@ -2,7 +2,6 @@ use mathlib.Core.Path.{◌≡◌, sym, ap, ◌∙◌}
 use mathlib.Core.List.{[], ◌∷◌}
 use Prim.Native.Nat.{ℕ}
 use native.Mathlib.Omega.{arith}
-use borrow.Author.Rules.{rules}
 use types.Run.{miss}
 use Rattle.records.specs.declared.Reader.TheVariants.{Test}
 use Rattle.records.specs.declared.Record.TheVariants.{Short}

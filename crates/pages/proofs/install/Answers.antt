@@ -1,8 +1,6 @@
-use Prim.Native.Nat.{◌-◌, ◌<◌}
 use native.Mathlib.Omega.{arith}
 use Rattle.lists.proofs.PageLaws.{page-end}
-use Rattle.marks.proofs.PlaceLaws.{Behind}
-use Rattle.pages.proofs.InstallLaws.{Installing, installing-start, installing-more, installing-end}
+use Rattle.pages.proofs.InstallLaws.{installing-start, installing-more, installing-end}
 use Rattle.pages.proofs.install.Goals as goal
 
 pub marked_from-place-requires : goal.marked_from-place-requires

@@ -1,9 +1,7 @@
 -- `pages::install` meets its contract. The loop's invariant: the marked pages below the place are installed.
 use Prim.Native.Nat.{◌-◌, ◌<◌}
-use native.Mathlib.Omega.{arith}
-use Rattle.lists.proofs.PageLaws.{page-end}
 use Rattle.marks.proofs.PlaceLaws.{Behind}
-use Rattle.pages.proofs.InstallLaws.{Installing, installing-start, installing-more, installing-end}
+use Rattle.pages.proofs.InstallLaws.{Installing}
 use Rattle.pages.proofs.install.Given as goal
 
 abbrev pub invariant-loop-place : goal.invariant-loop-place

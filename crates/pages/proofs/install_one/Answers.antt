@@ -5,7 +5,6 @@ use lib.ListN.{length}
 use Rattle.lists.specs.Part.{put}
 use Rattle.lists.specs.Page.{page, with_page}
 use Rattle.lists.proofs.PartLaws.{length_part}
-use borrow.Author.Rules.{rules}
 use Rattle.pages.proofs.install_one.Goals as goal
 
 pub copy_into-requires : goal.copy_into-requires

@@ -1,5 +1,4 @@
 -- `pages::write` meets its contract. Assumes nothing.
-use borrow.Author.Rules.{rules}
 use Rattle.pages.specs.Write.{written}
 use Rattle.pages.proofs.write.Goals as goal
 

@@ -1,6 +1,5 @@
 use mathlib.Core.Path.{◌≡◌, refl, ◌∙◌}
-use mathlib.Core.Logic.{⊎_elim}
-use Prim.Native.Nat.{◌+◌, ◌*◌, ◌-◌, ◌^◌, ◌≤◌, ◌<◌}
+use Prim.Native.Nat.{◌+◌, ◌*◌, ◌^◌, ◌≤◌, ◌<◌}
 use native.Mathlib.Omega.{arith}
 use lib.ListN.{length}
 use Rattle.lists.specs.Part.{PutDone}
@@ -8,8 +7,7 @@ use Rattle.lists.specs.Page.{page}
 use Rattle.lists.proofs.PageLaws.{page-end}
 use Rattle.records.specs.Kind.{page_kind, number_width, record_length}
 use Rattle.records.specs.Write.{page_record}
-use Rattle.marks.proofs.PlaceLaws.{Behind}
-use Rattle.pages.proofs.DirtyLaws.{Writing, writing_start, writing-room, writing_more, writing-end}
+use Rattle.pages.proofs.DirtyLaws.{writing_start, writing-room, writing_more, writing-end}
 use Rattle.pages.proofs.write_dirty.Goals as goal
 use Rattle.pages.proofs.write_dirty.Goals.{In-loop-place, Joined-wide, then-wide, else-wide}
 
@@ -46,8 +44,8 @@ one-done : (c : Joined-wide) → let a = c.args in let at = c.loop-place in
     (length c.if-wide.out ≡ length at.out) × PutDone (page_record a.wide a.epoch at.place.page (page a.u a.memory.now at.place.page)) at.out at.at c.if-wide.out c.if-wide.at
 one-done c =
     elim c.if-wide.branch [
-      then-wide w ↦ rw (w.out-is, w.at-is, w.if-wide.true) (w.write_one-at.auto.out, w.write_one-at.ensures)
-    | else-wide w ↦ rw (w.out-is, w.at-is, w.if-wide.false) (w.write_one-at-else-wide.auto.out, w.write_one-at-else-wide.ensures)
+      | then-wide w ↦ rw (w.out-is, w.at-is, w.if-wide.true) (w.write_one-at.auto.out, w.write_one-at.ensures)
+      | else-wide w ↦ rw (w.out-is, w.at-is, w.if-wide.false) (w.write_one-at-else-wide.auto.out, w.write_one-at-else-wide.ensures)
     ]
 
 pub marked_after-place-requires : goal.marked_after-place-requires

@@ -2,7 +2,6 @@ use native.Mathlib.Omega.{arith}
 use Rattle.lists.specs.Page.{page}
 use Rattle.lists.proofs.PageLaws.{length-page}
 use Rattle.pages.proofs.DirtyLaws.{length-page-record, one_written}
-use borrow.Author.Rules.{rules}
 use Rattle.pages.proofs.write_one.Goals as goal
 use Rattle.pages.proofs.write_one.Goals.{After-slice_known-2-1}
 

@@ -1,5 +1,5 @@
 -- `queue::follows` meets its contract. Assumes nothing.
-use borrow.Author.Tests.{le-leb, lt-leb, not-true, not-false}
+use borrow.Author.Tests.{le-leb, lt-leb}
 use Rattle.queue.proofs.follows.Goals as goal
 
 pub returns-then-not-ok : goal.returns-then-not-ok

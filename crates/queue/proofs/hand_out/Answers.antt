@@ -1,5 +1,4 @@
 -- `queue::hand_out` meets its contract. Assumes nothing.
-use borrow.Author.Rules.{rules}
 use native.Mathlib.Omega.{arith}
 use Rattle.lists.proofs.PartLaws.{length_part}
 use Rattle.queue.proofs.hand_out.Goals as goal

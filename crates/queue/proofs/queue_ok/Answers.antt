@@ -1,11 +1,8 @@
 use borrow.Author.Rules.{rules}
 use native.Mathlib.Omega.{arith}
-use mathlib.Core.Path.{◌≡◌, sym, ◌∙◌}
-use mathlib.Core.List.{map}
-use Prim.Native.Nat.{◌-◌}
-use lib.ListN.{length, length-map}
-use Rattle.queue.specs.contracts.Packet.{the_type}
-use Rattle.queue.proofs.SeenLaws.{Looked, looked-none, looked-next, looked-all}
+use mathlib.Core.Path.{◌≡◌, ◌∙◌}
+use lib.ListN.{length}
+use Rattle.queue.proofs.SeenLaws.{looked-none, looked-next, looked-all}
 use Rattle.queue.proofs.queue_ok.Goals as goal
 
 pub loop-i-init : goal.loop-i-init

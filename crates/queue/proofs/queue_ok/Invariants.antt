@@ -1,12 +1,6 @@
 -- `queue::queue_ok` meets its contract. The loop's invariant: what was seen is what the packets passed give. Assumes nothing.
-use borrow.Author.Rules.{rules}
-use native.Mathlib.Omega.{arith}
-use mathlib.Core.Path.{◌≡◌, sym, ◌∙◌}
-use mathlib.Core.List.{map}
 use Prim.Native.Nat.{◌-◌}
-use lib.ListN.{length, length-map}
-use Rattle.queue.specs.contracts.Packet.{the_type}
-use Rattle.queue.proofs.SeenLaws.{Looked, looked-none, looked-next, looked-all}
+use Rattle.queue.proofs.SeenLaws.{Looked}
 use Rattle.queue.proofs.queue_ok.Given as goal
 
 abbrev pub invariant-loop-i : goal.invariant-loop-i

@@ -1,5 +1,5 @@
 -- `queue::seen_ok` meets its contract. Assumes nothing.
-use borrow.Author.Tests.{le-leb, lt-leb, ne_eqb, eq-eqb, not-true, not-false}
+use borrow.Author.Tests.{le-leb, lt-leb, ne_eqb, eq-eqb}
 use Rattle.queue.specs.Seen.{seen_ok}
 use Rattle.queue.proofs.seen_ok.Goals as goal
 

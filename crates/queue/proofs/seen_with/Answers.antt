@@ -1,5 +1,4 @@
 -- `queue::seen_with` meets its contract. Assumes nothing.
-use borrow.Author.Rules.{rules}
 use native.Mathlib.Omega.{arith}
 use Rattle.queue.specs.Seen.{seen_with}
 use Rattle.queue.proofs.seen_with.Goals as goal

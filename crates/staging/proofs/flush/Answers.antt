@@ -1,5 +1,4 @@
 -- `staging::flush` meets its contract. Assumes nothing.
-use borrow.Author.Rules.{rules}
 use Rattle.staging.proofs.StoreLaws.{store-of-flush}
 use Rattle.staging.proofs.flush.Goals as goal
 

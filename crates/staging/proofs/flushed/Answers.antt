@@ -1,5 +1,4 @@
 -- `staging::flushed` meets its contract. Assumes nothing.
-use borrow.Author.Rules.{rules}
 use Rattle.lists.specs.Part.{freed}
 use Rattle.staging.specs.Slot.{flushed}
 use Rattle.staging.proofs.flushed.Goals as goal

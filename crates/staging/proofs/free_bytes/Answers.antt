@@ -1,7 +1,6 @@
 -- `staging::free_bytes` meets its contract. Assumes nothing.
 use native.Mathlib.Omega.{arith}
 use native.Mathlib.Nat.{mul-le-mul_right}
-use borrow.Author.Rules.{rules}
 use Rattle.staging.specs.Slot.{flushed_bytes}
 use Rattle.staging.proofs.free_bytes.Goals as goal
 

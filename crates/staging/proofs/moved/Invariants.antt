@@ -1,12 +1,8 @@
 -- `staging::moved` meets its contract. The loop's invariant: i of the numbers behind the first n stand at their new places. Assumes nothing.
-use mathlib.Core.Path.{◌≡◌, refl, ◌∙◌}
+use mathlib.Core.Path.{◌≡◌}
 use Prim.Native.Nat.{◌-◌, ◌≤◌}
-use native.Mathlib.Omega.{arith}
-use lib.ListN.{length, drop, length-set}
-use lib.Seq.{paste, paste-zero}
-use borrow.Author.Rules.{rules}
-use Rattle.lists.proofs.ArrayLaws.{front-turn}
-use Rattle.staging.proofs.ArrayLaws.{front-end}
+use lib.ListN.{length, drop}
+use lib.Seq.{paste}
 use Rattle.staging.proofs.moved.Given as goal
 
 abbrev pub invariant-loop-i : goal.invariant-loop-i

@@ -1,9 +1,7 @@
 use mathlib.Core.Path.{◌≡◌, refl, sym, ◌∙◌}
-use Prim.Native.Nat.{◌-◌, ◌≤◌}
 use native.Mathlib.Omega.{arith}
-use lib.ListN.{length, take, drop}
+use lib.ListN.{length}
 use borrow.Author.Rules.{rules}
-use Rattle.staging.specs.Slot.{numbers_ok}
 use Rattle.staging.proofs.SlotLaws.{below_next, below-not, below_end}
 use Rattle.staging.proofs.numbers_ok.Goals as goal
 

@@ -1,11 +1,8 @@
 -- `staging::numbers_ok` meets its contract. The loop's invariant: what the test says of the first n numbers it says of those left. Assumes nothing.
-use mathlib.Core.Path.{◌≡◌, refl, sym, ◌∙◌}
+use mathlib.Core.Path.{◌≡◌}
 use Prim.Native.Nat.{◌-◌, ◌≤◌}
-use native.Mathlib.Omega.{arith}
-use lib.ListN.{length, take, drop}
-use borrow.Author.Rules.{rules}
+use lib.ListN.{take, drop}
 use Rattle.staging.specs.Slot.{numbers_ok}
-use Rattle.staging.proofs.SlotLaws.{below_next, below-not, below_end}
 use Rattle.staging.proofs.numbers_ok.Given as goal
 
 abbrev pub invariant-loop-i : goal.invariant-loop-i

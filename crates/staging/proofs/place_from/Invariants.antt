@@ -1,13 +1,8 @@
 -- `staging::place_from` meets its contract. The loop's invariant: none of the numbers passed is n. Assumes nothing.
-use mathlib.Core.Path.{◌≡◌, refl, sym, ◌∙◌}
-use Prim.Native.Nat.{ℕ, ◌+◌, ◌-◌, ◌≤◌}
-use native.Mathlib.Omega.{arith}
-use lib.Dec.{eqb}
-use lib.ListN.{length, take, drop}
-use borrow.Author.Tests.{eq-eqb, ne_eqb}
-use borrow.Author.Rules.{rules}
+use mathlib.Core.Path.{◌≡◌}
+use Prim.Native.Nat.{◌+◌, ◌-◌, ◌≤◌}
+use lib.ListN.{take, drop}
 use Rattle.lists.specs.Select.{place_in}
-use Rattle.lists.proofs.SelectLaws.{search-passed, search-found, search-end}
 use Rattle.staging.proofs.place_from.Given as goal
 
 abbrev pub invariant-loop-i : goal.invariant-loop-i

@@ -1,5 +1,4 @@
 -- `staging::slot_for` meets its contract. Assumes nothing.
-use borrow.Author.Rules.{rules}
 use Rattle.staging.specs.Slot.{slot_for}
 use Rattle.staging.proofs.slot_for.Goals as goal
 

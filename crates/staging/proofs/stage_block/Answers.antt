@@ -1,5 +1,4 @@
 -- `staging::stage_block` meets its contract. Assumes nothing.
-use borrow.Author.Rules.{rules}
 use Rattle.lists.specs.Page.{with_page}
 use Rattle.staging.proofs.stage_block.Goals as goal
 

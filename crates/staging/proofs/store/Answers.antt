@@ -1,10 +1,7 @@
 use mathlib.Core.Path.{◌≡◌, refl, sym, ◌∙◌}
-use Prim.Native.Nat.{◌-◌, ◌≤◌}
 use native.Mathlib.Omega.{arith}
-use lib.ListN.{length}
 use borrow.Author.Rules.{rules}
 use Rattle.lists.proofs.PageLaws.{page-end}
-use Rattle.staging.specs.Slot.{stored}
 use Rattle.staging.proofs.StoreLaws.{stored-none, stored_more}
 use Rattle.staging.proofs.store.Goals as goal
 

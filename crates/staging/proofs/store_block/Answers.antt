@@ -1,7 +1,6 @@
 -- `staging::store_block` meets its contract. Assumes nothing.
 use Prim.Native.Nat.{◌*◌}
 use native.Mathlib.Omega.{arith}
-use borrow.Author.Rules.{rules}
 use Rattle.lists.specs.Page.{page, with_page}
 use Rattle.lists.proofs.PartLaws.{length_part}
 use Rattle.staging.proofs.store_block.Goals as goal

@@ -1,11 +1,8 @@
 -- `staging::zeroed` meets its contract. The loop's invariant: i entries from at on are 0. Assumes nothing.
-use mathlib.Core.Path.{◌≡◌, refl, ◌∙◌}
+use mathlib.Core.Path.{◌≡◌}
 use Prim.Native.Nat.{◌-◌, ◌≤◌}
-use native.Mathlib.Omega.{arith}
-use lib.ListN.{length, replicate, length-set}
-use lib.Seq.{paste, paste-zero}
-use borrow.Author.Rules.{rules}
-use Rattle.staging.proofs.ArrayLaws.{fill-turn, fill_end}
+use lib.ListN.{length, replicate}
+use lib.Seq.{paste}
 use Rattle.staging.proofs.zeroed.Given as goal
 
 abbrev pub invariant-loop-i : goal.invariant-loop-i

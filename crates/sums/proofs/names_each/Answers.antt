@@ -1,8 +1,6 @@
-use Prim.Native.Nat.{ℕ, ◌-◌, ◌+◌}
-use mathlib.Core.Path.{◌≡◌, sym, subst, ◌∙◌}
+use Prim.Native.Nat.{ℕ, ◌+◌}
+use mathlib.Core.Path.{sym, subst, ◌∙◌}
 use mathlib.Core.List.{List}
-use lib.ListN.{length}
-use borrow.Author.Rules.{rules}
 use Rattle.lists.proofs.TestLaws.{refuted}
 use Rattle.sums.proofs.OrderLaws.{names-facts}
 use Rattle.sums.proofs.NamedLaws.{Named, named_none, named_more, named-names, named-not}

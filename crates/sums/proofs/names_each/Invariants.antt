@@ -1,12 +1,7 @@
 -- `sums::names_each` meets its contract. Assumes nothing.
-use Prim.Native.Nat.{ℕ, ◌-◌, ◌+◌}
-use mathlib.Core.Path.{◌≡◌, sym, subst, ◌∙◌}
-use mathlib.Core.List.{List}
+use Prim.Native.Nat.{◌-◌}
 use lib.ListN.{length}
-use borrow.Author.Rules.{rules}
-use Rattle.lists.proofs.TestLaws.{refuted}
-use Rattle.sums.proofs.OrderLaws.{names-facts}
-use Rattle.sums.proofs.NamedLaws.{Named, named_none, named_more, named-names, named-not}
+use Rattle.sums.proofs.NamedLaws.{Named}
 use Rattle.sums.proofs.names_each.Given as goal
 
 abbrev pub invariant-loop-i : goal.invariant-loop-i

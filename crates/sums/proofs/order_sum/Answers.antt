@@ -1,10 +1,6 @@
-use Prim.Native.Nat.{◌-◌}
-use mathlib.Core.Path.{◌≡◌}
 use native.Mathlib.Omega.{arith}
-use lib.ListN.{length}
-use borrow.Author.Rules.{rules}
 use Rattle.sums.proofs.OrderLaws.{names-facts, names-below, below-get_d}
-use Rattle.sums.proofs.PageSumLaws.{page-lent, Summed, summed-none, summed-more, summed-all}
+use Rattle.sums.proofs.PageSumLaws.{page-lent, summed-none, summed-more, summed-all}
 use Rattle.sums.proofs.order_sum.Goals as goal
 
 pub loop-i-init : goal.loop-i-init

@@ -1,11 +1,7 @@
 -- `sums::order_sum` meets its contract. Assumes nothing.
 use Prim.Native.Nat.{◌-◌}
-use mathlib.Core.Path.{◌≡◌}
-use native.Mathlib.Omega.{arith}
 use lib.ListN.{length}
-use borrow.Author.Rules.{rules}
-use Rattle.sums.proofs.OrderLaws.{names-facts, names-below, below-get_d}
-use Rattle.sums.proofs.PageSumLaws.{page-lent, Summed, summed-none, summed-more, summed-all}
+use Rattle.sums.proofs.PageSumLaws.{Summed}
 use Rattle.sums.proofs.order_sum.Given as goal
 
 abbrev pub invariant-loop-i : goal.invariant-loop-i

@@ -1,9 +1,8 @@
 -- `sums::page_sum` meets its contract. Assumes nothing.
-use mathlib.Core.Path.{◌≡◌, ap, ◌∙◌}
+use mathlib.Core.Path.{ap, ◌∙◌}
 use native.Mathlib.Omega.{arith}
 use Prim.Native.Nat.{ℕ, ◌%◌, ◌*◌}
 use lib.ListN.{length}
-use borrow.Author.Rules.{rules}
 use Rattle.lists.specs.Page.{page}
 use Rattle.lists.proofs.PageLaws.{length-page}
 use Rattle.sums.specs.Sum.{modulus, weighted}

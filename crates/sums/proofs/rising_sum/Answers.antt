@@ -1,8 +1,6 @@
-use Prim.Native.Nat.{◌-◌, ◌≤◌}
 use mathlib.Core.Path.{◌≡◌, sym}
 use native.Mathlib.Omega.{arith}
-use borrow.Author.Rules.{rules}
-use Rattle.sums.specs.Sum.{sum_over, rising}
+use Rattle.sums.specs.Sum.{rising}
 use Rattle.sums.proofs.SumLaws.{sum_low, rising_none, rising-more}
 use Rattle.sums.proofs.PageSumLaws.{page-lent}
 use Rattle.sums.proofs.rising_sum.Goals as goal

@@ -1,11 +1,7 @@
 -- `sums::rising_sum` meets its contract. The loop's invariant: the pages below p are added. Assumes nothing.
 use Prim.Native.Nat.{◌-◌, ◌≤◌}
-use mathlib.Core.Path.{◌≡◌, sym}
-use native.Mathlib.Omega.{arith}
-use borrow.Author.Rules.{rules}
+use mathlib.Core.Path.{◌≡◌}
 use Rattle.sums.specs.Sum.{sum_over, rising}
-use Rattle.sums.proofs.SumLaws.{sum_low, rising_none, rising-more}
-use Rattle.sums.proofs.PageSumLaws.{page-lent}
 use Rattle.sums.proofs.rising_sum.Given as goal
 
 abbrev pub invariant-loop-p : goal.invariant-loop-p

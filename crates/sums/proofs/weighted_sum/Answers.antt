@@ -1,9 +1,5 @@
-use Prim.Native.Nat.{◌-◌}
-use mathlib.Core.Path.{◌≡◌}
 use native.Mathlib.Omega.{arith}
-use lib.ListN.{length}
-use borrow.Author.Rules.{rules}
-use Rattle.sums.proofs.PageSumLaws.{Added, added_none, added_more, added-all, added-fits, placed-byte}
+use Rattle.sums.proofs.PageSumLaws.{added_none, added_more, added-all, added-fits, placed-byte}
 use Rattle.sums.proofs.weighted_sum.Goals as goal
 
 pub loop-i-init : goal.loop-i-init

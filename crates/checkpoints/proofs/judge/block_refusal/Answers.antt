@@ -1,13 +1,11 @@
 -- `checkpoints::judge::block_refusal` meets its contract. Assumes nothing.
-use mathlib.Core.Path.{◌≡◌, refl, sym, ap, ◌∙◌}
+use mathlib.Core.Path.{◌≡◌, refl, sym, ◌∙◌}
 use mathlib.Core.Bool.{or-true}
-use native.Mathlib.Omega.{arith}
 use lib.Dec.{ltb}
-use lib.ListN.{length, take}
+use lib.ListN.{take}
 use lib.Seq.{length-take-le}
-use borrow.Author.Tests.{not-true, not-false, ne_eqb, eq-eqb, lt-ltb, le-ltb}
+use borrow.Author.Tests.{ne_eqb, eq-eqb, lt-ltb, le-ltb}
 use Rattle.lists.specs.Select.{is_in}
-use borrow.Author.Rules.{rules}
 use Rattle.checkpoints.proofs.judge.block_refusal.Goals as goal
 use Rattle.checkpoints.proofs.judge.block_refusal.Goals.{After-place_in}
 

@@ -1,7 +1,6 @@
 -- `checkpoints::judge::commit_refusal` meets its contract. Assumes nothing.
-use mathlib.Core.Path.{◌≡◌, sym, ◌∙◌}
-use borrow.Author.Tests.{not-true, not-false, ne_eqb, eq-eqb, lt-ltb, le-ltb, le-leb, lt-leb}
-use borrow.Author.Rules.{rules}
+use mathlib.Core.Path.{sym, ◌∙◌}
+use borrow.Author.Tests.{ne_eqb, eq-eqb}
 use Rattle.checkpoints.proofs.judge.commit_refusal.Goals as goal
 
 pub returns-then-not-is_of_epoch : goal.returns-then-not-is_of_epoch

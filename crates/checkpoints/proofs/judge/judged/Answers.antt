@@ -5,7 +5,6 @@ use Rattle.rules.proofs.ReplyLaws.{unless-refused, unless-accepted}
 use Rattle.checkpoints.specs.File.{file_reader}
 use Rattle.checkpoints.specs.Scan.{known_of}
 use Rattle.checkpoints.proofs.JudgedLaws.{judged-number}
-use borrow.Author.Rules.{rules}
 use Rattle.checkpoints.proofs.judge.judged.Goals as goal
 use Rattle.checkpoints.proofs.judge.judged.Goals.{After-read-r}
 

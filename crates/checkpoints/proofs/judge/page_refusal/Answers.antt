@@ -1,7 +1,6 @@
 -- `checkpoints::judge::page_refusal` meets its contract. Assumes nothing.
-use mathlib.Core.Path.{◌≡◌, sym, ◌∙◌}
-use borrow.Author.Tests.{not-true, not-false, ne_eqb, eq-eqb, lt-ltb, le-ltb, le-leb, lt-leb}
-use borrow.Author.Rules.{rules}
+use mathlib.Core.Path.{sym, ◌∙◌}
+use borrow.Author.Tests.{lt-ltb, le-ltb, le-leb, lt-leb}
 use Rattle.checkpoints.proofs.judge.page_refusal.Goals as goal
 
 pub returns-then-m-page : goal.returns-then-m-page

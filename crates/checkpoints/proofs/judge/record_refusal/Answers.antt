@@ -2,8 +2,6 @@
 use mathlib.Core.Path.{sym, ◌∙◌}
 use Rattle.checkpoints.specs.Scan.{known_of}
 use Rattle.checkpoints.proofs.ArmLaws.{refusal-arm}
-use borrow.Author.Rules.{rules}
-use borrow.Enum.Refused.{opened}
 use Rattle.checkpoints.proofs.judge.record_refusal.Goals as goal
 
 pub returns-in-Page : goal.returns-in-Page

@@ -1,7 +1,5 @@
 -- `checkpoints::judge::state_refusal` meets its contract. Assumes nothing.
-use mathlib.Core.Path.{◌≡◌, sym, ◌∙◌}
-use borrow.Author.Tests.{not-true, not-false, ne_eqb, eq-eqb, lt-ltb, le-ltb, le-leb, lt-leb}
-use borrow.Author.Rules.{rules}
+use mathlib.Core.Path.{sym, ◌∙◌}
 use Rattle.checkpoints.proofs.judge.state_refusal.Goals as goal
 
 pub returns-then-not-is_of_epoch : goal.returns-then-not-is_of_epoch

@@ -2,7 +2,6 @@
 use native.Mathlib.Omega.{arith}
 use Rattle.records.proofs.KindLaws.{width-range}
 use Rattle.checkpoints.proofs.WrittenLaws.{few-records, pages-most, form-is}
-use borrow.Author.Rules.{rules}
 use Rattle.checkpoints.proofs.normal.form_length.Goals as goal
 
 pub overflow_mul-blocks : goal.overflow_mul-blocks

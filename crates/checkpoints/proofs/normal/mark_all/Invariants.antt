@@ -1,13 +1,8 @@
 -- `checkpoints::normal::mark_all` meets its contract. Assumes nothing.
-use Prim.Native.Nat.{ℕ, ◌+◌, ◌-◌, ◌≤◌}
-use mathlib.Core.Path.{◌≡◌, refl, sym, ap, ◌∙◌}
-use mathlib.Core.List.{List}
-use native.Mathlib.Omega.{arith}
+use Prim.Native.Nat.{◌-◌, ◌≤◌}
+use mathlib.Core.Path.{◌≡◌}
 use lib.ListN.{length, take, drop}
-use borrow.Author.Rules.{rules}
-use Rattle.marks.proofs.MarkLaws.{length-with_mark}
 use Rattle.checkpoints.specs.Form.{marked_all}
-use Rattle.checkpoints.proofs.MarkedLaws.{marked_turn, marked-end}
 use Rattle.checkpoints.proofs.normal.mark_all.Given as goal
 
 abbrev pub invariant-loop-i : goal.invariant-loop-i

@@ -2,21 +2,17 @@
 use mathlib.Core.Path.{◌≡◌, refl, sym, ap, ◌∙◌}
 use mathlib.Core.Bool.{true, false}
 use mathlib.Core.List.{List}
-use Prim.Native.Nat.{ℕ, ◌-◌, ◌≤◌}
+use Prim.Native.Nat.{ℕ}
 use native.Mathlib.Omega.{arith}
 use lib.ListN.{length, replicate}
-use borrow.Author.Tests.{not-true, not-false}
 use Rattle.lists.specs.Part.{put}
-use Rattle.records.specs.Kind.{is_wide}
 use Rattle.checkpoints.specs.declared.Scanned.{Scanned}
 use Rattle.checkpoints.specs.Scan.{ScanEnd}
-use Rattle.checkpoints.specs.Form.{kept_of, kept_form, form_length, FormFits}
 use Rattle.checkpoints.specs.Claims.{AreBytes}
-use Rattle.checkpoints.specs.Saving.{file_settings_ok, saved}
+use Rattle.checkpoints.specs.Saving.{file_settings_ok}
 use Rattle.checkpoints.proofs.ScanLaws.{file-range}
 use Rattle.checkpoints.proofs.ScanEnds.{Committed, ScanEnds}
 use Rattle.checkpoints.proofs.NormalFormLaws.{left-refused, left-short, left-written, range-refused, scan-made, ends-short, ends-refused, ends-committed, end_refused, end-written, end-room}
-use borrow.Author.Rules.{rules}
 use borrow.Enum.Refused.{opened}
 use Rattle.checkpoints.proofs.normal.normal_form.Lts.View
 use Rattle.checkpoints.proofs.normal.normal_form.Tie

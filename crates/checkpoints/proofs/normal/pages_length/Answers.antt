@@ -2,7 +2,6 @@
 use native.Mathlib.Omega.{arith}
 use Rattle.records.proofs.KindLaws.{width-range}
 use Rattle.checkpoints.proofs.WrittenLaws.{few-records, pages-are}
-use borrow.Author.Rules.{rules}
 use Rattle.checkpoints.proofs.normal.pages_length.Goals as goal
 
 pub overflow_add-result : goal.overflow_add-result

@@ -1,10 +1,7 @@
-use mathlib.Core.Path.{◌≡◌, refl, ap, ◌∙◌}
-use Prim.Native.Nat.{◌+◌, ◌-◌, ◌≤◌, ◌<◌}
+use mathlib.Core.Path.{refl, ◌∙◌}
 use native.Mathlib.Omega.{arith}
-use lib.ListN.{length}
-use Rattle.marks.proofs.PlaceLaws.{Behind}
-use Rattle.checkpoints.specs.Form.{Kept, kept_of}
-use Rattle.checkpoints.proofs.WrittenLaws.{Writing, writing_start, writing-room, writing_more, writing-end}
+use Rattle.checkpoints.specs.Form.{kept_of}
+use Rattle.checkpoints.proofs.WrittenLaws.{writing_start, writing-room, writing_more, writing-end}
 use Rattle.checkpoints.proofs.normal.write_blocks.Goals as goal
 
 pub marked_from-place-requires : goal.marked_from-place-requires

@@ -1,12 +1,11 @@
 -- `checkpoints::normal::write_blocks` meets its contract. Assumes nothing.
 -- The loop's invariant: the blocks that came, below the place, are written.
-use mathlib.Core.Path.{◌≡◌, refl, ap, ◌∙◌}
-use Prim.Native.Nat.{◌+◌, ◌-◌, ◌≤◌, ◌<◌}
-use native.Mathlib.Omega.{arith}
+use mathlib.Core.Path.{◌≡◌}
+use Prim.Native.Nat.{◌-◌, ◌<◌}
 use lib.ListN.{length}
 use Rattle.marks.proofs.PlaceLaws.{Behind}
-use Rattle.checkpoints.specs.Form.{Kept, kept_of}
-use Rattle.checkpoints.proofs.WrittenLaws.{Writing, writing_start, writing-room, writing_more, writing-end}
+use Rattle.checkpoints.specs.Form.{kept_of}
+use Rattle.checkpoints.proofs.WrittenLaws.{Writing}
 use Rattle.checkpoints.proofs.normal.write_blocks.Given as goal
 
 abbrev pub invariant-loop-place : goal.invariant-loop-place

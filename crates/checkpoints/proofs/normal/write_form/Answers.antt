@@ -1,14 +1,12 @@
 -- `checkpoints::normal::write_form` meets its contract. Assumes nothing.
-use mathlib.Core.Path.{◌≡◌, refl, sym, ap, subst, ◌∙◌}
+use mathlib.Core.Path.{◌≡◌, sym, ap, subst, ◌∙◌}
 use mathlib.Core.List.{List}
 use Prim.Native.Nat.{ℕ, ◌*◌}
 use native.Mathlib.Omega.{arith}
-use lib.ListN.{length}
 use Rattle.lists.specs.Part.{part, put}
 use Rattle.checkpoints.specs.Form.{pages_at, kept_of, kept_pages, MarksKept}
 use Rattle.checkpoints.proofs.MarkedLaws.{marks-kept}
 use Rattle.checkpoints.proofs.WrittenLaws.{block-length, few-records, blocks-room, pages-room, form-done}
-use borrow.Author.Rules.{rules}
 use Rattle.checkpoints.proofs.normal.write_form.Goals as goal
 use Rattle.checkpoints.proofs.normal.write_form.Goals.{After-part_of}
 

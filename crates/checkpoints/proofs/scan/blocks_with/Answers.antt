@@ -1,5 +1,4 @@
 -- `checkpoints::scan::blocks_with` meets its contract. Assumes nothing.
-use borrow.Author.Rules.{rules}
 use Rattle.checkpoints.proofs.scan.blocks_with.Goals as goal
 
 pub returns : goal.returns

@@ -1,6 +1,5 @@
 -- `checkpoints::scan::count_block` meets its contract. Assumes nothing.
 use mathlib.Core.Path.{refl}
-use borrow.Author.Rules.{rules}
 use Rattle.checkpoints.proofs.scan.count_block.Goals as goal
 
 pub returns : goal.returns

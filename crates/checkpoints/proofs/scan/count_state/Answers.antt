@@ -1,6 +1,5 @@
 -- `checkpoints::scan::count_state` meets its contract. Assumes nothing.
 use mathlib.Core.Path.{refl}
-use borrow.Author.Rules.{rules}
 use Rattle.checkpoints.proofs.scan.count_state.Goals as goal
 
 pub returns : goal.returns

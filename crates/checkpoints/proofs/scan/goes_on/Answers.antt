@@ -1,6 +1,5 @@
 -- `checkpoints::scan::goes_on` meets its contract. Assumes nothing.
 use Rattle.checkpoints.proofs.ArmLaws.{goes-arm}
-use borrow.Author.Rules.{rules}
 use borrow.Enum.Refused.{opened}
 use Rattle.checkpoints.proofs.scan.goes_on.Goals as goal
 

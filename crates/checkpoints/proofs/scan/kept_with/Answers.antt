@@ -1,7 +1,6 @@
 -- `checkpoints::scan::kept_with` meets its contract. Assumes nothing.
 use mathlib.Core.Path.{refl, ◌∙◌}
 use Rattle.checkpoints.proofs.ArmLaws.{kept_arm}
-use borrow.Author.Rules.{rules}
 use borrow.Enum.Refused.{opened}
 use Rattle.checkpoints.proofs.scan.kept_with.Goals as goal
 

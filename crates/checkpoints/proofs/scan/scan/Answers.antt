@@ -1,15 +1,14 @@
-use Prim.Native.Nat.{◌+◌, ◌-◌, ◌^◌, ◌≤◌, ◌<◌}
+use Prim.Native.Nat.{◌+◌, ◌^◌, ◌≤◌, ◌<◌}
 use mathlib.Core.Path.{◌≡◌, refl, sym, ap, ◌∙◌}
 use mathlib.Core.Bool.{true, false}
 use native.Mathlib.Omega.{arith}
 use lib.ListN.{length, drop}
-use borrow.Author.Tests.{not-true, not-false}
 use borrow.Author.Rules.{rules}
 use Rattle.records.specs.Read.{used_of}
 use Rattle.checkpoints.specs.declared.Counts.{Counts}
 use Rattle.checkpoints.specs.Scan.{known_of, judged, counts_with, numbers_with, goes_on}
 use Rattle.checkpoints.specs.ScanFits.{TurnFits}
-use Rattle.checkpoints.proofs.ScanLaws.{rest-whole, Scans, scans-start, scans-end, scans-used, scans-next, turn-used, turn-fits, turn_low}
+use Rattle.checkpoints.proofs.ScanLaws.{rest-whole, scans-start, scans-end, scans-used, scans-next, turn-used, turn-fits, turn_low}
 use Rattle.checkpoints.proofs.scan.scan.Goals as goal
 use Rattle.checkpoints.proofs.scan.scan.Goals.{In-loop-g}
 

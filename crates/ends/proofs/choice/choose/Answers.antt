@@ -1,7 +1,6 @@
 use mathlib.Core.Path.{refl, sym, ◌∙◌, ap}
 use Prim.Native.Nat.{ℕ}
 use native.Mathlib.Nat.{zero-add}
-use borrow.Author.Rules.{rules}
 use Rattle.ends.proofs.choice.choose.Goals as goal
 
 pub returns-in-PrimaryDisk : goal.returns-in-PrimaryDisk

@@ -1,5 +1,4 @@
 -- `ends::start::no_standby` meets its contract. Assumes nothing.
-use borrow.Author.Rules.{rules}
 use Rattle.ends.proofs.start.no_standby.Goals as goal
 
 pub returns : goal.returns

@@ -1,6 +1,5 @@
 -- `ends::start::opened` meets its contract. Assumes nothing.
 use mathlib.Core.Path.{sym, ◌∙◌}
-use borrow.Author.Rules.{rules}
 use Rattle.rules.proofs.StartLaws.{start-accepts, start-refuses}
 use Rattle.ends.proofs.start.opened.Goals as goal
 

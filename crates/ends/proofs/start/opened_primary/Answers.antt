@@ -1,5 +1,4 @@
 -- `ends::start::opened_primary` meets its contract. Assumes nothing.
-use borrow.Author.Rules.{rules}
 use Rattle.ends.proofs.start.opened_primary.Goals as goal
 
 pub returns : goal.returns

@@ -1,10 +1,8 @@
 -- `ends::start::start_refusal` meets its contract. Assumes nothing.
 use mathlib.Core.Path.{◌≡◌, sym, ◌∙◌}
 use mathlib.Core.Bool.{true}
-use borrow.Author.Tests.{not-true, not-false}
 use Rattle.settings.specs.Range.{settings_ok}
 use Rattle.rules.specs.Start.{start_refusal}
-use borrow.Author.Rules.{rules}
 use Rattle.ends.proofs.start.start_refusal.Goals as goal
 use Rattle.ends.proofs.start.start_refusal.Goals.{Else-not-settings_ok}
 

@@ -1,7 +1,6 @@
 -- `ends::start::zero_area` meets its contract. Assumes nothing.
 use mathlib.Core.Path.{sym, ◌∙◌}
 use Rattle.lists.proofs.PartLaws.{put_whole}
-use borrow.Author.Rules.{rules}
 use Rattle.ends.proofs.start.zero_area.Goals as goal
 
 pub returns : goal.returns

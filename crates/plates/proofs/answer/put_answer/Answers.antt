@@ -1,6 +1,5 @@
 -- `plates::answer::put_answer` meets its contract. Assumes nothing.
 use native.Mathlib.Omega.{arith}
-use borrow.Author.Rules.{rules}
 use borrow.Author.Tests.{eq-eqb, ne_eqb, lt-ltb, le-ltb}
 use Rattle.text.specs.Line.{space}
 use Rattle.plates.specs.Plate.{plate_of}

@@ -1,7 +1,6 @@
 -- `plates::answer::put_area_read` meets its contract. Assumes nothing.
 use mathlib.Core.Path.{sym, ◌∙◌}
 use native.Mathlib.Omega.{arith}
-use borrow.Author.Rules.{rules}
 use Rattle.lists.proofs.PartLaws.{part-zero}
 use Rattle.plates.proofs.answer.put_area_read.Goals as goal
 

@@ -1,7 +1,6 @@
 -- `plates::answer::put_headed` meets its contract. Assumes nothing.
 use mathlib.Core.Path.{sym, ◌∙◌}
 use native.Mathlib.Omega.{arith}
-use borrow.Author.Rules.{rules}
 use Rattle.plates.proofs.AnswerLaws.{headed-part, unit_ok_lem}
 use Rattle.plates.proofs.answer.put_headed.Goals as goal
 

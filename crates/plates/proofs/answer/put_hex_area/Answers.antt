@@ -1,5 +1,4 @@
 -- `plates::answer::put_hex_area` meets its contract. Assumes nothing.
-use borrow.Author.Rules.{rules}
 use Rattle.plates.proofs.answer.put_hex_area.Goals as goal
 
 pub returns : goal.returns

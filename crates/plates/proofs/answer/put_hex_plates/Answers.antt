@@ -1,5 +1,4 @@
 -- `plates::answer::put_hex_plates` meets its contract. Assumes nothing.
-use borrow.Author.Rules.{rules}
 use Rattle.plates.proofs.answer.put_hex_plates.Goals as goal
 
 pub put_plates_read-requires : goal.put_plates_read-requires

@@ -1,6 +1,5 @@
 -- `plates::areas::put_activation` meets its contract. Assumes nothing.
 use native.Mathlib.Omega.{arith}
-use borrow.Author.Rules.{rules}
 use Rattle.text.proofs.PrintLaws.{put-text, put-within, put_then, put-end}
 use Rattle.plates.proofs.areas.put_activation.Goals as goal
 

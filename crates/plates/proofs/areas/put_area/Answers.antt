@@ -1,7 +1,5 @@
 -- `plates::areas::put_area` meets its contract. Assumes nothing.
 use native.Mathlib.Omega.{arith}
-use borrow.Author.Rules.{rules}
-use Rattle.lists.proofs.PartLaws.{put-done-none}
 use Rattle.plates.proofs.areas.put_area.Goals as goal
 
 pub returns-in-Zero : goal.returns-in-Zero

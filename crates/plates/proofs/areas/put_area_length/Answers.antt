@@ -1,6 +1,5 @@
 -- `plates::areas::put_area_length` meets its contract. Assumes nothing.
 use native.Mathlib.Omega.{arith}
-use borrow.Author.Rules.{rules}
 use Rattle.text.proofs.PrintLaws.{put-text, put-within, put_then, put-end}
 use Rattle.plates.specs.Words.{area_length_line}
 use Rattle.plates.proofs.areas.put_area_length.Goals as goal

@@ -1,5 +1,4 @@
 -- `plates::areas::put_area_output` meets its contract. Assumes nothing.
-use borrow.Author.Rules.{rules}
 use Rattle.plates.proofs.WordLaws.{area-short, area-whole}
 use Rattle.plates.proofs.areas.put_area_output.Goals as goal
 

@@ -1,7 +1,5 @@
 -- `plates::areas::put_disk` meets its contract. Assumes nothing.
 use native.Mathlib.Omega.{arith}
-use borrow.Author.Rules.{rules}
-use Rattle.lists.proofs.PartLaws.{put-done-none}
 use Rattle.plates.proofs.areas.put_disk.Goals as goal
 
 pub returns-in-PrimaryDisk : goal.returns-in-PrimaryDisk

@@ -1,6 +1,5 @@
 -- `plates::bad::put_bad` meets its contract. Assumes nothing.
 use native.Mathlib.Omega.{arith}
-use borrow.Author.Rules.{rules}
 use Rattle.text.proofs.PrintLaws.{put-text, put-within, put_then, put-end}
 use Rattle.plates.specs.Words.{bad_line}
 use Rattle.plates.proofs.bad.put_bad.Goals as goal

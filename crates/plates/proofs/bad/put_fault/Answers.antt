@@ -1,7 +1,5 @@
 -- `plates::bad::put_fault` meets its contract. Assumes nothing.
 use native.Mathlib.Omega.{arith}
-use borrow.Author.Rules.{rules}
-use Rattle.lists.proofs.PartLaws.{put-done-none}
 use Rattle.plates.proofs.bad.put_fault.Goals as goal
 
 pub returns-in-Empty : goal.returns-in-Empty

@@ -1,7 +1,5 @@
 use mathlib.Core.Path.{◌≡◌, sym, ◌∙◌}
 use mathlib.Core.Bool.{cond, ◌&&◌}
-use borrow.Author.Rules.{rules}
-use borrow.Author.Tests.{not-true, not-false}
 use Rattle.plates.specs.declared.PlateHead.TheVariants.{Unit, NotUnit, None}
 use Rattle.plates.specs.Read.{head_of}
 use Rattle.plates.proofs.HeadLaws.{head-is}

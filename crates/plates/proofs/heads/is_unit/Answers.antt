@@ -1,7 +1,5 @@
 use mathlib.Core.Path.{◌≡◌, sym, ◌∙◌}
 use mathlib.Core.Bool.{true, false}
-use borrow.Author.Rules.{rules}
-use borrow.Author.Tests.{not-true, not-false}
 use Rattle.records.specs.Kind.{most_unit}
 use Rattle.text.specs.Kept.{number_is}
 use Rattle.plates.proofs.heads.is_unit.Goals as goal

@@ -1,9 +1,9 @@
-use Prim.Native.Nat.{◌-◌, ◌≤◌, ◌<◌}
-use mathlib.Core.Path.{◌≡◌, refl, sym, ◌∙◌}
+use Prim.Native.Nat.{◌≤◌, ◌<◌}
+use mathlib.Core.Path.{refl, sym, ◌∙◌}
 use native.Mathlib.Omega.{arith}
 use native.Mathlib.Numerals.{add-one}
-use lib.ListN.{length, drop}
-use Rattle.text.specs.Kept.{kept_all, no_number, number_with}
+use lib.ListN.{length}
+use Rattle.text.specs.Kept.{number_with}
 use Rattle.text.proofs.KeptLaws.{kept_next, kept-done}
 use Rattle.plates.proofs.heads.number_of.Goals as goal
 

@@ -1,12 +1,9 @@
 -- `plates::heads::number_of` meets its contract. The loop's invariant: the rest of the word, from what is kept, gives
 -- what all of it gives.
-use Prim.Native.Nat.{◌-◌, ◌≤◌, ◌<◌}
-use mathlib.Core.Path.{◌≡◌, refl, sym, ◌∙◌}
-use native.Mathlib.Omega.{arith}
-use native.Mathlib.Numerals.{add-one}
+use Prim.Native.Nat.{◌-◌, ◌≤◌}
+use mathlib.Core.Path.{◌≡◌}
 use lib.ListN.{length, drop}
 use Rattle.text.specs.Kept.{kept_all, no_number, number_with}
-use Rattle.text.proofs.KeptLaws.{kept_next, kept-done}
 use Rattle.plates.proofs.heads.number_of.Given as goal
 
 abbrev pub invariant-loop-i : goal.invariant-loop-i

@@ -1,6 +1,5 @@
 use mathlib.Core.Path.{sym}
 use native.Mathlib.Omega.{arith}
-use borrow.Author.Rules.{rules}
 use Rattle.plates.proofs.HexLaws.{digit-decimal, digit-lower, digit-upper, digit-none}
 use Rattle.plates.proofs.hex.digit_of.Goals as goal
 

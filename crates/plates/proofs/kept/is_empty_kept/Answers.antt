@@ -1,4 +1,3 @@
-use borrow.Author.Rules.{rules}
 use Rattle.plates.proofs.kept.is_empty_kept.Goals as goal
 
 pub returns : goal.returns

@@ -1,6 +1,5 @@
 -- `plates::lines::put_epoch` meets its contract. Assumes nothing.
 use native.Mathlib.Omega.{arith}
-use borrow.Author.Rules.{rules}
 use Rattle.text.proofs.PrintLaws.{put-text, put-within, put_then, put-end}
 use Rattle.plates.proofs.lines.put_epoch.Goals as goal
 

@@ -1,6 +1,5 @@
 -- `plates::lines::put_fields` meets its contract. Assumes nothing.
 use native.Mathlib.Omega.{arith}
-use borrow.Author.Rules.{rules}
 use Rattle.lists.proofs.PartLaws.{put-done-none}
 use Rattle.plates.proofs.lines.put_fields.Goals as goal
 

@@ -1,6 +1,5 @@
 -- `plates::lines::put_record` meets its contract. Assumes nothing.
 use native.Mathlib.Omega.{arith}
-use borrow.Author.Rules.{rules}
 use Rattle.text.proofs.PrintLaws.{put-text, put-within, put_then, put-end}
 use Rattle.plates.specs.Words.{record_line}
 use Rattle.plates.proofs.lines.put_record.Goals as goal

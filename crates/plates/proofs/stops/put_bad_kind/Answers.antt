@@ -1,6 +1,5 @@
 -- `plates::stops::put_bad_kind` meets its contract. Assumes nothing.
 use native.Mathlib.Omega.{arith}
-use borrow.Author.Rules.{rules}
 use Rattle.text.proofs.PrintLaws.{put-text, put-within, put_then, put-end}
 use Rattle.plates.proofs.stops.put_bad_kind.Goals as goal
 

@@ -1,6 +1,5 @@
 -- `plates::stops::put_end` meets its contract. Assumes nothing.
 use native.Mathlib.Omega.{arith}
-use borrow.Author.Rules.{rules}
 use Rattle.text.proofs.PrintLaws.{put-text, put-within, put_then, put-end}
 use Rattle.plates.specs.Words.{end_line}
 use Rattle.plates.proofs.stops.put_end.Goals as goal

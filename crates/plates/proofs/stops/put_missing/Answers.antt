@@ -1,6 +1,5 @@
 -- `plates::stops::put_missing` meets its contract. Assumes nothing.
 use native.Mathlib.Omega.{arith}
-use borrow.Author.Rules.{rules}
 use borrow.Author.Tests.{lt-leb, le-leb}
 use Rattle.plates.proofs.stops.put_missing.Goals as goal
 

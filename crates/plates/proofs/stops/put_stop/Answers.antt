@@ -1,6 +1,5 @@
 -- `plates::stops::put_stop` meets its contract. Assumes nothing.
 use mathlib.Core.Path.{sym, ◌∙◌}
-use borrow.Author.Rules.{rules}
 use Rattle.records.specs.declared.Reader.TheVariants.{Test}
 use Rattle.records.proofs.ReadLaws.{found-arm}
 use Rattle.plates.proofs.PlateLaws.{stop-end, stop-short, stop-refused, refused-header, found_none}

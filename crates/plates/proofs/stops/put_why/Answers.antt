@@ -1,5 +1,4 @@
 -- `plates::stops::put_why` meets its contract. Assumes nothing.
-use borrow.Author.Rules.{rules}
 use borrow.Author.Tests.{eq-eqb, ne_eqb}
 use Rattle.plates.proofs.stops.put_why.Goals as goal
 

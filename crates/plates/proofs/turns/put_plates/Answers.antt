@@ -1,9 +1,7 @@
-use Prim.Native.Nat.{◌-◌}
 use mathlib.Core.Path.{sym, ap, ◌∙◌}
 use native.Mathlib.Omega.{arith}
-use lib.ListN.{length}
 use Rattle.records.specs.Read.{used_of}
-use Rattle.plates.proofs.PlateLaws.{Turned, turned-first, turned-within, turned-length, turned-room, turned-again, turned-ends}
+use Rattle.plates.proofs.PlateLaws.{turned-first, turned-within, turned-length, turned-room, turned-again, turned-ends}
 use Rattle.plates.proofs.turns.put_plates.Goals as goal
 
 pub record_at-first-requires : goal.record_at-first-requires

@@ -1,11 +1,8 @@
 -- `plates::turns::put_plates` meets its contract. The loop's invariant: what is printed so far, in front of what the
 -- bytes from the place on give, is what all of them give.
 use Prim.Native.Nat.{◌-◌}
-use mathlib.Core.Path.{sym, ap, ◌∙◌}
-use native.Mathlib.Omega.{arith}
 use lib.ListN.{length}
-use Rattle.records.specs.Read.{used_of}
-use Rattle.plates.proofs.PlateLaws.{Turned, turned-first, turned-within, turned-length, turned-room, turned-again, turned-ends}
+use Rattle.plates.proofs.PlateLaws.{Turned}
 use Rattle.plates.proofs.turns.put_plates.Given as goal
 
 abbrev pub invariant-loop-used : goal.invariant-loop-used

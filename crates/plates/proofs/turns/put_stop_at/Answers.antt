@@ -1,5 +1,4 @@
 -- `plates::turns::put_stop_at` meets its contract. Assumes nothing.
-use borrow.Author.Rules.{rules}
 use Rattle.plates.proofs.PlateLaws.{lent-rest}
 use Rattle.plates.proofs.turns.put_stop_at.Goals as goal
 

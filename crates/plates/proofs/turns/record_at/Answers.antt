@@ -1,6 +1,5 @@
 -- `plates::turns::record_at` meets its contract. Assumes nothing.
 use mathlib.Core.Path.{ap, ◌∙◌}
-use borrow.Author.Rules.{rules}
 use Rattle.records.specs.declared.Reader.TheVariants.{Test}
 use Rattle.records.specs.Read.{read_record}
 use Rattle.plates.proofs.PlateLaws.{lent-rest}
