@@ -2,9 +2,9 @@
 // answer is one word.
 #![tactic(auto)]
 
-mod pair_calls;
-mod primary_calls;
+pub mod pair_calls;
+pub mod primary_calls;
 mod primary_words;
-mod standby_calls;
+pub mod standby_calls;
 mod standby_words;
 pub mod word;

@@ -53,8 +53,7 @@ fn settings_of(w: &[u64]) -> Settings
 }
 
 // Start, lent every buffer of both ends, in the order of tests/calls/FORM.md, and room for the two states.
-#[unsafe(no_mangle)]
-pub extern "C" fn pair_start(
+pub fn pair_start(
     settings: &[u64],
     first: &[u8; 64],
     memory: &[u8],
@@ -91,8 +90,7 @@ pub extern "C" fn pair_start(
 }
 
 // The disk choice.
-#[unsafe(no_mangle)]
-pub extern "C" fn pair_disk_choice(primary: &[u8], standby: &[u8], area: &[u8]) -> u64
+pub fn pair_disk_choice(primary: &[u8], standby: &[u8], area: &[u8]) -> u64
     ensures { result ≡ choice_word (choice_of (length primary.now) (length standby.now) area.now) }
 {
     let choice = decide(primary.len(), standby.len(), area);
@@ -127,8 +125,7 @@ fn page_sum_refusal(u: usize, image: usize, page: usize) -> u64
 }
 
 // A page's own part of a sum.
-#[unsafe(no_mangle)]
-pub extern "C" fn pair_page_sum(image: &[u8], u: usize, page: usize) -> u64
+pub fn pair_page_sum(image: &[u8], u: usize, page: usize) -> u64
     ensures { result ≡ page_sum_word u image.now page }
 {
     let number = page_sum_refusal(u, image.len(), page);

@@ -7,8 +7,7 @@ use records::number;
 use settings::MOST_ALLOWANCE;
 
 // Memory write: bytes inside one page, which becomes dirty.
-#[unsafe(no_mangle)]
-pub extern "C" fn primary_memory_write(
+pub fn primary_memory_write(
     state: &mut [u64],
     memory: &mut [u8],
     dirty: &mut [u64],
@@ -29,8 +28,7 @@ pub extern "C" fn primary_memory_write(
 }
 
 // Disk write: one block.
-#[unsafe(no_mangle)]
-pub extern "C" fn primary_disk_write(
+pub fn primary_disk_write(
     state: &mut [u64],
     disk: &mut [u8],
     stream: &mut [u8],
@@ -52,13 +50,7 @@ pub extern "C" fn primary_disk_write(
 }
 
 // Packet: held with the open epoch and a port.
-#[unsafe(no_mangle)]
-pub extern "C" fn primary_packet(
-    state: &mut [u64],
-    held: &mut [u8],
-    port: usize,
-    bytes: &[u8],
-) -> u64
+pub fn primary_packet(state: &mut [u64], held: &mut [u8], port: usize, bytes: &[u8]) -> u64
     ensures { PacketDone state.old held.old port bytes.now result state.new held.new }
 {
     if !primary_words::words_ok(state) {
@@ -74,8 +66,7 @@ pub extern "C" fn primary_packet(
 }
 
 // Checkpoint: every dirty page, STATE and COMMIT go to the stream, and the next epoch is open.
-#[unsafe(no_mangle)]
-pub extern "C" fn primary_checkpoint(
+pub fn primary_checkpoint(
     state: &mut [u64],
     memory: &[u8],
     dirty: &mut [u64],
@@ -96,13 +87,7 @@ pub extern "C" fn primary_checkpoint(
 }
 
 // Drain: the head of the stream moves to the destination.
-#[unsafe(no_mangle)]
-pub extern "C" fn primary_drain(
-    state: &mut [u64],
-    stream: &mut [u8],
-    n: usize,
-    destination: &mut [u8],
-) -> u64
+pub fn primary_drain(state: &mut [u64], stream: &mut [u8], n: usize, destination: &mut [u8]) -> u64
     ensures { DrainDone state.old stream.old n destination.old result state.new stream.new destination.new }
 {
     if !primary_words::words_ok(state) {
@@ -116,8 +101,7 @@ pub extern "C" fn primary_drain(
 }
 
 // ACK: reads one.
-#[unsafe(no_mangle)]
-pub extern "C" fn primary_acknowledge(state: &mut [u64], bytes: &[u8]) -> u64
+pub fn primary_acknowledge(state: &mut [u64], bytes: &[u8]) -> u64
     ensures { AckDone state.old bytes.now result state.new }
 {
     if !primary_words::words_ok(state) {
@@ -132,13 +116,7 @@ pub extern "C" fn primary_acknowledge(state: &mut [u64], bytes: &[u8]) -> u64
 }
 
 // Take: a port's oldest packet, if it is free to go.
-#[unsafe(no_mangle)]
-pub extern "C" fn primary_take(
-    state: &mut [u64],
-    held: &mut [u8],
-    port: usize,
-    destination: &mut [u8],
-) -> u64
+pub fn primary_take(state: &mut [u64], held: &mut [u8], port: usize, destination: &mut [u8]) -> u64
     ensures { TakeDone state.old held.old port destination.old result state.new held.new destination.new }
 {
     if !primary_words::words_ok(state) {
@@ -152,8 +130,7 @@ pub extern "C" fn primary_take(
 }
 
 // Tick.
-#[unsafe(no_mangle)]
-pub extern "C" fn primary_tick(state: &mut [u64]) -> u64
+pub fn primary_tick(state: &mut [u64]) -> u64
     ensures { PrimaryTickDone state.old result state.new }
 {
     if !primary_words::words_ok(state) {
@@ -167,8 +144,7 @@ pub extern "C" fn primary_tick(state: &mut [u64]) -> u64
 }
 
 // Sum: of the memory, pages in rising order.
-#[unsafe(no_mangle)]
-pub extern "C" fn primary_sum(state: &[u64], memory: &[u8]) -> u64
+pub fn primary_sum(state: &[u64], memory: &[u8]) -> u64
     ensures { PrimarySumDone state.now memory.now result }
 {
     if !primary_words::words_ok(state) {

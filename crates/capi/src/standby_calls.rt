@@ -6,8 +6,7 @@ use crate::{standby_words, word};
 use records::number;
 
 // Read: at most one record of the stream.
-#[unsafe(no_mangle)]
-pub extern "C" fn standby_read(
+pub fn standby_read(
     state: &mut [u64],
     pending: &mut [u8; 64],
     processor: &mut [u8; 64],
@@ -32,8 +31,7 @@ pub extern "C" fn standby_read(
 }
 
 // Flush: stores blocks that are due.
-#[unsafe(no_mangle)]
-pub extern "C" fn standby_flush(
+pub fn standby_flush(
     state: &mut [u64],
     pending: &mut [u8; 64],
     processor: &mut [u8; 64],
@@ -54,8 +52,7 @@ pub extern "C" fn standby_flush(
 }
 
 // Tick.
-#[unsafe(no_mangle)]
-pub extern "C" fn standby_tick(
+pub fn standby_tick(
     state: &mut [u64],
     pending: &mut [u8; 64],
     processor: &mut [u8; 64],
@@ -74,8 +71,7 @@ pub extern "C" fn standby_tick(
 }
 
 // Activation: writes the record, and the standby is active.
-#[unsafe(no_mangle)]
-pub extern "C" fn standby_activate(
+pub fn standby_activate(
     state: &mut [u64],
     pending: &mut [u8; 64],
     processor: &mut [u8; 64],
@@ -94,8 +90,7 @@ pub extern "C" fn standby_activate(
 }
 
 // Memory write of the guest, once the standby is active.
-#[unsafe(no_mangle)]
-pub extern "C" fn standby_memory_write(
+pub fn standby_memory_write(
     state: &mut [u64],
     pending: &mut [u8; 64],
     processor: &mut [u8; 64],
@@ -117,8 +112,7 @@ pub extern "C" fn standby_memory_write(
 }
 
 // Disk write of the guest, once the standby is active.
-#[unsafe(no_mangle)]
-pub extern "C" fn standby_disk_write(
+pub fn standby_disk_write(
     state: &mut [u64],
     pending: &mut [u8; 64],
     processor: &mut [u8; 64],
@@ -139,8 +133,7 @@ pub extern "C" fn standby_disk_write(
 }
 
 // Sum: of the memory, pages in the order that is lent.
-#[unsafe(no_mangle)]
-pub extern "C" fn standby_sum(
+pub fn standby_sum(
     state: &[u64],
     pending: &[u8; 64],
     processor: &[u8; 64],
