@@ -1,6 +1,7 @@
 // The program `trial`: reads settings and then ticks on standard input, to its end or to the end of the trial, and prints what
 // each line gives and last the most ticks.
 #![tactic(auto)]
+
 ghost use Rattle.std.specs.Prelude.{◌≡◌, false, [], ◌∷◌, ◌+◌, ◌-◌, ◌≤◌, ◌<◌, length};
 ghost use Rattle.lists.specs.Part.{part, PutDone};
 ghost use Rattle.text.specs.Line.{newline};
