@@ -1,5 +1,5 @@
 -- What each command does: the two ends at the settings of `pair`, and their link. Assumes nothing.
-use Rattle.std.specs.Prelude.{ℕ, ◌+◌, ◌-◌, ◌*◌, min, Bool, true, false, cond, ◌&&◌, List, [], ◌∷◌, eqb, length, replicate}
+use Rattle.std.specs.Prelude.{ℕ, ◌+◌, ◌-◌, ◌*◌, min, Bool, true, false, cond, ◌&&◌, [], ◌∷◌, eqb, length, replicate}
 use Rattle.std.proofs.lemmas.List.{length-replicate}
 use Rattle.lists.specs.LittleEndian.{le_at}
 use Rattle.text.specs.Line.{is_empty}

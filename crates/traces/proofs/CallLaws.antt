@@ -9,7 +9,6 @@ use lib.ListN.{length, get_or, take, drop, replicate}
 use lib.Seq.{split_at}
 use borrow.Author.Tests.{ltb-true, eqb-true}
 use Rattle.lists.specs.Part.{put}
-use Rattle.lists.proofs.TestLaws.{both}
 use Rattle.text.specs.Line.{is_empty}
 use Rattle.records.specs.Number.{out_of_range, nothing_free}
 use Rattle.rules.specs.World.{World, Call}

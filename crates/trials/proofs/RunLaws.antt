@@ -32,7 +32,7 @@ use Rattle.runs.proofs.Conclusions.{standby-right}
 use Rattle.runs.proofs.TakeoverCalls.{taken-over}
 use Rattle.trials.specs.Trial.{Trial, with_world, with_tick, with_sent, with_taken}
 use Rattle.trials.specs.Trial as course
-use Rattle.trials.specs.Part.{Made, must_note, must, quiet, each}
+use Rattle.trials.specs.Part.{Made, must_note, must, quiet}
 use Rattle.trials.specs.Tick.{taken_over, takeover, took_over}
 use Rattle.trials.specs.Waits.{OnPackets, sends, takes, neither, on_packets, is_packet, is_take, accepted_in}
 use Rattle.trials.specs.Runs.{calls_of}

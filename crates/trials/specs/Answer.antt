@@ -2,7 +2,6 @@
 use Rattle.std.specs.Prelude.{ℕ, ◌≤◌, ◌≡◌, length, take}
 use Rattle.text.specs.Feed.{Answered}
 use Rattle.trials.specs.declared.TrialAnswer.{TrialAnswer}
-use Rattle.script.specs.Output.{printed}
 use Rattle.trials.specs.Output.{Stage}
 use Rattle.trials.specs.Site.{stage_of}
 

@@ -1,6 +1,5 @@
 -- `pair_calls::pair_disk_choice` meets its contract. Assumes nothing.
 use mathlib.Core.Path.{sym, ◌∙◌}
-use borrow.Author.Rules.{rules}
 use Rattle.capi.proofs.pair_calls.pair_disk_choice.Goals as goal
 
 pub returns-in-PrimaryDisk : goal.returns-in-PrimaryDisk

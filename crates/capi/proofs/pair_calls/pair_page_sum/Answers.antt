@@ -2,7 +2,6 @@
 use mathlib.Core.Path.{◌≡◌, sym, ap, ◌∙◌}
 use Prim.Native.Nat.{ℕ}
 use lib.ListN.{length}
-use borrow.Author.Rules.{rules}
 use Rattle.lists.proofs.TestLaws.{pick-refused}
 use Rattle.capi.specs.Word.{reply_word}
 use Rattle.capi.specs.PairCalls.{page_sum_refusal, page_sum_word}

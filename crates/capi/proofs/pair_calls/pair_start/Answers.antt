@@ -1,10 +1,8 @@
 -- `pair_calls::pair_start` meets its contract. Assumes nothing.
 use mathlib.Core.Path.{◌≡◌, sym, ◌∙◌}
 use mathlib.Core.Bool.{true, false}
-use borrow.Author.Tests.{not-true, not-false}
 use Rattle.capi.specs.PairCalls.{start_words_ok}
 use Rattle.capi.proofs.DoneLaws.{leaves-old, primary-old, standby-old, leaves-new, primary-new, standby-new, start-many}
-use borrow.Author.Rules.{rules}
 use Rattle.capi.proofs.pair_calls.pair_start.Goals as goal
 use Rattle.capi.proofs.pair_calls.pair_start.Goals.{Else-not-start_ok, Then-not-start_ok}
 

@@ -1,6 +1,5 @@
 -- `pair_calls::settings_of` meets its contract. Assumes nothing.
 use Rattle.capi.specs.PairCalls.{settings_of}
-use borrow.Author.Rules.{rules}
 use Rattle.capi.proofs.pair_calls.settings_of.Goals as goal
 
 pub returns : goal.returns

@@ -1,8 +1,6 @@
 -- `primary_calls::primary_sum` meets its contract. Assumes nothing.
 use mathlib.Core.Path.{◌≡◌, sym, ◌∙◌}
 use mathlib.Core.Bool.{true, false}
-use borrow.Author.Tests.{not-true, not-false}
-use borrow.Author.Rules.{rules}
 use Rattle.lists.proofs.TestLaws.{cond-true, cond-false}
 use Rattle.capi.specs.PrimaryWords.{primary_words_ok}
 use Rattle.capi.proofs.primary_calls.primary_sum.Goals as goal

@@ -1,11 +1,9 @@
 -- `primary_calls::primary_take` meets its contract. Assumes nothing.
 use mathlib.Core.Path.{◌≡◌, sym, ◌∙◌}
 use mathlib.Core.Bool.{true, false}
-use borrow.Author.Tests.{not-true, not-false}
 use Rattle.capi.specs.PrimaryWords.{primary_words_ok}
 use Rattle.capi.proofs.PrimaryWordLaws.{primary-many}
 use Rattle.capi.proofs.DoneLaws.{leaves-old, primary-old, leaves-new, primary-new}
-use borrow.Author.Rules.{rules}
 use Rattle.capi.proofs.primary_calls.primary_take.Goals as goal
 use Rattle.capi.proofs.primary_calls.primary_take.Goals.{Else-not-words_ok, Then-not-words_ok}
 

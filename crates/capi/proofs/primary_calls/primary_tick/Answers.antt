@@ -1,13 +1,11 @@
 -- `primary_calls::primary_tick` meets its contract. Assumes nothing.
 use mathlib.Core.Path.{◌≡◌, sym, ap, ◌∙◌}
 use mathlib.Core.Bool.{true, false}
-use borrow.Author.Tests.{not-true, not-false}
 use Rattle.capi.specs.PrimaryWords.{primary_words_ok}
 use Rattle.capi.proofs.PrimaryWordLaws.{primary-many}
 use Rattle.rules.proofs.QueueLaws.{tick-kept}
 use Rattle.capi.proofs.KeptLaws.{kept-stores}
 use Rattle.capi.proofs.DoneLaws.{primary-old, primary-new}
-use borrow.Author.Rules.{rules}
 use Rattle.capi.proofs.primary_calls.primary_tick.Goals as goal
 use Rattle.capi.proofs.primary_calls.primary_tick.Goals.{Else-not-words_ok, Then-not-words_ok}
 

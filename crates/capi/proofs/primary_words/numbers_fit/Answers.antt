@@ -1,13 +1,12 @@
-use Prim.Native.Nat.{ℕ, ◌+◌, ◌-◌, ◌≤◌}
-use mathlib.Core.Path.{◌≡◌, refl, sym, ap, ◌∙◌}
+use Prim.Native.Nat.{ℕ, ◌+◌}
+use mathlib.Core.Path.{refl, sym, ap, ◌∙◌}
 use mathlib.Core.List.{List}
 use mathlib.Core.Bool.{Bool, ◌&&◌, and_assoc}
 use native.Mathlib.Omega.{arith}
 use lib.ListN.{get_or}
 use Rattle.capi.specs.Word.{fits16, all_fit16, most16, between}
-use Rattle.capi.specs.PrimaryWords.{written_at, written_in, primary_length}
+use Rattle.capi.specs.PrimaryWords.{written_at, primary_length}
 use Rattle.capi.proofs.WordLaws.{fits_more, fits-end, fits_or, test-end, between-all}
-use borrow.Author.Rules.{rules}
 use Rattle.capi.proofs.primary_words.numbers_fit.Goals as goal
 
 pub loop-i-init : goal.loop-i-init

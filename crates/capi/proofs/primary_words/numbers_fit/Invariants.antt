@@ -1,15 +1,10 @@
 -- `primary_words::numbers_fit` meets its contract. The loop's invariant: the bits of the numbers passed and the test of
 -- the rest. Assumes nothing.
-use Prim.Native.Nat.{ℕ, ◌+◌, ◌-◌, ◌≤◌}
-use mathlib.Core.Path.{◌≡◌, refl, sym, ap, ◌∙◌}
-use mathlib.Core.List.{List}
-use mathlib.Core.Bool.{Bool, ◌&&◌, and_assoc}
-use native.Mathlib.Omega.{arith}
-use lib.ListN.{get_or}
-use Rattle.capi.specs.Word.{fits16, all_fit16, most16, between}
+use Prim.Native.Nat.{◌-◌, ◌≤◌}
+use mathlib.Core.Path.{◌≡◌}
+use mathlib.Core.Bool.{◌&&◌}
+use Rattle.capi.specs.Word.{fits16, all_fit16, between}
 use Rattle.capi.specs.PrimaryWords.{written_at, written_in, primary_length}
-use Rattle.capi.proofs.WordLaws.{fits_more, fits-end, fits_or, test-end, between-all}
-use borrow.Author.Rules.{rules}
 use Rattle.capi.proofs.primary_words.numbers_fit.Given as goal
 
 abbrev pub invariant-loop-i : goal.invariant-loop-i

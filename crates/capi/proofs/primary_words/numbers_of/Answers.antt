@@ -1,11 +1,11 @@
-use Prim.Native.Nat.{ℕ, ◌-◌, ◌≤◌}
+use Prim.Native.Nat.{ℕ}
 use mathlib.Core.Path.{◌≡◌, refl, ◌∙◌}
 use mathlib.Core.List.{List}
 use native.Mathlib.Omega.{arith}
-use lib.ListN.{length, take}
+use lib.ListN.{length}
 use lib.Seq.{take_all}
 use Rattle.lists.specs.Part.{part}
-use Rattle.capi.specs.PrimaryWords.{primary_length, written_at, written_in, primary_of}
+use Rattle.capi.specs.PrimaryWords.{written_at, written_in, primary_of}
 use Rattle.capi.proofs.WordLaws.{part-turn, part_end}
 use Rattle.capi.proofs.PrimaryWordLaws.{primary-many, numbers-many, written-field}
 use borrow.Author.Rules.{rules}

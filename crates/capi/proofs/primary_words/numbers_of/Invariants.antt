@@ -1,15 +1,9 @@
 -- `primary_words::numbers_of` meets its contract. The loop's invariant: the numbers read. Assumes nothing.
-use Prim.Native.Nat.{ℕ, ◌-◌, ◌≤◌}
-use mathlib.Core.Path.{◌≡◌, refl, ◌∙◌}
-use mathlib.Core.List.{List}
-use native.Mathlib.Omega.{arith}
+use Prim.Native.Nat.{◌-◌, ◌≤◌}
+use mathlib.Core.Path.{◌≡◌}
 use lib.ListN.{length, take}
-use lib.Seq.{take_all}
 use Rattle.lists.specs.Part.{part}
-use Rattle.capi.specs.PrimaryWords.{primary_length, written_at, written_in, primary_of}
-use Rattle.capi.proofs.WordLaws.{part-turn, part_end}
-use Rattle.capi.proofs.PrimaryWordLaws.{primary-many, numbers-many, written-field}
-use borrow.Author.Rules.{rules}
+use Rattle.capi.specs.PrimaryWords.{primary_length, written_at}
 use Rattle.capi.proofs.primary_words.numbers_of.Given as goal
 
 abbrev pub invariant-loop-i : goal.invariant-loop-i

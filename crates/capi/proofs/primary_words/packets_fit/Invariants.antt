@@ -1,16 +1,10 @@
 -- `primary_words::packets_fit` meets its contract. The loop's invariant: the bits of the packets passed and the test of
 -- the rest. Assumes nothing.
-use Prim.Native.Nat.{ℕ, ◌+◌, ◌*◌, ◌-◌, ◌≤◌}
-use mathlib.Core.Path.{◌≡◌, refl, sym, ap, ◌∙◌}
-use mathlib.Core.List.{List}
-use mathlib.Core.Bool.{Bool, true, false, ◌&&◌}
-use native.Mathlib.Omega.{arith}
-use lib.ListN.{get_or}
-use Rattle.capi.specs.Word.{fits32, fits16, most32, most16, between}
+use Prim.Native.Nat.{◌+◌, ◌*◌, ◌-◌, ◌≤◌}
+use mathlib.Core.Path.{◌≡◌}
+use mathlib.Core.Bool.{◌&&◌}
+use Rattle.capi.specs.Word.{fits32, fits16, between}
 use Rattle.capi.specs.PrimaryWords.{packets_fit, packets_at, written_at, packets_in}
-use Rattle.capi.proofs.WordLaws.{fits_or, test-end}
-use Rattle.capi.proofs.PrimaryWordLaws.{packets-fit-more, packets-fit-end}
-use borrow.Author.Rules.{rules}
 use Rattle.capi.proofs.primary_words.packets_fit.Given as goal
 
 abbrev pub invariant-loop-i : goal.invariant-loop-i

@@ -1,11 +1,8 @@
-use Prim.Native.Nat.{ℕ, ◌+◌, ◌*◌, ◌-◌, ◌≤◌}
+use Prim.Native.Nat.{ℕ, ◌+◌, ◌*◌}
 use mathlib.Core.Path.{◌≡◌, refl, sym}
-use mathlib.Core.List.{List, ◌++◌}
-use mathlib.Core.Bool.{true}
+use mathlib.Core.List.{List}
 use native.Mathlib.Omega.{arith}
-use lib.ListN.{length, take}
-use Rattle.capi.specs.Word.{between}
-use Rattle.capi.specs.PrimaryWords.{primary_length, packets_at, written_at, packets_in, packets_fit, packets_of}
+use Rattle.capi.specs.PrimaryWords.{packets_at, written_at}
 use Rattle.capi.proofs.PrimaryWordLaws.{primary-word-facts, packet-fields, packet-cons, read_more, read_all}
 use borrow.Author.Rules.{rules}
 use Rattle.capi.proofs.primary_words.packets_of.Goals as goal

@@ -1,15 +1,12 @@
 -- `primary_words::packets_of` meets its contract. The loop's invariant: the packets read, and the rest, which fit their
 -- fields. Assumes nothing.
-use Prim.Native.Nat.{ℕ, ◌+◌, ◌*◌, ◌-◌, ◌≤◌}
-use mathlib.Core.Path.{◌≡◌, refl, sym}
-use mathlib.Core.List.{List, ◌++◌}
+use Prim.Native.Nat.{◌+◌, ◌*◌, ◌-◌, ◌≤◌}
+use mathlib.Core.Path.{◌≡◌}
+use mathlib.Core.List.{◌++◌}
 use mathlib.Core.Bool.{true}
-use native.Mathlib.Omega.{arith}
 use lib.ListN.{length, take}
 use Rattle.capi.specs.Word.{between}
 use Rattle.capi.specs.PrimaryWords.{primary_length, packets_at, written_at, packets_in, packets_fit, packets_of}
-use Rattle.capi.proofs.PrimaryWordLaws.{primary-word-facts, packet-fields, packet-cons, read_more, read_all}
-use borrow.Author.Rules.{rules}
 use Rattle.capi.proofs.primary_words.packets_of.Given as goal
 
 abbrev pub invariant-loop-i : goal.invariant-loop-i

@@ -2,7 +2,6 @@
 use native.Mathlib.Omega.{arith}
 use Rattle.capi.specs.PrimaryWords.{primary_of}
 use Rattle.capi.proofs.PrimaryWordLaws.{primary-many, primary-field}
-use borrow.Author.Rules.{rules}
 use Rattle.capi.proofs.primary_words.primary_of.Goals as goal
 
 pub bounds-w-0 : goal.bounds-w-0

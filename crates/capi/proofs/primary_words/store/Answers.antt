@@ -1,10 +1,9 @@
 -- `primary_words::store` meets its contract. Assumes nothing.
 use Prim.Native.Nat.{ℕ}
-use mathlib.Core.Path.{◌≡◌, sym, ap, ◌∙◌}
-use mathlib.Core.List.{List, map}
-use lib.ListN.{length, length-map}
+use mathlib.Core.Path.{◌≡◌, ap, ◌∙◌}
+use mathlib.Core.List.{List}
+use lib.ListN.{length}
 use Rattle.lists.specs.Part.{put}
-use Rattle.queue.specs.contracts.Packet.{the_type}
 use Rattle.capi.specs.PrimaryWords.{packets_at, written_at, packet_words, primary_words}
 use Rattle.capi.proofs.PrimaryWordLaws.{store-all, primary-words-ok, primary-again}
 use borrow.Author.Rules.{rules}

@@ -1,19 +1,12 @@
 -- `primary_words::store_numbers` meets its contract. The loop's invariant: the numbers passed are stored. That they
 -- fit, their type gives. Assumes nothing.
-use Prim.Native.Nat.{ℕ, ◌+◌, ◌-◌, ◌≤◌}
-use mathlib.Core.Path.{◌≡◌, sym, ap, ◌∙◌}
-use mathlib.Core.List.{List}
+use Prim.Native.Nat.{◌-◌, ◌≤◌}
+use mathlib.Core.Path.{◌≡◌}
 use mathlib.Core.Bool.{true}
-use native.Mathlib.Omega.{arith}
-use lib.ListN.{length, take, set, get_or, length-set}
-use lib.Seq.{take_all}
-use mir.Syntax.{w16}
-use mir.Val.{Fits}
+use lib.ListN.{length, take}
 use Rattle.lists.specs.Part.{put}
-use Rattle.capi.specs.Word.{most16, all_fit16}
+use Rattle.capi.specs.Word.{all_fit16}
 use Rattle.capi.specs.PrimaryWords.{primary_length, written_at}
-use Rattle.capi.proofs.WordLaws.{fits-none, fits-take-more, store-turn, store-none, store-end}
-use borrow.Author.Rules.{rules}
 use Rattle.capi.proofs.primary_words.store_numbers.Given as goal
 
 abbrev pub invariant-loop-i : goal.invariant-loop-i

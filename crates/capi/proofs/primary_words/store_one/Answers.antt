@@ -1,16 +1,15 @@
 -- `primary_words::store_one` meets its contract. Assumes nothing.
 use Prim.Native.Nat.{ℕ, ◌+◌, ◌*◌}
-use mathlib.Core.Path.{◌≡◌, sym, ap, ◌∙◌}
+use mathlib.Core.Path.{◌≡◌, ap, ◌∙◌}
 use mathlib.Core.Bool.{true}
-use mathlib.Core.List.{List, [], ◌∷◌, map}
+use mathlib.Core.List.{List, [], ◌∷◌}
 use native.Mathlib.Omega.{arith}
-use lib.ListN.{length, get_or, set, length-map, length-set}
+use lib.ListN.{length, get_or, set, length-set}
 use mir.Syntax.{w16}
 use mir.Val.{Fits}
 use Rattle.lists.specs.Part.{put}
 use Rattle.queue.specs.Held.{packet_at}
 use Rattle.queue.specs.declared.Packet.{Packet}
-use Rattle.queue.specs.contracts.Packet.{the_type}
 use Rattle.capi.specs.Word.{all_fit16}
 use Rattle.capi.specs.PrimaryWords.{packets_at, written_at, packets_fit, packet_words, primary_words}
 use Rattle.capi.proofs.PrimaryWordLaws.{store-one, fits_one, fits-number, primary-words-ok, primary-again}

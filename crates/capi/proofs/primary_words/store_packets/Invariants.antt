@@ -1,19 +1,11 @@
 -- `primary_words::store_packets` meets its contract. The loop's invariant: the packets passed are stored.
 -- Assumes nothing.
-use Prim.Native.Nat.{ℕ, ◌+◌, ◌*◌, ◌-◌, ◌≤◌}
-use mathlib.Core.Path.{◌≡◌, refl, sym, ap, ◌∙◌}
-use mathlib.Core.List.{List, [], ◌∷◌}
+use Prim.Native.Nat.{◌-◌, ◌≤◌}
+use mathlib.Core.Path.{◌≡◌}
 use mathlib.Core.Bool.{true}
-use native.Mathlib.Omega.{arith}
-use lib.ListN.{length, take, get_or}
-use lib.Seq.{take_all}
+use lib.ListN.{length, take}
 use Rattle.lists.specs.Part.{put}
-use Rattle.lists.proofs.PartLaws.{put-none, length-put}
-use Rattle.queue.specs.declared.Packet.{Packet}
-use Rattle.queue.specs.Held.{no_packet}
 use Rattle.capi.specs.PrimaryWords.{packet_words, packets_at, packets_fit, primary_length}
-use Rattle.capi.proofs.PrimaryWordLaws.{length-packet_words, store-more, fits-packets-more}
-use borrow.Author.Rules.{rules}
 use Rattle.capi.proofs.primary_words.store_packets.Given as goal
 
 abbrev pub invariant-loop-i : goal.invariant-loop-i

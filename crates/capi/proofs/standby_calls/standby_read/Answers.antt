@@ -1,11 +1,9 @@
 -- `standby_calls::standby_read` meets its contract. Assumes nothing.
 use mathlib.Core.Path.{◌≡◌, sym, ◌∙◌}
 use mathlib.Core.Bool.{true, false}
-use borrow.Author.Tests.{not-true, not-false}
 use Rattle.capi.specs.StandbyWords.{standby_words_ok}
 use Rattle.capi.proofs.StandbyWordLaws.{standby-many}
 use Rattle.capi.proofs.DoneLaws.{leaves-old, standby-old, leaves-new, standby-new}
-use borrow.Author.Rules.{rules}
 use Rattle.capi.proofs.standby_calls.standby_read.Goals as goal
 use Rattle.capi.proofs.standby_calls.standby_read.Goals.{Else-not-words_ok, Then-not-words_ok}
 

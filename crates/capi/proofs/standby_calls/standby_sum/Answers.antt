@@ -1,8 +1,6 @@
 -- `standby_calls::standby_sum` meets its contract. Assumes nothing.
 use mathlib.Core.Path.{◌≡◌, sym, ◌∙◌}
 use mathlib.Core.Bool.{true, false}
-use borrow.Author.Tests.{not-true, not-false}
-use borrow.Author.Rules.{rules}
 use Rattle.lists.proofs.TestLaws.{cond-true, cond-false}
 use Rattle.capi.specs.StandbyWords.{standby_words_ok}
 use Rattle.capi.proofs.standby_calls.standby_sum.Goals as goal

@@ -1,5 +1,4 @@
 use Rattle.capi.specs.StandbyWords.{last_words}
-use borrow.Author.Rules.{rules}
 use Rattle.capi.proofs.standby_words.last_words.Goals as goal
 
 pub returns : goal.returns

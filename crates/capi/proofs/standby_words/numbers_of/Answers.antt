@@ -1,9 +1,7 @@
-use Prim.Native.Nat.{ℕ, ◌≤◌, ◌-◌}
+use Prim.Native.Nat.{ℕ}
 use mathlib.Core.Path.{◌≡◌, refl}
 use mathlib.Core.List.{List}
-use lib.ListN.{length, take}
 use native.Mathlib.Omega.{arith}
-use Rattle.lists.specs.Part.{part}
 use Rattle.capi.proofs.WordLaws.{part-turn, part_end}
 use borrow.Author.Rules.{rules}
 use Rattle.capi.proofs.standby_words.numbers_of.Goals as goal

@@ -1,11 +1,7 @@
-use Prim.Native.Nat.{ℕ, ◌≤◌, ◌-◌}
-use mathlib.Core.Path.{◌≡◌, refl}
-use mathlib.Core.List.{List}
+use Prim.Native.Nat.{◌≤◌, ◌-◌}
+use mathlib.Core.Path.{◌≡◌}
 use lib.ListN.{length, take}
-use native.Mathlib.Omega.{arith}
 use Rattle.lists.specs.Part.{part}
-use Rattle.capi.proofs.WordLaws.{part-turn, part_end}
-use borrow.Author.Rules.{rules}
 use Rattle.capi.proofs.standby_words.numbers_of.Given as goal
 
 abbrev pub invariant-loop-i : goal.invariant-loop-i

@@ -2,7 +2,6 @@
 use native.Mathlib.Omega.{arith}
 use Rattle.capi.specs.StandbyWords.{standby_of}
 use Rattle.capi.proofs.StandbyWordLaws.{standby-many, standby-word-facts, ticks-field}
-use borrow.Author.Rules.{rules}
 use Rattle.capi.proofs.standby_words.standby_of.Goals as goal
 
 pub bounds-w-0 : goal.bounds-w-0

@@ -1,9 +1,8 @@
-use Prim.Native.Nat.{ℕ, ◌+◌, ◌≤◌, ◌-◌}
+use Prim.Native.Nat.{ℕ, ◌+◌}
 use mathlib.Core.Path.{◌≡◌, sym, ap, ◌∙◌}
 use mathlib.Core.List.{List}
-use lib.ListN.{length, take, set, get_or, length-set}
+use lib.ListN.{length, set, get_or, length-set}
 use native.Mathlib.Omega.{arith}
-use Rattle.lists.specs.Part.{put}
 use Rattle.capi.specs.StandbyWords.{standby_length}
 use Rattle.capi.proofs.WordLaws.{store-turn, store-none, store-end}
 use borrow.Author.Rules.{rules}

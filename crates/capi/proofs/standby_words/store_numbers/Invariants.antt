@@ -1,12 +1,8 @@
-use Prim.Native.Nat.{ℕ, ◌+◌, ◌≤◌, ◌-◌}
-use mathlib.Core.Path.{◌≡◌, sym, ap, ◌∙◌}
-use mathlib.Core.List.{List}
-use lib.ListN.{length, take, set, get_or, length-set}
-use native.Mathlib.Omega.{arith}
+use Prim.Native.Nat.{◌≤◌, ◌-◌}
+use mathlib.Core.Path.{◌≡◌}
+use lib.ListN.{length, take}
 use Rattle.lists.specs.Part.{put}
 use Rattle.capi.specs.StandbyWords.{standby_length}
-use Rattle.capi.proofs.WordLaws.{store-turn, store-none, store-end}
-use borrow.Author.Rules.{rules}
 use Rattle.capi.proofs.standby_words.store_numbers.Given as goal
 
 abbrev pub invariant-loop-i : goal.invariant-loop-i

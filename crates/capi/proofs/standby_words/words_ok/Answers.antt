@@ -1,7 +1,6 @@
 -- `standby_words::words_ok` meets its contract. Assumes nothing.
 use borrow.Author.Tests.{eq-eqb, ne_eqb}
 use Rattle.capi.specs.StandbyWords.{standby_words_ok}
-use borrow.Author.Rules.{rules}
 use Rattle.capi.proofs.standby_words.words_ok.Goals as goal
 
 pub returns-then-w-ne-LENGTH : goal.returns-then-w-ne-LENGTH

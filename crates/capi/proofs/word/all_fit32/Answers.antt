@@ -1,11 +1,10 @@
-use Prim.Native.Nat.{◌+◌, ◌-◌, ◌≤◌}
-use mathlib.Core.Path.{◌≡◌, refl, sym, ap, ◌∙◌}
+use Prim.Native.Nat.{◌+◌}
+use mathlib.Core.Path.{refl, sym, ap, ◌∙◌}
 use mathlib.Core.Bool.{Bool, ◌&&◌, and_assoc}
 use native.Mathlib.Omega.{arith}
 use lib.ListN.{get_or}
 use Rattle.capi.specs.Word.{most32, fits32, all_fit32, between}
 use Rattle.capi.proofs.WordLaws.{fits_more, fits-end, test-end}
-use borrow.Author.Rules.{rules}
 use Rattle.capi.proofs.word.all_fit32.Goals as goal
 
 pub loop-i-init : goal.loop-i-init

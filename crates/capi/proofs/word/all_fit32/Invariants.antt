@@ -1,13 +1,9 @@
 -- `word::all_fit32` meets its contract. The loop's invariant: the words passed and the test of the rest.
 -- Assumes nothing.
-use Prim.Native.Nat.{◌+◌, ◌-◌, ◌≤◌}
-use mathlib.Core.Path.{◌≡◌, refl, sym, ap, ◌∙◌}
-use mathlib.Core.Bool.{Bool, ◌&&◌, and_assoc}
-use native.Mathlib.Omega.{arith}
-use lib.ListN.{get_or}
-use Rattle.capi.specs.Word.{most32, fits32, all_fit32, between}
-use Rattle.capi.proofs.WordLaws.{fits_more, fits-end, test-end}
-use borrow.Author.Rules.{rules}
+use Prim.Native.Nat.{◌-◌, ◌≤◌}
+use mathlib.Core.Path.{◌≡◌}
+use mathlib.Core.Bool.{◌&&◌}
+use Rattle.capi.specs.Word.{all_fit32, between}
 use Rattle.capi.proofs.word.all_fit32.Given as goal
 
 abbrev pub invariant-loop-i : goal.invariant-loop-i

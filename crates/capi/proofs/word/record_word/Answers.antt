@@ -1,5 +1,4 @@
 -- `word::record_word` meets its contract. Assumes nothing.
-use borrow.Author.Rules.{rules}
 use Rattle.capi.proofs.word.record_word.Goals as goal
 
 pub returns-in-Accepted : goal.returns-in-Accepted

@@ -1,11 +1,9 @@
-use Prim.Native.Nat.{ℕ, ◌+◌, ◌≤◌, ◌-◌}
-use mathlib.Core.Path.{◌≡◌, refl, ap, ◌∙◌}
+use Prim.Native.Nat.{ℕ, ◌+◌}
+use mathlib.Core.Path.{refl, ap, ◌∙◌}
 use mathlib.Core.List.{List}
-use lib.ListN.{length, take, set, get_or, length-set}
+use lib.ListN.{set, get_or, length-set}
 use native.Mathlib.Omega.{arith}
-use Rattle.lists.specs.Part.{put}
 use Rattle.capi.proofs.WordLaws.{store-turn, store-none, store-end}
-use borrow.Author.Rules.{rules}
 use Rattle.capi.proofs.word.store_at.Goals as goal
 
 pub loop-i-init : goal.loop-i-init

@@ -1,11 +1,7 @@
-use Prim.Native.Nat.{ℕ, ◌+◌, ◌≤◌, ◌-◌}
-use mathlib.Core.Path.{◌≡◌, refl, ap, ◌∙◌}
-use mathlib.Core.List.{List}
-use lib.ListN.{length, take, set, get_or, length-set}
-use native.Mathlib.Omega.{arith}
+use Prim.Native.Nat.{◌≤◌, ◌-◌}
+use mathlib.Core.Path.{◌≡◌}
+use lib.ListN.{length, take}
 use Rattle.lists.specs.Part.{put}
-use Rattle.capi.proofs.WordLaws.{store-turn, store-none, store-end}
-use borrow.Author.Rules.{rules}
 use Rattle.capi.proofs.word.store_at.Given as goal
 
 abbrev pub invariant-loop-i : goal.invariant-loop-i

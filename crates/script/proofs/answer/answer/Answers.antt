@@ -1,6 +1,5 @@
 -- `script::answer::answer` meets its contract. Assumes nothing.
 use mathlib.Core.Path.{refl}
-use borrow.Author.Rules.{rules}
 use Rattle.script.specs.Site.{world_of}
 use Rattle.script.proofs.AnswerLaws.{answer-is}
 use Rattle.script.proofs.answer.answer.Goals as goal

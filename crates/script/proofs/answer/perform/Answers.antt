@@ -1,5 +1,4 @@
 -- `script::answer::perform` meets its contract. Assumes nothing.
-use borrow.Author.Rules.{rules}
 use Rattle.script.specs.Pair.{perform}
 use Rattle.script.proofs.answer.perform.Goals as goal
 

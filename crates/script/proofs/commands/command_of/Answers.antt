@@ -1,5 +1,4 @@
 -- `script::commands::command_of` meets its contract: the definition computes at each count of words. Assumes nothing.
-use borrow.Author.Rules.{rules}
 use borrow.Author.Tests.{ne_eqb}
 use Rattle.lists.proofs.TestLaws.{and-false}
 use Rattle.script.specs.Command.{command_of_line}

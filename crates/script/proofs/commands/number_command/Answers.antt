@@ -1,6 +1,5 @@
 -- `script::commands::number_command` meets its contract: the definition computes at each letter. Assumes nothing.
-use borrow.Author.Rules.{rules}
-use borrow.Author.Tests.{ne_eqb, not-true, not-false}
+use borrow.Author.Tests.{ne_eqb}
 use mathlib.Core.Path.{sym, ◌∙◌}
 use Rattle.script.specs.Command.{command_of_line}
 use Rattle.script.proofs.CommandLaws.{byte_fits}

@@ -1,8 +1,7 @@
 -- `script::commands::pair_command` meets its contract: the definition computes at each letter. Assumes nothing.
 use mathlib.Core.Path.{◌≡◌, sym, ◌∙◌}
 use mathlib.Core.Bool.{true}
-use borrow.Author.Rules.{rules}
-use borrow.Author.Tests.{ne_eqb, not-true, not-false}
+use borrow.Author.Tests.{ne_eqb}
 use Rattle.lists.proofs.TestLaws.{and-false}
 use Rattle.text.specs.Decimal.{most_number}
 use Rattle.text.specs.Kept.{number_is}

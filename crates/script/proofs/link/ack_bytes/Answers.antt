@@ -3,7 +3,6 @@ use mathlib.Core.Path.{refl, ◌∙◌}
 use mathlib.Core.Bool.{true}
 use native.Mathlib.Omega.{arith}
 use lib.ListN.{replicate}
-use borrow.Author.Rules.{rules}
 use Rattle.lists.proofs.PartLaws.{put_whole}
 use Rattle.records.specs.Kind.{ACK}
 use Rattle.records.specs.Write.{ack_record}

@@ -1,7 +1,6 @@
 -- `script::link::acknowledge` meets its contract. Assumes nothing.
 use mathlib.Core.Path.{sym, ap, ◌∙◌}
 use native.Mathlib.Omega.{arith}
-use borrow.Author.Rules.{rules}
 use Rattle.lists.proofs.TestLaws.{cond-true, cond-false}
 use Rattle.text.specs.Line.{is_empty}
 use Rattle.script.specs.Pair.{perform, acknowledge_done}

@@ -1,5 +1,4 @@
 -- `script::link::after_ack` meets its contract. Assumes nothing.
-use borrow.Author.Rules.{rules}
 use borrow.Author.Tests.{eq-eqb, ne_eqb}
 use Rattle.script.proofs.link.after_ack.Goals as goal
 

@@ -1,5 +1,4 @@
 -- `script::link::answered` meets its contract. Assumes nothing.
-use borrow.Author.Rules.{rules}
 use Rattle.script.proofs.link.answered.Goals as goal
 
 pub returns : goal.returns

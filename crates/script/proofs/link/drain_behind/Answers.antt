@@ -1,5 +1,4 @@
 -- `script::link::drain_behind` meets its contract. Assumes nothing.
-use borrow.Author.Rules.{rules}
 use Rattle.script.proofs.LinkLaws.{drain-behind}
 use Rattle.script.proofs.link.drain_behind.Goals as goal
 

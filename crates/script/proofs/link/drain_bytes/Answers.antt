@@ -2,7 +2,6 @@
 use mathlib.Core.Path.{◌≡◌, sym}
 use native.Mathlib.Omega.{arith}
 use lib.ListN.{length}
-use borrow.Author.Rules.{rules}
 use Rattle.script.proofs.LinkLaws.{drain-fits, drain-bytes}
 use Rattle.script.proofs.SiteLaws.{lengths}
 use Rattle.script.proofs.link.drain_bytes.Goals as goal

@@ -2,7 +2,6 @@
 use mathlib.Core.Path.{◌≡◌, sym, ◌∙◌}
 use native.Mathlib.Omega.{arith}
 use lib.ListN.{length}
-use borrow.Author.Rules.{rules}
 use Rattle.lists.proofs.TestLaws.{cond-false}
 use Rattle.script.specs.Site.{world_of}
 use Rattle.script.proofs.LinkLaws.{full-link, drain-record}

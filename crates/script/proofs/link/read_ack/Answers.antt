@@ -1,7 +1,6 @@
 -- `script::link::read_ack` meets its contract. Assumes nothing.
 use mathlib.Core.Path.{◌≡◌, sym, ap, ◌∙◌}
 use native.Mathlib.Omega.{arith}
-use borrow.Author.Rules.{rules}
 use Rattle.records.specs.Write.{ack_record}
 use Rattle.rules.specs.Stream.{ack_reply}
 use Rattle.script.proofs.LinkLaws.{ack-done}

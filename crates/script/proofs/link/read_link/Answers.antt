@@ -1,9 +1,8 @@
 -- `script::link::read_link` meets its contract. Assumes nothing.
-use Prim.Native.Nat.{ℕ, ◌≤◌}
+use Prim.Native.Nat.{◌≤◌}
 use mathlib.Core.Path.{◌≡◌, sym, ◌∙◌}
 use native.Mathlib.Omega.{arith}
 use lib.ListN.{length}
-use borrow.Author.Rules.{rules}
 use Rattle.script.proofs.LinkLaws.{used_low, read_done}
 use Rattle.script.proofs.SiteLaws.{lengths}
 use Rattle.script.proofs.link.read_link.Goals as goal

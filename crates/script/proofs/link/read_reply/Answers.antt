@@ -1,5 +1,4 @@
 -- `script::link::read_reply` meets its contract. Assumes nothing.
-use borrow.Author.Rules.{rules}
 use Rattle.records.specs.Kind.{body_length, record_length}
 use Rattle.script.proofs.LinkLaws.{box_read, box-reply}
 use Rattle.script.proofs.link.read_reply.Goals as goal

@@ -2,7 +2,6 @@
 use mathlib.Core.Path.{sym, ap}
 use native.Mathlib.Omega.{arith}
 use lib.ListN.{length}
-use borrow.Author.Rules.{rules}
 use Rattle.script.specs.Site.{world_of}
 use Rattle.script.proofs.SiteLaws.{received-low}
 use Rattle.script.proofs.AckLaws.{acks-none, length-between}

@@ -1,5 +1,4 @@
 -- `script::primary_commands::primary_tick` meets its contract. Assumes nothing.
-use borrow.Author.Rules.{rules}
 use Rattle.rules.specs.Step.{step}
 use Rattle.script.specs.Site.{world_of}
 use Rattle.script.proofs.primary_commands.primary_tick.Goals as goal

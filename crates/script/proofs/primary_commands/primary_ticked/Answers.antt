@@ -1,5 +1,4 @@
 -- `script::primary_commands::primary_ticked` meets its contract. Assumes nothing.
-use borrow.Author.Rules.{rules}
 use mathlib.Core.Path.{ap}
 use Rattle.script.specs.Pair.{Done}
 use Rattle.script.proofs.primary_commands.primary_ticked.Goals as goal

@@ -1,5 +1,4 @@
 -- `script::primary_commands::replied` meets its contract. Assumes nothing.
-use borrow.Author.Rules.{rules}
 use Rattle.script.proofs.primary_commands.replied.Goals as goal
 
 pub returns : goal.returns

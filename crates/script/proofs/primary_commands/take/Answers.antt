@@ -1,5 +1,4 @@
 -- `script::primary_commands::take` meets its contract. Assumes nothing.
-use borrow.Author.Rules.{rules}
 use Rattle.rules.specs.Step.{step}
 use Rattle.script.specs.Pair.{perform}
 use Rattle.script.specs.Site.{world_of}

@@ -1,5 +1,4 @@
 -- `script::printing::print` meets its contract. Assumes nothing.
-use borrow.Author.Rules.{rules}
 use Rattle.script.proofs.PrintLaws.{printed-put}
 use Rattle.script.proofs.printing.print.Goals as goal
 

@@ -1,5 +1,4 @@
 -- `script::sites::started_with` meets its contract. Assumes nothing.
-use borrow.Author.Rules.{rules}
 use mathlib.Core.Path.{ap, ◌∙◌}
 use Rattle.rules.specs.declared.Started.{Started}
 use Rattle.rules.specs.Start.{started}

@@ -1,5 +1,4 @@
 -- `script::standby_commands::activated` meets its contract. Assumes nothing.
-use borrow.Author.Rules.{rules}
 use mathlib.Core.Path.{refl}
 use Rattle.rules.specs.Step.{step}
 use Rattle.script.specs.Site.{world_of}

@@ -1,5 +1,4 @@
 -- `script::standby_commands::flush` meets its contract. Assumes nothing.
-use borrow.Author.Rules.{rules}
 use Rattle.script.specs.Pair.{perform}
 use Rattle.script.proofs.standby_commands.flush.Goals as goal
 

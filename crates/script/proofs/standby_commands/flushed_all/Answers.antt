@@ -1,5 +1,4 @@
 -- `script::standby_commands::flushed_all` meets its contract. Assumes nothing.
-use borrow.Author.Rules.{rules}
 use mathlib.Core.Path.{ap}
 use Rattle.script.specs.Pair.{Done}
 use Rattle.script.specs.Site.{world_of}

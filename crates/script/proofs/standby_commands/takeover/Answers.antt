@@ -1,5 +1,4 @@
 -- `script::standby_commands::takeover` meets its contract. Assumes nothing.
-use borrow.Author.Rules.{rules}
 use Rattle.script.specs.Pair.{perform, takeover_done}
 use Rattle.script.proofs.standby_commands.takeover.Goals as goal
 

@@ -1,5 +1,4 @@
 -- `script::standby_commands::ticked` meets its contract. Assumes nothing.
-use borrow.Author.Rules.{rules}
 use Rattle.rules.specs.Step.{step}
 use Rattle.script.specs.Site.{world_of}
 use Rattle.script.proofs.SiteLaws.{lengths, tick-received}

@@ -1,6 +1,5 @@
 -- `traces::answer::answer` meets its contract. Assumes nothing.
 use mathlib.Core.Path.{refl}
-use borrow.Author.Rules.{rules}
 use Rattle.traces.proofs.AnswerLaws.{answer-is}
 use Rattle.traces.proofs.answer.answer.Goals as goal
 

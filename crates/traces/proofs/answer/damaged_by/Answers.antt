@@ -1,5 +1,4 @@
 -- `traces::answer::damaged_by` meets its contract. Assumes nothing.
-use borrow.Author.Rules.{rules}
 use Rattle.traces.proofs.answer.damaged_by.Goals as goal
 
 pub returns-then-damaged : goal.returns-then-damaged

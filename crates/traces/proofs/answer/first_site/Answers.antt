@@ -1,5 +1,4 @@
 -- `traces::answer::first_site` meets its contract. Assumes nothing.
-use borrow.Author.Rules.{rules}
 use Rattle.traces.proofs.AnswerLaws.{first-is}
 use Rattle.traces.proofs.answer.first_site.Goals as goal
 

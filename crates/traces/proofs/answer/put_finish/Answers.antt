@@ -1,6 +1,5 @@
 -- `traces::answer::put_finish` meets its contract. Assumes nothing.
 use native.Mathlib.Omega.{arith}
-use borrow.Author.Rules.{rules}
 use Rattle.lists.proofs.PartLaws.{put-done-none}
 use Rattle.traces.proofs.answer.put_finish.Goals as goal
 

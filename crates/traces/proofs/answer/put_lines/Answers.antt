@@ -1,5 +1,4 @@
 -- `traces::answer::put_lines` meets its contract. Assumes nothing.
-use borrow.Author.Rules.{rules}
 use Rattle.text.proofs.PrintLaws.{put-within, put_then, put-end}
 use Rattle.traces.proofs.answer.put_lines.Goals as goal
 

@@ -1,5 +1,4 @@
 -- `traces::commands::is_damage` meets its contract. Assumes nothing.
-use borrow.Author.Rules.{rules}
 use Rattle.traces.proofs.commands.is_damage.Goals as goal
 
 pub returns-in-Pair : goal.returns-in-Pair

@@ -1,5 +1,4 @@
 -- `traces::commands::perform` meets its contract. Assumes nothing.
-use borrow.Author.Rules.{rules}
 use Rattle.traces.specs.Command.{traced}
 use Rattle.traces.proofs.commands.perform.Goals as goal
 

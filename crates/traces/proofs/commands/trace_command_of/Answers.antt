@@ -1,7 +1,6 @@
 -- `traces::commands::trace_command_of` meets its contract. Assumes nothing.
 use mathlib.Core.Path.{sym, ◌∙◌}
 use mathlib.Core.Bool.{◌&&◌}
-use borrow.Author.Rules.{rules}
 use Rattle.lists.proofs.TestLaws.{both}
 use Rattle.script.proofs.CommandLaws.{byte_fits}
 use Rattle.traces.specs.Command.{trace_command_of_line}

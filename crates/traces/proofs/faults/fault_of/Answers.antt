@@ -1,7 +1,6 @@
 -- `traces::faults::fault_of` meets its contract. Assumes nothing.
 use mathlib.Core.Path.{◌≡◌, sym, ◌∙◌}
 use mathlib.Core.Bool.{false}
-use borrow.Author.Rules.{rules}
 use borrow.Author.Tests.{eq-eqb, ne_eqb}
 use Rattle.text.specs.Kept.{is_empty_line}
 use Rattle.traces.specs.Fault.{fault_of}

@@ -1,5 +1,4 @@
 -- `traces::faults::is_letter` meets its contract. Assumes nothing.
-use borrow.Author.Rules.{rules}
 use Rattle.traces.specs.Fault.{is_letter}
 use Rattle.traces.proofs.faults.is_letter.Goals as goal
 

@@ -1,8 +1,7 @@
 -- `traces::faults::number_fault` meets its contract. Assumes nothing.
 use mathlib.Core.Path.{◌≡◌, sym, ◌∙◌}
 use mathlib.Core.Bool.{true}
-use borrow.Author.Rules.{rules}
-use borrow.Author.Tests.{not-true, not-false, lt-ltb, le-ltb}
+use borrow.Author.Tests.{lt-ltb, le-ltb}
 use Rattle.traces.specs.Fault.{in_digits}
 use Rattle.traces.proofs.faults.number_fault.Goals as goal
 use Rattle.traces.proofs.faults.number_fault.Goals.{Else-not-in_digits}

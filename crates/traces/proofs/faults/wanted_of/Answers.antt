@@ -1,7 +1,6 @@
 -- `traces::faults::wanted_of` meets its contract. Assumes nothing.
 use mathlib.Core.Path.{sym, ◌∙◌}
 use native.Mathlib.Omega.{arith}
-use borrow.Author.Rules.{rules}
 use Rattle.traces.specs.Fault.{wanted_of}
 use Rattle.traces.proofs.faults.wanted_of.Goals as goal
 

@@ -1,5 +1,4 @@
 -- `traces::kept::no_trace_line` meets its contract. Assumes nothing.
-use borrow.Author.Rules.{rules}
 use Rattle.traces.proofs.kept.no_trace_line.Goals as goal
 
 pub returns : goal.returns

@@ -1,6 +1,5 @@
 -- `traces::kept::trace_line_with_all` meets its contract. Assumes nothing.
 use native.Mathlib.Omega.{arith}
-use borrow.Author.Rules.{rules}
 use Rattle.traces.proofs.KeptLaws.{none_kept, some-kept}
 use Rattle.traces.proofs.kept.trace_line_with_all.Goals as goal
 

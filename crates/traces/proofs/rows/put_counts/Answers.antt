@@ -1,6 +1,5 @@
 -- `traces::rows::put_counts` meets its contract. Assumes nothing.
 use mathlib.Core.Path.{sym, ◌∙◌}
-use borrow.Author.Rules.{rules}
 use Rattle.script.proofs.LinkLaws.{length-link}
 use Rattle.script.proofs.SiteLaws.{lengths}
 use Rattle.traces.proofs.RowLaws.{counts-put}

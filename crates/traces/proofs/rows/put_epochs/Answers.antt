@@ -1,6 +1,5 @@
 -- `traces::rows::put_epochs` meets its contract. Assumes nothing.
 use native.Mathlib.Omega.{arith}
-use borrow.Author.Rules.{rules}
 use Rattle.text.proofs.PrintLaws.{put-within, put_then, put-end}
 use Rattle.script.specs.Site.{world_of}
 use Rattle.script.proofs.SiteLaws.{received-low}

@@ -1,5 +1,4 @@
 -- `traces::rows::put_five` meets its contract. Assumes nothing.
-use borrow.Author.Rules.{rules}
 use Rattle.text.proofs.PrintLaws.{put-within, put_then, put-end}
 use Rattle.traces.proofs.rows.put_five.Goals as goal
 

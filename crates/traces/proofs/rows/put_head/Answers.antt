@@ -1,6 +1,5 @@
 -- `traces::rows::put_head` meets its contract. Assumes nothing.
 use native.Mathlib.Omega.{arith}
-use borrow.Author.Rules.{rules}
 use Rattle.traces.proofs.rows.put_head.Goals as goal
 
 pub overflow_cast-head : goal.overflow_cast-head

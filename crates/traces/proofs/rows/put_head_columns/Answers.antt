@@ -1,7 +1,6 @@
 -- `traces::rows::put_head_columns` meets its contract. Assumes nothing.
 use mathlib.Core.Path.{sym}
 use native.Mathlib.Omega.{arith}
-use borrow.Author.Rules.{rules}
 use Rattle.text.proofs.PrintLaws.{put-within, put_then, put-end}
 use Rattle.script.specs.Site.{world_of}
 use Rattle.traces.specs.Row.{head_columns}

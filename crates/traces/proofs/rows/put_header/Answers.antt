@@ -1,6 +1,5 @@
 -- `traces::rows::put_header` meets its contract. Assumes nothing.
 use native.Mathlib.Omega.{arith}
-use borrow.Author.Rules.{rules}
 use Rattle.traces.proofs.rows.put_header.Goals as goal
 
 pub returns : goal.returns

@@ -1,5 +1,4 @@
 -- `traces::rows::put_remarks` meets its contract. Assumes nothing.
-use borrow.Author.Rules.{rules}
 use Rattle.text.proofs.PrintLaws.{put-within, put_then, put-end}
 use Rattle.script.specs.Site.{world_of}
 use Rattle.traces.specs.Row.{remarks}

@@ -1,7 +1,6 @@
 -- `traces::rows::put_row` meets its contract. Assumes nothing.
 use Prim.Native.Nat.{◌≤◌}
 use native.Mathlib.Omega.{arith}
-use borrow.Author.Rules.{rules}
 use Rattle.text.proofs.PrintLaws.{put-text, put-within, put_then}
 use Rattle.traces.specs.Row.{row_of}
 use Rattle.traces.proofs.RowLaws.{put_in}

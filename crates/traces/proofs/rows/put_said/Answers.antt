@@ -1,6 +1,5 @@
 -- `traces::rows::put_said` meets its contract. Assumes nothing.
 use native.Mathlib.Omega.{arith}
-use borrow.Author.Rules.{rules}
 use Rattle.text.proofs.PrintLaws.{put-text, put-within, put_then, put-left, put-end}
 use Rattle.traces.proofs.rows.put_said.Goals as goal
 

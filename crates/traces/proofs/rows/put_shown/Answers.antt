@@ -1,6 +1,5 @@
 -- `traces::rows::put_shown` meets its contract. Assumes nothing.
 use native.Mathlib.Omega.{arith}
-use borrow.Author.Rules.{rules}
 use Rattle.lists.proofs.PartLaws.{put-done-none}
 use Rattle.traces.proofs.rows.put_shown.Goals as goal
 

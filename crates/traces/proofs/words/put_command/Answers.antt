@@ -1,5 +1,4 @@
 -- `traces::words::put_command` meets its contract. Assumes nothing.
-use borrow.Author.Rules.{rules}
 use Rattle.text.proofs.PrintLaws.{put-text, put-within, put_then, put-end}
 use Rattle.traces.specs.Words.{command_words}
 use Rattle.traces.proofs.words.put_command.Goals as goal

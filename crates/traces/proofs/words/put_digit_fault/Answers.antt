@@ -1,5 +1,4 @@
 -- `traces::words::put_digit_fault` meets its contract. Assumes nothing.
-use borrow.Author.Rules.{rules}
 use Rattle.text.proofs.PrintLaws.{put-text, put-within, put_then, put-end}
 use Rattle.traces.proofs.words.put_digit_fault.Goals as goal
 

@@ -1,6 +1,5 @@
 -- `traces::words::put_fault` meets its contract. Assumes nothing.
 use native.Mathlib.Omega.{arith}
-use borrow.Author.Rules.{rules}
 use Rattle.traces.proofs.words.put_fault.Goals as goal
 
 pub returns-in-Empty : goal.returns-in-Empty

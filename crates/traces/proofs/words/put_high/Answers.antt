@@ -1,6 +1,5 @@
 -- `traces::words::put_high` meets its contract. Assumes nothing.
 use native.Mathlib.Omega.{arith}
-use borrow.Author.Rules.{rules}
 use Rattle.traces.specs.Words.{number_words}
 use Rattle.traces.proofs.WordLaws.{number-others}
 use Rattle.traces.proofs.words.put_high.Goals as goal

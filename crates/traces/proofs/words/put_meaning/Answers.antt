@@ -1,7 +1,6 @@
 -- `traces::words::put_meaning` meets its contract. Assumes nothing.
 use native.Mathlib.Omega.{arith}
 use Rattle.traces.proofs.WordLaws.{past-low}
-use borrow.Author.Rules.{rules}
 use Rattle.traces.specs.Words.{number_words}
 use Rattle.traces.proofs.words.put_meaning.Goals as goal
 

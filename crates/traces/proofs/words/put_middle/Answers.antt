@@ -1,7 +1,6 @@
 -- `traces::words::put_middle` meets its contract. Assumes nothing.
 use native.Mathlib.Omega.{arith}
 use Rattle.traces.proofs.WordLaws.{past-middle}
-use borrow.Author.Rules.{rules}
 use Rattle.traces.specs.Words.{number_words}
 use Rattle.traces.proofs.words.put_middle.Goals as goal
 

@@ -1,6 +1,5 @@
 -- `traces::words::put_nothing` meets its contract. Assumes nothing.
 use native.Mathlib.Omega.{arith}
-use borrow.Author.Rules.{rules}
 use Rattle.traces.specs.Words.{nothing_words}
 use Rattle.traces.proofs.WordLaws.{nothing-others}
 use Rattle.traces.proofs.words.put_nothing.Goals as goal

@@ -1,6 +1,5 @@
 -- `traces::words::put_numbers` meets its contract. Assumes nothing.
 use native.Mathlib.Omega.{arith}
-use borrow.Author.Rules.{rules}
 use Rattle.lists.proofs.PartLaws.{put-done-none}
 use Rattle.traces.proofs.words.put_numbers.Goals as goal
 

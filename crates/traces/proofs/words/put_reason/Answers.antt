@@ -1,6 +1,5 @@
 -- `traces::words::put_reason` meets its contract. Assumes nothing.
 use native.Mathlib.Omega.{arith}
-use borrow.Author.Rules.{rules}
 use borrow.Author.Tests.{eq-eqb, ne_eqb}
 use Rattle.traces.proofs.words.put_reason.Goals as goal
 

@@ -1,8 +1,6 @@
 -- `trials::answer::answer` meets its contract. Assumes nothing.
 use mathlib.Core.Path.{sym, ◌∙◌}
 use native.Mathlib.Omega.{arith}
-use borrow.Author.Rules.{rules}
-use borrow.Author.Tests.{not-true, not-false}
 use Rattle.text.proofs.RowLaws.{row_low}
 use Rattle.trials.proofs.AnswerLaws.{answer-tick, answer-bad, answer-good}
 use Rattle.trials.proofs.answer.answer.Goals as goal

@@ -2,7 +2,6 @@
 use mathlib.Core.Path.{refl}
 use native.Mathlib.Omega.{arith}
 use lib.ListN.{replicate}
-use borrow.Author.Rules.{rules}
 use Rattle.trials.proofs.AnswerLaws.{answer-done, course-over, course-on}
 use Rattle.trials.proofs.answer.answer_course.Goals as goal
 

@@ -1,7 +1,6 @@
 -- `trials::answer::answer_plan` meets its contract. Assumes nothing.
 use Prim.Native.Nat.{ℕ}
 use mathlib.Core.Path.{ap, ◌∙◌}
-use borrow.Author.Rules.{rules}
 use Rattle.lists.specs.Refusal.{refusal}
 use Rattle.trials.specs.Output.{plan_tests}
 use Rattle.trials.specs.Site.{trial_of}

@@ -1,8 +1,6 @@
 -- `trials::answer::course_of` meets its contract. Assumes nothing.
 use mathlib.Core.Path.{sym, ◌∙◌}
 use native.Mathlib.Omega.{arith}
-use borrow.Author.Rules.{rules}
-use borrow.Author.Tests.{not-true, not-false}
 use Rattle.trials.proofs.AnswerLaws.{tick-bad, tick-late, tick-good}
 use Rattle.trials.proofs.answer.course_of.Goals as goal
 

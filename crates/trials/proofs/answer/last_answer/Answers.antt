@@ -1,7 +1,6 @@
 -- `trials::answer::last_answer` meets its contract. Assumes nothing.
 use mathlib.Core.Path.{refl}
 use lib.ListN.{replicate}
-use borrow.Author.Rules.{rules}
 use Rattle.trials.proofs.AnswerLaws.{last_done}
 use Rattle.trials.proofs.answer.last_answer.Goals as goal
 

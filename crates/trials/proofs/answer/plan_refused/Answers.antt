@@ -1,5 +1,4 @@
 -- `trials::answer::plan_refused` meets its contract. Assumes nothing.
-use borrow.Author.Rules.{rules}
 use Rattle.trials.proofs.answer.plan_refused.Goals as goal
 
 pub returns : goal.returns

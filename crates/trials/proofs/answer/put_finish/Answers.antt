@@ -1,5 +1,4 @@
 -- `trials::answer::put_finish` meets its contract. Assumes nothing.
-use borrow.Author.Rules.{rules}
 use Rattle.trials.proofs.AnswerLaws.{finish-begun, finish-unbegun}
 use Rattle.trials.proofs.answer.put_finish.Goals as goal
 

@@ -1,10 +1,8 @@
 -- `trials::counts::longest_of` meets its contract. Assumes nothing.
 use mathlib.Core.Path.{◌≡◌, sym, ap, ◌∙◌}
-use Prim.Native.Nat.{ℕ}
 use native.Mathlib.Omega.{arith}
 use lib.ListN.{length}
 use lib.Seq.{take_all}
-use borrow.Author.Rules.{rules, length_unmapped}
 use Rattle.trials.specs.Trial.{longest_to}
 use Rattle.trials.specs.Site.{trial_of}
 use Rattle.trials.proofs.counts.longest_of.Goals as goal

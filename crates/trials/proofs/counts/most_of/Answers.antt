@@ -1,9 +1,7 @@
-use Prim.Native.Nat.{◌-◌, ◌≤◌}
 use mathlib.Core.Path.{◌≡◌, refl, sym, ◌∙◌}
 use native.Mathlib.Omega.{arith}
-use lib.ListN.{length, take, drop}
+use lib.ListN.{length}
 use borrow.Author.Rules.{rules}
-use Rattle.trials.specs.Trial.{longest_to}
 use Rattle.trials.proofs.CountLaws.{longest-next, longest-none}
 use Rattle.trials.proofs.counts.most_of.Goals as goal
 

@@ -1,11 +1,8 @@
 -- `trials::counts::most_of` meets its contract. The loop's invariant: the rest, from what is kept, gives what all give.
 use Prim.Native.Nat.{◌-◌, ◌≤◌}
-use mathlib.Core.Path.{◌≡◌, refl, sym, ◌∙◌}
-use native.Mathlib.Omega.{arith}
+use mathlib.Core.Path.{◌≡◌}
 use lib.ListN.{length, take, drop}
-use borrow.Author.Rules.{rules}
 use Rattle.trials.specs.Trial.{longest_to}
-use Rattle.trials.proofs.CountLaws.{longest-next, longest-none}
 use Rattle.trials.proofs.counts.most_of.Given as goal
 
 abbrev pub invariant-loop-i : goal.invariant-loop-i

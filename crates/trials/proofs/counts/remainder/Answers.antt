@@ -1,7 +1,6 @@
 -- `trials::counts::remainder` meets its contract. Assumes nothing.
 use mathlib.Core.Path.{sym}
 use native.Mathlib.Nat.{mod-zero}
-use borrow.Author.Rules.{rules}
 use Rattle.trials.proofs.counts.remainder.Goals as goal
 
 pub returns-then-by-eq0 : goal.returns-then-by-eq0

@@ -1,5 +1,4 @@
 -- `trials::courses::unless_refused` meets its contract. Assumes nothing.
-use borrow.Author.Rules.{rules}
 use borrow.Author.Tests.{ne_eqb}
 use Rattle.trials.proofs.courses.unless_refused.Goals as goal
 

@@ -1,9 +1,5 @@
-use Prim.Native.Nat.{◌-◌, ◌≤◌}
-use mathlib.Core.Path.{◌≡◌, refl, sym, ◌∙◌}
+use mathlib.Core.Path.{refl, sym, ◌∙◌}
 use native.Mathlib.Omega.{arith}
-use borrow.Author.Tests.{not-true, not-false}
-use Rattle.trials.specs.Trial.{and_then}
-use Rattle.trials.specs.Part.{each}
 use Rattle.trials.specs.Site.{course_of, work_part}
 use Rattle.trials.proofs.CourseLaws.{over-stays}
 use Rattle.trials.proofs.LoopLaws.{rest, each_first, each_turn, each_last}

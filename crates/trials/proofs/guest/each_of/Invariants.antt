@@ -1,13 +1,10 @@
 -- `trials::guest::each_of` meets its contract. The loop's invariant: what is left to do, from here, gives what all gives.
 use Prim.Native.Nat.{◌-◌, ◌≤◌}
-use mathlib.Core.Path.{◌≡◌, refl, sym, ◌∙◌}
-use native.Mathlib.Omega.{arith}
-use borrow.Author.Tests.{not-true, not-false}
+use mathlib.Core.Path.{◌≡◌}
 use Rattle.trials.specs.Trial.{and_then}
 use Rattle.trials.specs.Part.{each}
 use Rattle.trials.specs.Site.{course_of, work_part}
-use Rattle.trials.proofs.CourseLaws.{over-stays}
-use Rattle.trials.proofs.LoopLaws.{rest, each_first, each_turn, each_last}
+use Rattle.trials.proofs.LoopLaws.{rest}
 use Rattle.trials.proofs.guest.each_of.Given as goal
 
 abbrev pub invariant-loop-i : goal.invariant-loop-i

@@ -1,5 +1,4 @@
 -- `trials::guest::one` meets its contract. Assumes nothing.
-use borrow.Author.Rules.{rules}
 use Rattle.trials.proofs.guest.one.Goals as goal
 
 pub returns-in-Pages : goal.returns-in-Pages

@@ -1,7 +1,6 @@
 -- `trials::guest::send_packet` meets its contract. Assumes nothing.
 use mathlib.Core.List.{[], ◌∷◌}
 use mathlib.Core.Path.{sym, ap, ◌∙◌}
-use borrow.Author.Rules.{rules}
 use Rattle.rules.specs.World as call
 use Rattle.script.specs.Pair.{Done, perform, used_port}
 use Rattle.script.specs.Site.{world_of}

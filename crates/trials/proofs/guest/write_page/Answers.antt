@@ -1,7 +1,6 @@
 -- `trials::guest::write_page` meets its contract. Assumes nothing.
 use mathlib.Core.Path.{refl}
 use mathlib.Core.List.{[], ◌∷◌}
-use borrow.Author.Rules.{rules}
 use Rattle.rules.specs.World as call
 use Rattle.script.specs.Pair.{perform}
 use Rattle.trials.specs.Tick.{filled}

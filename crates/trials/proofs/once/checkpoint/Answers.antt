@@ -1,6 +1,5 @@
 -- `trials::once::checkpoint` meets its contract. Assumes nothing.
 use mathlib.Core.Path.{refl, sym, ◌∙◌}
-use borrow.Author.Rules.{rules}
 use borrow.Author.Tests.{eq-eqb, ne_eqb}
 use Rattle.lists.proofs.TestLaws.{cond-true, cond-false}
 use Rattle.rules.specs.World as call

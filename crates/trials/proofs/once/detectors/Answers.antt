@@ -1,6 +1,5 @@
 -- `trials::once::detectors` meets its contract. Assumes nothing.
 use mathlib.Core.Path.{refl, sym, ◌∙◌}
-use borrow.Author.Rules.{rules}
 use Rattle.rules.specs.World as call
 use Rattle.trials.specs.Tick.{detectors}
 use Rattle.trials.proofs.CourseLaws.{over-stays, goes_on, site-count, detectors-done}

@@ -1,7 +1,6 @@
 -- `trials::once::drain_link` meets its contract. Assumes nothing.
 use mathlib.Core.Path.{refl, sym, ◌∙◌}
 use lib.ListN.{replicate}
-use borrow.Author.Rules.{rules}
 use Rattle.rules.specs.World as call
 use Rattle.script.specs.Pair.{link_room}
 use Rattle.trials.specs.Tick.{drain_link}

@@ -1,6 +1,5 @@
 -- `trials::once::flush` meets its contract. Assumes nothing.
 use mathlib.Core.Path.{sym, ◌∙◌}
-use borrow.Author.Rules.{rules}
 use Rattle.trials.specs.Tick.{flush}
 use Rattle.trials.proofs.CourseLaws.{over-stays, goes_on}
 use Rattle.trials.proofs.once.flush.Goals as goal

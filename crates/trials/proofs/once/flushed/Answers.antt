@@ -1,6 +1,5 @@
 -- `trials::once::flushed` meets its contract. Assumes nothing.
 use mathlib.Core.Path.{refl}
-use borrow.Author.Rules.{rules}
 use Rattle.rules.specs.World as call
 use Rattle.trials.specs.Site.{trial_of}
 use Rattle.trials.proofs.CourseLaws.{site-count, quiet-done}

@@ -1,6 +1,5 @@
 -- `trials::once::taken_over` meets its contract. Assumes nothing.
 use mathlib.Core.Path.{refl, ◌∙◌}
-use borrow.Author.Rules.{rules}
 use Rattle.rules.specs.World as call
 use Rattle.trials.proofs.CourseLaws.{site-count, takeover-done}
 use Rattle.trials.proofs.once.taken_over.Goals as goal

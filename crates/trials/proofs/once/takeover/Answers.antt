@@ -1,7 +1,5 @@
 -- `trials::once::takeover` meets its contract. Assumes nothing.
 use mathlib.Core.Path.{sym, ◌∙◌}
-use borrow.Author.Rules.{rules}
-use borrow.Author.Tests.{not-true, not-false}
 use Rattle.lists.proofs.TestLaws.{cond-true, cond-false}
 use Rattle.trials.specs.Tick.{took_over, takeover}
 use Rattle.trials.specs.Site.{trial_of}

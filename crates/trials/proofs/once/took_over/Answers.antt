@@ -1,5 +1,4 @@
 -- `trials::once::took_over` meets its contract. Assumes nothing.
-use borrow.Author.Rules.{rules}
 use Rattle.script.specs.Site.{world_of}
 use Rattle.trials.specs.Site.{trial_of}
 use Rattle.trials.proofs.once.took_over.Goals as goal

@@ -1,5 +1,4 @@
 -- `trials::printing::put_last` meets its contract. Assumes nothing.
-use borrow.Author.Rules.{rules}
 use Rattle.trials.proofs.PrintLaws.{last-put}
 use Rattle.trials.proofs.printing.put_last.Goals as goal
 

@@ -1,5 +1,4 @@
 -- `trials::printing::put_tick` meets its contract. Assumes nothing.
-use borrow.Author.Rules.{rules}
 use Rattle.trials.proofs.PrintLaws.{tick-put}
 use Rattle.trials.proofs.printing.put_tick.Goals as goal
 

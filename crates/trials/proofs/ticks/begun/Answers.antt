@@ -1,6 +1,5 @@
 -- `trials::ticks::begun` meets its contract. Assumes nothing.
 use native.Mathlib.Numerals.{add-one}
-use borrow.Author.Rules.{rules}
 use Rattle.trials.specs.Site.{trial_of}
 use Rattle.trials.proofs.ticks.begun.Goals as goal
 

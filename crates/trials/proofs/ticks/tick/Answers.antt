@@ -1,5 +1,4 @@
 -- `trials::ticks::tick` meets its contract: each part is what the definition has at its place. Assumes nothing.
-use borrow.Author.Rules.{rules}
 use Rattle.trials.specs.Tick.{tick}
 use Rattle.trials.proofs.ticks.tick.Goals as goal
 

@@ -1,7 +1,6 @@
 -- `trials::turns::ack_one` meets its contract. Assumes nothing.
 use mathlib.Core.Path.{◌≡◌, refl, sym, ap, ◌∙◌}
 use mathlib.Core.Bool.{true, false, not}
-use borrow.Author.Rules.{rules}
 use borrow.Author.Tests.{eq-eqb, ne_eqb}
 use Rattle.lists.proofs.TestLaws.{cond-false}
 use Rattle.text.specs.Line.{is_empty}

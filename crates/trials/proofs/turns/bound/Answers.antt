@@ -1,6 +1,5 @@
 -- `trials::turns::bound` meets its contract. Assumes nothing.
 use mathlib.Core.Path.{sym, ◌∙◌}
-use borrow.Author.Rules.{rules}
 use Rattle.script.specs.Site.{world_of}
 use Rattle.script.proofs.SiteLaws.{lengths}
 use Rattle.script.proofs.LinkLaws.{length-link}

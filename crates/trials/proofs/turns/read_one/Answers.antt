@@ -1,7 +1,6 @@
 -- `trials::turns::read_one` meets its contract. Assumes nothing.
 use mathlib.Core.Path.{◌≡◌, refl, sym, ap, ◌∙◌}
 use mathlib.Core.Bool.{true, false, not}
-use borrow.Author.Rules.{rules}
 use borrow.Author.Tests.{eq-eqb, ne_eqb}
 use Rattle.script.specs.Pair.{Done}
 use Rattle.trials.specs.Tick.{read_call, reads_on}

@@ -1,7 +1,6 @@
 -- `trials::turns::repeat` meets its contract. Assumes nothing.
 use Prim.Native.Nat.{ℕ, suc}
 use mathlib.Core.Path.{sym, ap, ◌∙◌}
-use borrow.Author.Rules.{rules}
 use Rattle.trials.specs.Part.{whilst, bounded}
 use Rattle.trials.specs.Site.{trial_of, turn_test, turn_part, turn_bound}
 use Rattle.trials.proofs.CourseLaws.{over-stays, goes_on}

@@ -1,11 +1,8 @@
 -- `trials::turns::repeated` meets its contract. The loop's invariant: what is left to do, from here, gives what all gives.
-use mathlib.Core.Path.{◌≡◌, refl, sym, ap, ◌∙◌}
-use mathlib.Core.Bool.{Bool, true, false}
-use native.Mathlib.Omega.{arith}
-use borrow.Author.Tests.{not-true}
-use Rattle.lists.proofs.TestLaws.{both}
-use Rattle.trials.specs.Site.{trial_of, turn_test, turn_part}
-use Rattle.trials.proofs.LoopLaws.{at_most, whilst-first, whilst-turn, whilst-out, whilst-enough}
+use mathlib.Core.Path.{◌≡◌}
+use mathlib.Core.Bool.{true, false}
+use Rattle.trials.specs.Site.{turn_test, turn_part}
+use Rattle.trials.proofs.LoopLaws.{at_most}
 use Rattle.trials.proofs.turns.repeated.Given as goal
 
 abbrev pub invariant-loop-left : goal.invariant-loop-left

@@ -1,5 +1,4 @@
 -- `trials::turns::turn` meets its contract. Assumes nothing.
-use borrow.Author.Rules.{rules}
 use Rattle.trials.proofs.turns.turn.Goals as goal
 
 pub returns-in-Reading : goal.returns-in-Reading
