@@ -9,7 +9,7 @@ ghost use Rattle.text.specs.Turns.{turn_next, turn_printed, turn_more, SomeTurn,
 ghost use Rattle.traces.specs.Output.{trace_program};
 ghost use Rattle.trace.specs.Run.{reading_of};
 
-use libc::{STDIN_FILENO, STDOUT_FILENO};
+use std::io::{Read, Write};
 use traces::{TraceLine, TraceSite};
 
 // What is kept between two parts of the input.
@@ -194,28 +194,28 @@ fn output_buffer() -> [u8; 614400]
 // Reads a part of the input, makes its turn and writes what that gives; a read that gives nothing or fails is the end of
 // the input. No contract of read or write says which bytes they move: that the part is what was read, and that the head of
 // out is written, is to be seen here.
-fn next_part(run: Run) -> Next
+fn next_part(rt: HostRuntime, run: Run) -> Next
     ensures { SomeTurn trace_program (reading_of run) (reading_of result.run) result.more }
 {
     let mut input = [0u8; 512];
     let mut out = output_buffer();
-    let got = libc::read(STDIN_FILENO, &mut input);
-    let n = io::count(got, &input);
+    let got = rt.stdin().read(&mut input);
+    let n = got.unwrap_or(0);
     let next = turn(run, &input[..n], &mut out);
     let written = next.written;
-    io::write_all(STDOUT_FILENO, &out[..written]);
+    let _ = rt.stdout().write_all(&out[..written]);
     next
 }
 
 // Part after part, while more is to be read; the bound on the turns is the largest number, since a loop has to end.
-fn all(run: Run) -> Run
+fn all(rt: HostRuntime, run: Run) -> Run
     ensures { SomeTurns trace_program (reading_of run) (reading_of result) }
 {
     let mut run = run;
     let mut more = true;
     let mut turns = u64::MAX;
     while turns > 0 && more {
-        let next = next_part(run);
+        let next = next_part(rt, run);
         run = next.run;
         more = next.more;
         turns -= 1;
@@ -224,6 +224,6 @@ fn all(run: Run) -> Run
 }
 
 // What all that is written comes to is RunRight (specs/Run.antt), of any parts.
-fn main() {
-    all(first());
+fn main(rt: HostRuntime) {
+    all(rt, first());
 }
