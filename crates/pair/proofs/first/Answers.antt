@@ -1,0 +1,6 @@
+-- `pair::first` meets its contract. Assumes nothing.
+use borrow.Author.Rules.{rules}
+use Rattle.pair.proofs.first.Goals as goal
+
+pub returns : goal.returns
+returns c = rw (c.started-site.ensures, c.no_line-line.ensures)
