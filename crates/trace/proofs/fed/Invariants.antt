@@ -1,0 +1,19 @@
+-- `trace::fed` meets its contract. Assumes nothing.
+use Prim.Native.Nat.{◌-◌, ◌<◌}
+use mathlib.Core.Path.{◌≡◌, refl, sym, ap, ◌∙◌}
+use mathlib.Core.Bool.{true}
+use native.Mathlib.Omega.{arith}
+use lib.ListN.{length}
+use borrow.Author.Tests.{not-true, not-false}
+use Rattle.traces.specs.Site.{trace_of}
+use Rattle.text.specs.Feed.{reading}
+use Rattle.traces.specs.Output.{trace_program}
+use Rattle.trace.specs.Run.{reading_of}
+use Rattle.text.proofs.RunLaws.{Progress, progress-none, progress-room, progress-fits, progress-more, progress-over, progress-end}
+use Rattle.trace.proofs.fed.Given as goal
+
+abbrev pub invariant-loop-read : goal.invariant-loop-read
+invariant-loop-read l = (l.over ≡ l.run.over) × Progress trace_program 1200 (reading_of l.initial.run) l.input l.initial.out (reading_of l.run) l.read l.out l.written
+
+abbrev pub decreases-loop-read : goal.decreases-loop-read
+decreases-loop-read l = length l.input - l.read

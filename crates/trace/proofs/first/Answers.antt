@@ -1,0 +1,6 @@
+-- `trace::first` meets its contract. Assumes nothing.
+use borrow.Author.Rules.{rules}
+use Rattle.trace.proofs.first.Goals as goal
+
+pub returns : goal.returns
+returns c = rw (c.first_site-trace.ensures, c.no_trace_line-line.ensures)
