@@ -1,7 +1,6 @@
 -- `plate::ended` meets its contract. Assumes nothing.
 use mathlib.Core.Path.{refl, sym, ◌∙◌}
 use native.Mathlib.Omega.{arith}
-use borrow.Author.Rules.{rules}
 use Rattle.lists.proofs.PartLaws.{put-done-none}
 use Rattle.text.proofs.RunLaws.{ended-empty, ended-silent}
 use Rattle.plates.specs.Plate.{plate_program}

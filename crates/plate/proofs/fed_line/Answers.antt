@@ -2,7 +2,6 @@
 use mathlib.Core.Path.{refl}
 use mathlib.Core.Bool.{false}
 use native.Mathlib.Omega.{arith}
-use borrow.Author.Rules.{rules}
 use Rattle.text.proofs.RunLaws.{answered-run, end-inside, line-fed, line-put, ended-fed, ended-put}
 use Rattle.plates.specs.Plate.{plate_program}
 use Rattle.plates.specs.Read.{kept_of}

@@ -1,6 +1,5 @@
 -- `plate::first` meets its contract. Assumes nothing.
 use mathlib.Core.Path.{refl}
-use borrow.Author.Rules.{rules}
 use Rattle.plate.proofs.first.Goals as goal
 
 pub returns : goal.returns

@@ -5,7 +5,6 @@ use mathlib.Core.Bool.{not}
 use mathlib.Core.List.{List}
 use native.Mathlib.Omega.{arith}
 use lib.ListN.{length}
-use borrow.Author.Rules.{rules}
 use Rattle.lists.specs.Part.{part}
 use Rattle.text.specs.Feed.{Reading}
 use Rattle.text.proofs.TurnLaws.{end-next, end-put, end_more, part-put, part-more}
