@@ -1,7 +1,7 @@
 // The program `plate`: reads lines on standard input, to its end, and prints for each what it gives.
 #![tactic(auto)]
 
-ghost use Rattle.std.specs.Prelude.{◌≡◌, true, [], ◌∷◌, ◌+◌, ◌-◌, ◌≤◌, ◌<◌, length};
+ghost use Rattle.std.specs.Prelude.{◌≡◌, true, [], ◌∷◌, ◌+◌, ◌-◌, ◌≤◌, ◌<◌, length, IfOk};
 ghost use Rattle.lists.specs.Part.{part, PutDone};
 ghost use Rattle.text.specs.Line.{newline};
 ghost use Rattle.text.specs.Feed.{fed_all, fed_all_printed, end_printed, first_reading};
@@ -10,6 +10,7 @@ ghost use Rattle.plates.specs.Plate.{plate_program};
 ghost use Rattle.plate.specs.Run.{reading_of, line_reading};
 
 use plates::KeptLine;
+use std::io;
 use std::io::{Read, Write};
 
 // What is kept between two turns: the line under way, and what was read of the input, of which the bytes from `from` to
@@ -156,10 +157,11 @@ fn output_buffer() -> [u8; 721072]
     [0; 721072]
 }
 
-// Makes the next turn and writes what that gives. No contract of read or write says which bytes they move: that the part
-// is what was read, and that the head of out is written, is to be seen here and in `refilled`.
-fn next_part(rt: HostRuntime, run: Run) -> Next
-    ensures { SomeTurn plate_program (reading_of run) (reading_of result.run) result.more }
+// Makes the next turn and writes what that gives; the one error is that of a failed write. No contract of read or write says
+// which bytes they move: that the part is what was read, and that the head of out is written, is to be seen here and in
+// `refilled`.
+fn next_part(rt: HostRuntime, run: Run) -> io::Result<Next>
+    ensures { IfOk result (λ next. SomeTurn plate_program (reading_of run) (reading_of next.run) next.more) }
 {
     let full = refilled(rt, run);
     let line = full.line;
@@ -168,7 +170,7 @@ fn next_part(rt: HostRuntime, run: Run) -> Next
     let mut out = output_buffer();
     let t = turn(line, &input[..got], full.from, &mut out);
     let written = t.written;
-    let _ = rt.stdout().write_all(&out[..written]);
+    rt.stdout().write_all(&out[..written])?;
     let after = t.line;
     let used = t.used;
     let next = Run {
@@ -178,26 +180,28 @@ fn next_part(rt: HostRuntime, run: Run) -> Next
         got,
     };
     let more = t.more;
-    Next { run: next, more }
+    Ok(Next { run: next, more })
 }
 
-// Turn after turn, while more is to be read; the bound on the turns is the largest number, since a loop has to end.
-fn all(rt: HostRuntime, run: Run) -> Run
-    ensures { SomeTurns plate_program (reading_of run) (reading_of result) }
+// Turn after turn, while more is to be read and no write fails; the bound on the turns is the largest number, since a loop has
+// to end.
+fn all(rt: HostRuntime, run: Run) -> io::Result<Run>
+    ensures { IfOk result (λ last. SomeTurns plate_program (reading_of run) (reading_of last)) }
 {
     let mut run = run;
     let mut more = true;
     let mut turns = u64::MAX;
     while turns > 0 && more {
-        let next = next_part(rt, run);
+        let next = next_part(rt, run)?;
         run = next.run;
         more = next.more;
         turns -= 1;
     }
-    run
+    Ok(run)
 }
 
 // What all that is written comes to is RunRight (specs/Run.antt), of any parts.
-fn main(rt: HostRuntime) {
-    all(rt, first());
+fn main(rt: HostRuntime) -> io::Result<()> {
+    all(rt, first())?;
+    Ok(())
 }

@@ -2,7 +2,7 @@
 // each line gives and last the most ticks.
 #![tactic(auto)]
 
-ghost use Rattle.std.specs.Prelude.{◌≡◌, false, [], ◌∷◌, ◌+◌, ◌-◌, ◌≤◌, ◌<◌, length};
+ghost use Rattle.std.specs.Prelude.{◌≡◌, false, [], ◌∷◌, ◌+◌, ◌-◌, ◌≤◌, ◌<◌, length, IfOk};
 ghost use Rattle.lists.specs.Part.{part, PutDone};
 ghost use Rattle.text.specs.Line.{newline};
 ghost use Rattle.text.specs.Feed.{fed_all, fed_all_printed, end_printed, first_reading};
@@ -10,6 +10,7 @@ ghost use Rattle.text.specs.Turns.{turn_next, turn_printed, turn_more, SomeTurn,
 ghost use Rattle.trials.specs.Output.{trial_program};
 ghost use Rattle.trial.specs.Run.{reading_of};
 
+use std::io;
 use std::io::{Read, Write};
 use text::Line;
 use trials::TrialStage;
@@ -186,10 +187,10 @@ fn first() -> Run
 }
 
 // Reads a part of the input, makes its turn and writes what that gives; a read that gives nothing or fails is the end of
-// the input. No contract of read or write says which bytes they move: that the part is what was read, and that the head of
-// out is written, is to be seen here.
-fn next_part(rt: HostRuntime, run: Run) -> Next
-    ensures { SomeTurn trial_program (reading_of run) (reading_of result.run) result.more }
+// the input, and the one error is that of a failed write. No contract of read or write says which bytes they move: that the
+// part is what was read, and that the head of out is written, is to be seen here.
+fn next_part(rt: HostRuntime, run: Run) -> io::Result<Next>
+    ensures { IfOk result (λ next. SomeTurn trial_program (reading_of run) (reading_of next.run) next.more) }
 {
     let mut input = [0u8; 512];
     let mut out = [0u8; 33280];
@@ -197,27 +198,29 @@ fn next_part(rt: HostRuntime, run: Run) -> Next
     let n = got.unwrap_or(0);
     let next = turn(run, &input[..n], &mut out);
     let written = next.written;
-    let _ = rt.stdout().write_all(&out[..written]);
-    next
+    rt.stdout().write_all(&out[..written])?;
+    Ok(next)
 }
 
-// Part after part, while more is to be read; the bound on the turns is the largest number, since a loop has to end.
-fn all(rt: HostRuntime, run: Run) -> Run
-    ensures { SomeTurns trial_program (reading_of run) (reading_of result) }
+// Part after part, while more is to be read and no write fails; the bound on the turns is the largest number, since a loop has
+// to end.
+fn all(rt: HostRuntime, run: Run) -> io::Result<Run>
+    ensures { IfOk result (λ last. SomeTurns trial_program (reading_of run) (reading_of last)) }
 {
     let mut run = run;
     let mut more = true;
     let mut turns = u64::MAX;
     while turns > 0 && more {
-        let next = next_part(rt, run);
+        let next = next_part(rt, run)?;
         run = next.run;
         more = next.more;
         turns -= 1;
     }
-    run
+    Ok(run)
 }
 
 // What all that is written comes to is RunRight (specs/Run.antt), of any parts.
-fn main(rt: HostRuntime) {
-    all(rt, first());
+fn main(rt: HostRuntime) -> io::Result<()> {
+    all(rt, first())?;
+    Ok(())
 }
