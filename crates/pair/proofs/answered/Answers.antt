@@ -1,7 +1,6 @@
 -- `pair::answered` meets its contract. Assumes nothing.
 use mathlib.Core.Path.{sym}
 use native.Mathlib.Omega.{arith}
-use borrow.Author.Rules.{rules}
 use Rattle.script.specs.Output.{pair_program}
 use Rattle.text.proofs.RunLaws.{taken-length, answered-run, answered-put}
 use Rattle.pair.proofs.answered.Goals as goal

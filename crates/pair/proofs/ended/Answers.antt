@@ -1,7 +1,6 @@
 -- `pair::ended` meets its contract. Assumes nothing.
 use mathlib.Core.Path.{refl, sym, ◌∙◌}
 use native.Mathlib.Omega.{arith}
-use borrow.Author.Rules.{rules}
 use Rattle.lists.proofs.PartLaws.{put-done-none}
 use Rattle.script.specs.Output.{pair_program}
 use Rattle.text.proofs.RunLaws.{ended-over, ended-empty, ended-silent, put-fits}

@@ -1,5 +1,4 @@
 -- `pair::first` meets its contract. Assumes nothing.
-use borrow.Author.Rules.{rules}
 use Rattle.pair.proofs.first.Goals as goal
 
 pub returns : goal.returns
