@@ -1,7 +1,6 @@
 -- `trace::answered` meets its contract. Assumes nothing.
 use mathlib.Core.Path.{sym}
 use native.Mathlib.Omega.{arith}
-use borrow.Author.Rules.{rules}
 use Rattle.traces.specs.Output.{trace_program}
 use Rattle.text.proofs.RunLaws.{taken-length, answered-run, answered-put}
 use Rattle.trace.proofs.answered.Goals as goal

@@ -1,7 +1,6 @@
 -- `trace::ended` meets its contract. Assumes nothing.
 use mathlib.Core.Path.{sym, ◌∙◌}
 use native.Mathlib.Omega.{arith}
-use borrow.Author.Rules.{rules}
 use Rattle.text.proofs.RunLaws.{ended-over, ended-empty, put-fits}
 use Rattle.traces.specs.Output.{trace_program}
 use Rattle.traces.specs.Site.{trace_of}

@@ -1,14 +1,12 @@
-use Prim.Native.Nat.{◌-◌, ◌<◌}
+use Prim.Native.Nat.{◌<◌}
 use mathlib.Core.Path.{◌≡◌, refl, sym, ap, ◌∙◌}
 use mathlib.Core.Bool.{true}
 use native.Mathlib.Omega.{arith}
 use lib.ListN.{length}
-use borrow.Author.Tests.{not-true, not-false}
 use Rattle.traces.specs.Site.{trace_of}
 use Rattle.text.specs.Feed.{reading}
 use Rattle.traces.specs.Output.{trace_program}
-use Rattle.trace.specs.Run.{reading_of}
-use Rattle.text.proofs.RunLaws.{Progress, progress-none, progress-room, progress-fits, progress-more, progress-over, progress-end}
+use Rattle.text.proofs.RunLaws.{progress-none, progress-room, progress-fits, progress-more, progress-over, progress-end}
 use Rattle.trace.proofs.fed.Goals as goal
 
 pub loop-read-init : goal.loop-read-init

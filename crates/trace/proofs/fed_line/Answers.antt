@@ -2,7 +2,6 @@
 use Prim.Native.Nat.{◌<◌}
 use native.Mathlib.Omega.{arith}
 use lib.ListN.{length}
-use borrow.Author.Rules.{rules}
 use Rattle.traces.specs.Output.{trace_program}
 use Rattle.text.proofs.RunLaws.{end-inside, line-fed, line-put, ended-fed, ended-put}
 use Rattle.trace.proofs.fed_line.Goals as goal

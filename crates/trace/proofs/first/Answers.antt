@@ -1,5 +1,4 @@
 -- `trace::first` meets its contract. Assumes nothing.
-use borrow.Author.Rules.{rules}
 use Rattle.trace.proofs.first.Goals as goal
 
 pub returns : goal.returns

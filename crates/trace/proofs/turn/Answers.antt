@@ -1,7 +1,6 @@
 -- `trace::turn` meets its contract. Assumes nothing.
 use mathlib.Core.Path.{ap, ◌∙◌}
 use mathlib.Core.Bool.{not}
-use borrow.Author.Rules.{rules}
 use Rattle.traces.specs.Output.{Trace}
 use Rattle.traces.specs.declared.TraceLine.{TraceLine}
 use Rattle.text.specs.Feed.{Reading}

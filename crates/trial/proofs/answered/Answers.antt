@@ -1,7 +1,6 @@
 -- `trial::answered` meets its contract. Assumes nothing.
 use mathlib.Core.Path.{sym}
 use native.Mathlib.Omega.{arith}
-use borrow.Author.Rules.{rules}
 use Rattle.trials.specs.Output.{trial_program}
 use Rattle.text.proofs.RunLaws.{taken-length, answered-run, answered-put}
 use Rattle.trial.proofs.answered.Goals as goal

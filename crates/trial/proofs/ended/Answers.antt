@@ -1,7 +1,6 @@
 -- `trial::ended` meets its contract. Assumes nothing.
 use mathlib.Core.Path.{sym, ◌∙◌}
 use native.Mathlib.Omega.{arith}
-use borrow.Author.Rules.{rules}
 use Rattle.text.proofs.RunLaws.{ended-over, ended-empty, put-fits}
 use Rattle.trials.specs.Output.{trial_program}
 use Rattle.trials.specs.Site.{stage_of}

@@ -1,14 +1,12 @@
-use Prim.Native.Nat.{◌-◌, ◌<◌}
+use Prim.Native.Nat.{◌<◌}
 use mathlib.Core.Path.{◌≡◌, refl, sym, ap, ◌∙◌}
 use mathlib.Core.Bool.{true}
 use native.Mathlib.Omega.{arith}
 use lib.ListN.{length}
-use borrow.Author.Tests.{not-true, not-false}
 use Rattle.trials.specs.Site.{stage_of}
 use Rattle.text.specs.Feed.{reading}
 use Rattle.trials.specs.Output.{trial_program}
-use Rattle.trial.specs.Run.{reading_of}
-use Rattle.text.proofs.RunLaws.{Progress, progress-none, progress-room, progress-fits, progress-more, progress-over, progress-end}
+use Rattle.text.proofs.RunLaws.{progress-none, progress-room, progress-fits, progress-more, progress-over, progress-end}
 use Rattle.trial.proofs.fed.Goals as goal
 
 pub loop-read-init : goal.loop-read-init

@@ -1,15 +1,10 @@
 -- `trial::fed` meets its contract. Assumes nothing.
-use Prim.Native.Nat.{◌-◌, ◌<◌}
-use mathlib.Core.Path.{◌≡◌, refl, sym, ap, ◌∙◌}
-use mathlib.Core.Bool.{true}
-use native.Mathlib.Omega.{arith}
+use Prim.Native.Nat.{◌-◌}
+use mathlib.Core.Path.{◌≡◌}
 use lib.ListN.{length}
-use borrow.Author.Tests.{not-true, not-false}
-use Rattle.trials.specs.Site.{stage_of}
-use Rattle.text.specs.Feed.{reading}
 use Rattle.trials.specs.Output.{trial_program}
 use Rattle.trial.specs.Run.{reading_of}
-use Rattle.text.proofs.RunLaws.{Progress, progress-none, progress-room, progress-fits, progress-more, progress-over, progress-end}
+use Rattle.text.proofs.RunLaws.{Progress}
 use Rattle.trial.proofs.fed.Given as goal
 
 abbrev pub invariant-loop-read : goal.invariant-loop-read

@@ -2,7 +2,6 @@
 use Prim.Native.Nat.{◌<◌}
 use native.Mathlib.Omega.{arith}
 use lib.ListN.{length}
-use borrow.Author.Rules.{rules}
 use Rattle.trials.specs.Output.{trial_program}
 use Rattle.text.proofs.RunLaws.{end-inside, line-fed, line-put, ended-fed, ended-put}
 use Rattle.trial.proofs.fed_line.Goals as goal

@@ -1,5 +1,4 @@
 -- `trial::first` meets its contract. Assumes nothing.
-use borrow.Author.Rules.{rules}
 use Rattle.trial.proofs.first.Goals as goal
 
 pub returns : goal.returns

@@ -1,7 +1,6 @@
 -- `trial::turn` meets its contract. Assumes nothing.
 use mathlib.Core.Path.{ap, ◌∙◌}
 use mathlib.Core.Bool.{not}
-use borrow.Author.Rules.{rules}
 use Rattle.trials.specs.Output.{Stage}
 use Rattle.text.specs.declared.Line.{Line}
 use Rattle.text.specs.Feed.{Reading}
