@@ -180,10 +180,10 @@ fn first() -> Run
 }
 
 // Reads a part of the input, makes its turn and writes what that gives; a read that gives nothing or fails is the end of
-// the input, and the one error is that of a failed write. No contract of read or write says which bytes they move: that the
-// part is what was read, and that the head of out is written, is to be seen here.
-fn next_part(rt: HostRuntime, run: Run) -> io::Result<Next>
-    ensures { IfOk result (λ next. SomeTurn pair_program (reading_of run) (reading_of next.run) next.more) }
+// the input. The turn is made too where the write fails, which is the one error. No contract of read or write says which
+// bytes they move: that the part is what was read, and that the head of out is written, is to be seen here.
+fn next_part(rt: HostRuntime, run: Run) -> (Next, io::Result<()>)
+    ensures { SomeTurn pair_program (reading_of run) (reading_of result.0.run) result.0.more }
 {
     let mut input = [0u8; 1024];
     let mut out = [0u8; 45056];
@@ -191,8 +191,8 @@ fn next_part(rt: HostRuntime, run: Run) -> io::Result<Next>
     let n = got.unwrap_or(0);
     let next = turn(run, &input[..n], &mut out);
     let written = next.written;
-    rt.stdout().write_all(&out[..written])?;
-    Ok(next)
+    let put = rt.stdout().write_all(&out[..written]);
+    (next, put)
 }
 
 // Part after part, while more is to be read and no write fails; the bound on the turns is the largest number, since a loop has
@@ -204,7 +204,8 @@ fn all(rt: HostRuntime, run: Run) -> io::Result<Run>
     let mut more = true;
     let mut turns = u64::MAX;
     while turns > 0 && more {
-        let next = next_part(rt, run)?;
+        let (next, put) = next_part(rt, run);
+        put?;
         run = next.run;
         more = next.more;
         turns -= 1;

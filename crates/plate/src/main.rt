@@ -157,11 +157,11 @@ fn output_buffer() -> [u8; 721072]
     [0; 721072]
 }
 
-// Makes the next turn and writes what that gives; the one error is that of a failed write. No contract of read or write says
-// which bytes they move: that the part is what was read, and that the head of out is written, is to be seen here and in
-// `refilled`.
-fn next_part(rt: HostRuntime, run: Run) -> io::Result<Next>
-    ensures { IfOk result (λ next. SomeTurn plate_program (reading_of run) (reading_of next.run) next.more) }
+// Makes the next turn and writes what that gives: the turn is made too where the write fails, which is the one error. No
+// contract of read or write says which bytes they move: that the part is what was read, and that the head of out is written,
+// is to be seen here and in `refilled`.
+fn next_part(rt: HostRuntime, run: Run) -> (Next, io::Result<()>)
+    ensures { SomeTurn plate_program (reading_of run) (reading_of result.0.run) result.0.more }
 {
     let full = refilled(rt, run);
     let line = full.line;
@@ -170,7 +170,7 @@ fn next_part(rt: HostRuntime, run: Run) -> io::Result<Next>
     let mut out = output_buffer();
     let t = turn(line, &input[..got], full.from, &mut out);
     let written = t.written;
-    rt.stdout().write_all(&out[..written])?;
+    let put = rt.stdout().write_all(&out[..written]);
     let after = t.line;
     let used = t.used;
     let next = Run {
@@ -180,7 +180,7 @@ fn next_part(rt: HostRuntime, run: Run) -> io::Result<Next>
         got,
     };
     let more = t.more;
-    Ok(Next { run: next, more })
+    (Next { run: next, more }, put)
 }
 
 // Turn after turn, while more is to be read and no write fails; the bound on the turns is the largest number, since a loop has
@@ -192,7 +192,8 @@ fn all(rt: HostRuntime, run: Run) -> io::Result<Run>
     let mut more = true;
     let mut turns = u64::MAX;
     while turns > 0 && more {
-        let next = next_part(rt, run)?;
+        let (next, put) = next_part(rt, run);
+        put?;
         run = next.run;
         more = next.more;
         turns -= 1;

@@ -9,4 +9,4 @@ loop-turns-init c = going-none trial_program (reading_of c.args.run)
 pub loop-turns-preserved : goal.loop-turns-preserved
 loop-turns-preserved c =
     let at = c.loop-turns in
-    going_more trial_program _ _ _ _ at.invariant _ _ c.loop-turns-test.true c.if-more.true c.in_ok-next.ensures
+    going_more trial_program _ _ _ _ at.invariant _ _ c.loop-turns-test.true c.if-more.true c.next_part-put.ensures
