@@ -1,7 +1,7 @@
 // The program `pair`: reads commands on standard input, to its end or to `k`, and prints what each line gives.
 #![tactic(auto)]
 
-ghost use Rattle.std.specs.Prelude.{◌≡◌, false, [], ◌∷◌, ◌+◌, ◌-◌, ◌≤◌, ◌<◌, length};
+ghost use Rattle.std.specs.Prelude.{◌≡◌, false, [], ◌∷◌, ◌+◌, ◌-◌, ◌≤◌, ◌<◌, length, IfOk};
 ghost use Rattle.lists.specs.Part.{part, PutDone};
 ghost use Rattle.text.specs.Line.{newline};
 ghost use Rattle.text.specs.Feed.{fed_all, fed_all_printed, end_printed, first_reading};
@@ -9,8 +9,9 @@ ghost use Rattle.text.specs.Turns.{turn_next, turn_printed, turn_more, SomeTurn,
 ghost use Rattle.script.specs.Output.{pair_program};
 ghost use Rattle.pair.specs.Run.{reading_of};
 
-use libc::{STDIN_FILENO, STDOUT_FILENO};
 use script::Site;
+use std::io;
+use std::io::{Read, Write};
 use text::Line;
 
 // What is kept between two parts of the input.
@@ -179,38 +180,41 @@ fn first() -> Run
 }
 
 // Reads a part of the input, makes its turn and writes what that gives; a read that gives nothing or fails is the end of
-// the input. No contract of read or write says which bytes they move: that the part is what was read, and that the head of
-// out is written, is to be seen here.
-fn next_part(run: Run) -> Next
-    ensures { SomeTurn pair_program (reading_of run) (reading_of result.run) result.more }
+// the input. The turn is made too where the write fails, which is the one error. No contract of read or write says which
+// bytes they move: that the part is what was read, and that the head of out is written, is to be seen here.
+fn next_part(rt: HostRuntime, run: Run) -> (Next, io::Result<()>)
+    ensures { SomeTurn pair_program (reading_of run) (reading_of result.0.run) result.0.more }
 {
     let mut input = [0u8; 1024];
     let mut out = [0u8; 45056];
-    let got = libc::read(STDIN_FILENO, &mut input);
-    let n = io::count(got, &input);
+    let got = rt.stdin().read(&mut input);
+    let n = got.unwrap_or(0);
     let next = turn(run, &input[..n], &mut out);
     let written = next.written;
-    io::write_all(STDOUT_FILENO, &out[..written]);
-    next
+    let put = rt.stdout().write_all(&out[..written]);
+    (next, put)
 }
 
-// Part after part, while more is to be read; the bound on the turns is the largest number, since a loop has to end.
-fn all(run: Run) -> Run
-    ensures { SomeTurns pair_program (reading_of run) (reading_of result) }
+// Part after part, while more is to be read and no write fails; the bound on the turns is the largest number, since a loop has
+// to end.
+fn all(rt: HostRuntime, run: Run) -> io::Result<Run>
+    ensures { IfOk result (λ last. SomeTurns pair_program (reading_of run) (reading_of last)) }
 {
     let mut run = run;
     let mut more = true;
     let mut turns = u64::MAX;
     while turns > 0 && more {
-        let next = next_part(run);
+        let (next, put) = next_part(rt, run);
+        put?;
         run = next.run;
         more = next.more;
         turns -= 1;
     }
-    run
+    Ok(run)
 }
 
 // What all that is written comes to is RunRight (specs/Run.antt), of any parts.
-fn main() {
-    all(first());
+fn main(rt: HostRuntime) -> io::Result<()> {
+    all(rt, first())?;
+    Ok(())
 }

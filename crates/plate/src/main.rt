@@ -1,7 +1,7 @@
 // The program `plate`: reads lines on standard input, to its end, and prints for each what it gives.
 #![tactic(auto)]
 
-ghost use Rattle.std.specs.Prelude.{◌≡◌, true, [], ◌∷◌, ◌+◌, ◌-◌, ◌≤◌, ◌<◌, length};
+ghost use Rattle.std.specs.Prelude.{◌≡◌, true, [], ◌∷◌, ◌+◌, ◌-◌, ◌≤◌, ◌<◌, length, IfOk};
 ghost use Rattle.lists.specs.Part.{part, PutDone};
 ghost use Rattle.text.specs.Line.{newline};
 ghost use Rattle.text.specs.Feed.{fed_all, fed_all_printed, end_printed, first_reading};
@@ -9,8 +9,9 @@ ghost use Rattle.text.specs.Turns.{turn_next, turn_printed, turn_more, SomeTurn,
 ghost use Rattle.plates.specs.Plate.{plate_program};
 ghost use Rattle.plate.specs.Run.{reading_of, line_reading};
 
-use libc::{STDIN_FILENO, STDOUT_FILENO};
 use plates::KeptLine;
+use std::io;
+use std::io::{Read, Write};
 
 // What is kept between two turns: the line under way, and what was read of the input, of which the bytes from `from` to
 // `got` are not yet used.
@@ -127,7 +128,7 @@ fn first() -> Run
 
 // What is kept, with more of the input read where all that was read is used; a read that gives nothing or fails is the
 // end of the input.
-fn refilled(run: Run) -> Run
+fn refilled(rt: HostRuntime, run: Run) -> Run
     ensures { (reading_of result ≡ reading_of run) × (result.got ≤ 512) }
 {
     let line = run.line;
@@ -139,8 +140,8 @@ fn refilled(run: Run) -> Run
         }
     }
     let mut input = [0u8; 512];
-    let n = libc::read(STDIN_FILENO, &mut input);
-    let count = io::count(n, &input);
+    let n = rt.stdin().read(&mut input);
+    let count = n.unwrap_or(0);
     Run {
         line,
         input,
@@ -156,19 +157,20 @@ fn output_buffer() -> [u8; 721072]
     [0; 721072]
 }
 
-// Makes the next turn and writes what that gives. No contract of read or write says which bytes they move: that the part
-// is what was read, and that the head of out is written, is to be seen here and in `refilled`.
-fn next_part(run: Run) -> Next
-    ensures { SomeTurn plate_program (reading_of run) (reading_of result.run) result.more }
+// Makes the next turn and writes what that gives: the turn is made too where the write fails, which is the one error. No
+// contract of read or write says which bytes they move: that the part is what was read, and that the head of out is written,
+// is to be seen here and in `refilled`.
+fn next_part(rt: HostRuntime, run: Run) -> (Next, io::Result<()>)
+    ensures { SomeTurn plate_program (reading_of run) (reading_of result.0.run) result.0.more }
 {
-    let full = refilled(run);
+    let full = refilled(rt, run);
     let line = full.line;
     let input = full.input;
     let got = full.got;
     let mut out = output_buffer();
     let t = turn(line, &input[..got], full.from, &mut out);
     let written = t.written;
-    io::write_all(STDOUT_FILENO, &out[..written]);
+    let put = rt.stdout().write_all(&out[..written]);
     let after = t.line;
     let used = t.used;
     let next = Run {
@@ -178,26 +180,29 @@ fn next_part(run: Run) -> Next
         got,
     };
     let more = t.more;
-    Next { run: next, more }
+    (Next { run: next, more }, put)
 }
 
-// Turn after turn, while more is to be read; the bound on the turns is the largest number, since a loop has to end.
-fn all(run: Run) -> Run
-    ensures { SomeTurns plate_program (reading_of run) (reading_of result) }
+// Turn after turn, while more is to be read and no write fails; the bound on the turns is the largest number, since a loop has
+// to end.
+fn all(rt: HostRuntime, run: Run) -> io::Result<Run>
+    ensures { IfOk result (λ last. SomeTurns plate_program (reading_of run) (reading_of last)) }
 {
     let mut run = run;
     let mut more = true;
     let mut turns = u64::MAX;
     while turns > 0 && more {
-        let next = next_part(run);
+        let (next, put) = next_part(rt, run);
+        put?;
         run = next.run;
         more = next.more;
         turns -= 1;
     }
-    run
+    Ok(run)
 }
 
 // What all that is written comes to is RunRight (specs/Run.antt), of any parts.
-fn main() {
-    all(first());
+fn main(rt: HostRuntime) -> io::Result<()> {
+    all(rt, first())?;
+    Ok(())
 }

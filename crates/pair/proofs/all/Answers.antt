@@ -1,0 +1,12 @@
+use Rattle.text.proofs.TurnLaws.{going-none, going_more}
+use Rattle.script.specs.Output.{pair_program}
+use Rattle.pair.specs.Run.{reading_of}
+use Rattle.pair.proofs.all.Goals as goal
+
+pub loop-turns-init : goal.loop-turns-init
+loop-turns-init c = going-none pair_program (reading_of c.args.run)
+
+pub loop-turns-preserved : goal.loop-turns-preserved
+loop-turns-preserved c =
+    let at = c.loop-turns in
+    going_more pair_program _ _ _ _ at.invariant _ _ c.loop-turns-test.true c.if-more.true c.next_part-put.ensures

@@ -1,0 +1,12 @@
+use Rattle.text.proofs.TurnLaws.{going-none, going_more}
+use Rattle.plates.specs.Plate.{plate_program}
+use Rattle.plate.specs.Run.{reading_of}
+use Rattle.plate.proofs.all.Goals as goal
+
+pub loop-turns-init : goal.loop-turns-init
+loop-turns-init c = going-none plate_program (reading_of c.args.run)
+
+pub loop-turns-preserved : goal.loop-turns-preserved
+loop-turns-preserved c =
+    let at = c.loop-turns in
+    going_more plate_program _ _ _ _ at.invariant _ _ c.loop-turns-test.true c.if-more.true c.next_part-put.ensures
