@@ -1,6 +1,8 @@
 -- For the crates above: the laws of marks and of the walk. The others are for this crate's own proofs.
 pub mod MarkLaws
+pub mod SetLaws
 pub mod NextLaws
 pub mod PlaceLaws
 mod BitLaws
+mod SetBitLaws
 mod WordLaws

@@ -1,11 +1,11 @@
 // Marks, one bit a page, in lent 64-bit words: page p is bit p % 64 of word p / 64.
-// A page past the last word is not marked, and marking it changes nothing.
+// A page past the last word is not marked, and marking it, or clearing its mark, changes nothing.
 #![tactic(auto)]
 
-ghost use Rattle.std.specs.Prelude.{◌≡◌, ◌+◌, ◌-◌, ◌/◌, ◌%◌, ◌^◌, ◌≤◌, ◌<◌, min, get_or};
+ghost use Rattle.std.specs.Prelude.{◌≡◌, cond, ◌+◌, ◌-◌, ◌/◌, ◌%◌, ◌^◌, ◌≤◌, ◌<◌, min, get_or};
 ghost use Rattle.std.specs.Int.Count.{ones, count_trailing_zeros};
-ghost use Rattle.marks.specs.Mark.{with_mark, cleared, count_marks};
-ghost use Rattle.marks.specs.Next.{NextMarked};
+ghost use Rattle.marks.specs.Mark.{words_for, with_mark, without_mark, cleared, all_marked, count_marks};
+ghost use Rattle.marks.specs.Next.{NextMarked, first_marked};
 
 // A place of the walk over the marked pages: a marked page, and the marks behind it in its word. The walk ends at m,
 // with nothing behind it.
@@ -35,6 +35,17 @@ fn least(a: usize, b: usize) -> usize
     if a < b { a } else { b }
 }
 
+// The words that hold n marks, rounded up to whole words; none where there are no marks.
+pub fn words_if(there: bool, n: usize) -> usize
+    requires { n + 63 < 2 ^ 64 }
+    ensures { result ≡ cond there (words_for n) 0 }
+{
+    if there {
+        return (n + 63) / 64;
+    }
+    0
+}
+
 // Marks page p.
 pub fn mark(ws: &mut [u64], p: usize)
     ensures { ws.new ≡ with_mark ws.old p }
@@ -45,6 +56,19 @@ pub fn mark(ws: &mut [u64], p: usize)
         return;
     }
     ws[i] = ws[i] | (1u64 << k);
+}
+
+// Clears page p's mark.
+pub fn unmark(ws: &mut [u64], p: usize)
+    ensures { ws.new ≡ without_mark ws.old p }
+{
+    let i = p / 64;
+    let k = p % 64;
+    if ws.len() <= i {
+        return;
+    }
+    let w = ws[i];
+    ws[i] = w - (w & (1u64 << k));
 }
 
 // Clears the marks of the first m pages: the whole words, then the low bits of the word that holds page m.
@@ -62,6 +86,24 @@ pub fn clear(ws: &mut [u64], m: usize)
         return;
     }
     ws[whole] = ws[whole] >> k << k;
+}
+
+// Sets the marks of the first m pages: the whole words, then the low bits of the word that holds page m.
+pub fn set_first(ws: &mut [u64], m: usize)
+    ensures { ws.new ≡ all_marked ws.old m }
+{
+    let whole = least(m / 64, ws.len());
+    let k = m % 64;
+    let mut i = 0;
+    while i < whole {
+        ws[i] = u64::MAX;
+        i += 1;
+    }
+    if ws.len() <= whole {
+        return;
+    }
+    let bit = 1u64 << k;
+    ws[whole] = ws[whole] | (bit - 1);
 }
 
 // How many of the first m pages are marked: the whole words, then the low bits of the word that holds page m.
@@ -111,6 +153,13 @@ fn next_marked(ws: &[u64], p: usize, m: usize) -> usize
         q += n;
     }
     m
+}
+
+// The lowest marked page below m, or m where there is none.
+pub fn first_marked(ws: &[u64], m: usize) -> usize
+    ensures { result ≡ first_marked ws.now m }
+{
+    next_marked(ws, 0, m)
 }
 
 // The marks behind page p in its word: the word with the marks up to p, p's own too, cleared.
