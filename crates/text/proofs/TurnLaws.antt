@@ -11,7 +11,7 @@ use Rattle.lists.specs.Part.{PutDone}
 use Rattle.lists.proofs.TestLaws.{by-test, both, not-both, eq-or-ne, cond-true, cond-false}
 use Rattle.text.specs.Line.{is_empty}
 use Rattle.text.specs.Feed.{Program, KeptRight, Reading, reading, first_reading, fed_all, fed_all_printed, end_printed}
-use Rattle.text.specs.Turns.{turn_next, turn_printed, turn_more, all_next, all_printed, all_more, is_none, ends_after, SomeTurn, SomeTurns, most_turns, none_empty, RunRight}
+use Rattle.text.specs.Turns.{turn_next, turn_printed, turn_more, all_next, all_printed, all_more, is_none, ends_after, SomeTurn, SomeTurns, TurnsMade, most_turns, none_empty, RunRight}
 use Rattle.text.proofs.FeedLaws.{output-fed, over-fed, over-printed}
 use Rattle.text.proofs.FeedPartLaws.{fed-append, printed-append, fed-over}
 
@@ -203,6 +203,15 @@ module _ {S L : Type 0} (p : Program S L) where
           count = omega arith;
           on = λ e. more-more g.parts first t.part (g.on w) ∙ is ∙ e;
           off = λ e. ends_more g.parts first t.part (g.on w) ∙ ap not (is ∙ e);
+        }
+
+    -- whether or not more is to be read
+    pub going-made : TurnsMade p first now
+    going-made =
+        record {
+          parts = g.parts;
+          last_is = g.now-is;
+          so_far = ⊎_elim (λ (w : was ≡ true). inr (g.on w)) (λ (w : was ≡ false). inl (g.off w)) (by-test was);
         }
 
     -- no more is to be read

@@ -63,6 +63,12 @@ pub record SomeTurns {S L : Type 0} (p : Program S L) (first last : Reading S L)
   pub last_is : last ≡ all_next p first parts
   pub all_made : (ends_after p first parts ≡ true) ⊎ ((all_more p first parts ≡ true) × (length parts ≡ most_turns))
 
+-- turns were made on some parts, none after one after which no more is read: what a write that fails leaves
+pub record TurnsMade {S L : Type 0} (p : Program S L) (first last : Reading S L) : Type 0 where
+  pub parts : List (List ℕ)
+  pub last_is : last ≡ all_next p first parts
+  pub so_far : (ends_after p first parts ≡ true) ⊎ (all_more p first parts ≡ true)
+
 -- ---- what is claimed of a program over any parts
 
 -- none of them is empty: the end of the input is not among them

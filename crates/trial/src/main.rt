@@ -6,7 +6,7 @@ ghost use Rattle.std.specs.Prelude.{◌≡◌, false, [], ◌∷◌, ◌+◌, �
 ghost use Rattle.lists.specs.Part.{part, PutDone};
 ghost use Rattle.text.specs.Line.{newline};
 ghost use Rattle.text.specs.Feed.{fed_all, fed_all_printed, end_printed, first_reading};
-ghost use Rattle.text.specs.Turns.{turn_next, turn_printed, turn_more, SomeTurn, SomeTurns};
+ghost use Rattle.text.specs.Turns.{turn_next, turn_printed, turn_more, SomeTurn, SomeTurns, TurnsMade};
 ghost use Rattle.trials.specs.Output.{trial_program};
 ghost use Rattle.trial.specs.Run.{reading_of};
 
@@ -202,26 +202,29 @@ fn next_part(rt: HostRuntime, run: Run) -> (Next, io::Result<()>)
     (next, put)
 }
 
-// Part after part, while more is to be read and no write fails; the bound on the turns is the largest number, since a loop has
-// to end.
-fn all(rt: HostRuntime, run: Run) -> io::Result<Run>
-    ensures { IfOk result (λ last. SomeTurns trial_program (reading_of run) (reading_of last)) }
+// Part after part, while more is to be read and no write fails; the bound on the turns is the largest number, since a
+// loop has to end. Beside what is kept stands whether all was written: a write that fails is the one error.
+fn all(rt: HostRuntime, run: Run) -> (Run, io::Result<()>)
+    ensures made { TurnsMade trial_program (reading_of run) (reading_of result.0) }
+    ensures whole { IfOk result.1 (λ _. SomeTurns trial_program (reading_of run) (reading_of result.0)) }
 {
     let mut run = run;
     let mut more = true;
     let mut turns = u64::MAX;
     while turns > 0 && more {
         let (next, put) = next_part(rt, run);
-        put?;
         run = next.run;
         more = next.more;
         turns -= 1;
+        if let Err(e) = put {
+            return (run, Err(e));
+        }
     }
-    Ok(run)
+    (run, Ok(()))
 }
 
 // What all that is written comes to is RunRight (specs/Run.antt), of any parts.
 fn main(rt: HostRuntime) -> io::Result<()> {
-    all(rt, first())?;
-    Ok(())
+    let (_run, put) = all(rt, first());
+    put
 }

@@ -1,4 +1,4 @@
-use Rattle.text.proofs.TurnLaws.{going-none, going_more}
+use Rattle.text.proofs.TurnLaws.{going-none, going_more, going-made}
 use Rattle.script.specs.Output.{pair_program}
 use Rattle.pair.specs.Run.{reading_of}
 use Rattle.pair.proofs.all.Goals as goal
@@ -10,3 +10,9 @@ pub loop-turns-preserved : goal.loop-turns-preserved
 loop-turns-preserved c =
     let at = c.loop-turns in
     going_more pair_program _ _ _ _ at.invariant _ _ c.loop-turns-test.true c.if-more.true c.next_part-put.ensures
+
+-- the turn is made whose write fails
+pub returns-in-Err-clause-made : goal.returns-in-Err-clause-made
+returns-in-Err-clause-made c =
+    let at = c.loop-turns in
+    going-made pair_program _ _ _ _ (going_more pair_program _ _ _ _ at.invariant _ _ c.loop-turns-test.true c.if-more.true c.next_part-put.ensures)
