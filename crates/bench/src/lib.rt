@@ -3,12 +3,13 @@
 #![tactic(auto)]
 
 use detector::Detector;
-use marks::{count, marked_after, marked_from};
+use marks::{count, marked};
 use primary::checkpoint::checkpoint;
 use primary::packets::{packet, take};
 use primary::stream::drain;
 use queue::{Packet, Queue};
-use rules::{Answer, Mode, Primary, PrimaryReply, Standby, StandbyAnswer};
+use records::Unread;
+use rules::{Accepted, Mode, Primary, ReadReply, Reply, Standby};
 use settings::{PrimarySettings, StandbySettings};
 use staging::Slots;
 use standby::flush::flush;
@@ -19,10 +20,7 @@ const REFUSED: u64 = 18446744073709551615;
 
 // The value of an accepted call.
 fn told(number: u64, value: u64) -> u64 {
-    if number != 0 {
-        return REFUSED;
-    }
-    value
+    if number == 0 { value } else { REFUSED }
 }
 
 fn detector_of() -> Detector {
@@ -40,18 +38,11 @@ fn packets_of(count: usize, size: usize) -> [Packet; 64] {
         port: 0,
     };
     let mut packets = [none; 64];
-    let mut i = 0;
-    while i < 64 {
-        if count <= i {
-            return packets;
-        }
-        packets[i] = Packet {
-            epoch: 1,
-            length: (size % 65536) as u16,
-            port: 0,
-        };
-        i += 1;
-    }
+    packets[..count.min(64)].fill(Packet {
+        epoch: 1,
+        length: (size % 65536) as u16,
+        port: 0,
+    });
     packets
 }
 
@@ -85,31 +76,29 @@ fn primary_of(
     };
     let detector = detector_of();
     Primary {
-        settings: settings,
-        detector: detector,
+        settings,
+        detector,
         epoch: 2,
         acknowledged: 0,
-        alone: alone,
+        alone,
         blocks: 0,
         records: 0,
-        waiting: waiting,
-        queue: queue,
+        waiting,
+        queue,
         numbers: [0; 64],
     }
 }
 
 // Staged blocks, all due: slot i has block i.
 fn slots_of(staged: usize) -> Slots {
-    let mut numbers = [0usize; 64];
-    let mut i = 0;
-    while i < 64 {
-        numbers[i] = i;
-        i += 1;
+    let mut numbers = [0; 64];
+    for (i, number) in numbers.iter_mut().enumerate() {
+        *number = i;
     }
     Slots {
-        staged: staged,
+        staged,
         due: staged,
-        numbers: numbers,
+        numbers,
     }
 }
 
@@ -126,16 +115,16 @@ fn standby_of(
     let settings = StandbySettings { u, m, d, b: 0, s };
     let detector = detector_of();
     Standby {
-        settings: settings,
-        detector: detector,
+        settings,
+        detector,
         mode: Mode::Receiving,
         received: 1,
-        slots: slots,
+        slots,
         blocks: 0,
         records: 0,
-        pages: pages,
+        pages,
         next: pages,
-        seen: seen,
+        seen,
         pending: [5; 64],
         processor: [3; 64],
     }
@@ -173,12 +162,10 @@ pub extern "C" fn bench_drain(
     let k = queue_of(kept, 1, kept);
     let mut p = primary_of(u, m, 64, stream.len(), false, waiting, k);
     let mut last = 0;
-    let mut i = 0;
-    while i < rounds {
+    for _ in 0..rounds {
         let r = drain(p, stream, n, destination);
         last = told(r.number, r.value);
         p = r.state;
-        i += 1;
     }
     last
 }
@@ -190,7 +177,7 @@ fn packet_and_take(
     port: usize,
     one: &[u8],
     destination: &mut [u8],
-) -> PrimaryReply {
+) -> Reply<Primary> {
     let r = packet(p, held, port, one);
     let number = r.number;
     let mut t = take(r.state, held, port, destination);
@@ -216,12 +203,10 @@ pub extern "C" fn bench_packets(
     let k = queue_of(kept, size, bytes);
     let mut p = primary_of(64, 1, held.len(), 158, true, 0, k);
     let mut last = 0;
-    let mut i = 0;
-    while i < rounds {
+    for _ in 0..rounds {
         let r = packet_and_take(p, held, port, one, destination);
         last = told(r.number, r.value);
         p = r.state;
-        i += 1;
     }
     last
 }
@@ -236,30 +221,22 @@ fn read_at(
     marks: &mut [u64],
     blocks: &mut [u8],
     reply: &mut [u8],
-) -> StandbyAnswer {
+) -> ReadReply<Standby> {
     if bytes.len() < at {
-        return StandbyAnswer {
+        return ReadReply {
             state: s,
-            answer: Answer::Short { missing: 4 },
+            answer: Err(Unread::Short { missing: 4 }),
         };
     }
     read(s, &bytes[at..], memory, pages, marks, blocks, reply)
 }
 
 // The place behind what a read used, where it was accepted.
-fn behind(at: usize, a: Answer) -> usize {
-    let n = match a {
-        Answer::Accepted { value: _, used } => used,
-        Answer::Short { missing: _ } => 0,
-        Answer::Refused { number: _ } => 0,
-    };
-    if 65536 < n {
-        return at;
+fn behind(at: usize, answer: Result<Accepted, Unread>) -> usize {
+    match answer {
+        Ok(Accepted { used, .. }) if used <= 65536 && at <= 4294967296 => at + used,
+        _ => at,
     }
-    if 4294967296 < at {
-        return at;
-    }
-    at + n
 }
 
 // Reads of records that stand one behind the other, rounds times: how many bytes they used.
@@ -281,13 +258,10 @@ pub extern "C" fn bench_read(
     let k = slots_of(0);
     let mut state = standby_of(u, m, 64, s, k, had, seen);
     let mut at = 0;
-    let mut i = 0;
-    while i < rounds {
+    for _ in 0..rounds {
         let r = read_at(state, bytes, at, memory, pages, marks, blocks, reply);
-        let answer = r.answer;
-        at = behind(at, answer);
+        at = behind(at, r.answer);
         state = r.state;
-        i += 1;
     }
     at as u64
 }
@@ -323,13 +297,10 @@ pub extern "C" fn bench_standby_ticks(
     let k = slots_of(0);
     let mut state = standby_of(u, m, 64, s, k, 0, false);
     let mut last = 0;
-    let mut i = 0;
-    while i < rounds {
+    for _ in 0..rounds {
         let r = standby::takeover::tick(state, marks);
         state = r.state;
-        let d = state.detector;
-        last = told(r.number, d.count as u64);
-        i += 1;
+        last = told(r.number, state.detector.count as u64);
     }
     last
 }
@@ -343,11 +314,5 @@ pub extern "C" fn bench_count(marks: &[u64], m: usize) -> u64 {
 // The walk from marked page to marked page: how many of the first m pages it passes.
 #[unsafe(no_mangle)]
 pub extern "C" fn bench_walk(marks: &[u64], m: usize) -> u64 {
-    let mut passed = 0;
-    let mut place = marked_from(marks, 0, m);
-    while place.page < m {
-        passed += 1;
-        place = marked_after(marks, place, m);
-    }
-    passed
+    marked(marks, m).count() as u64
 }

@@ -1,5 +1,9 @@
 -- The answer word cuts nothing off: the number, the bytes used or missing and the value of every call's reply fit their
 -- parts of it, and only cut short has its number. At most the lent words are asked to be a state. Assumes nothing.
+use Rattle.rules.specs.declared.Accepted.{Accepted}
+use Rattle.records.specs.declared.Unread.TheVariants as unread
+use Rattle.rules.specs.declared.Reply.{Reply}
+use Rattle.std.specs.Prelude.{Result, Ok, Err}
 use mathlib.Core.Path.{◌≡◌, refl, sym, subst}
 use mathlib.Core.List.{List, [], ◌∷◌}
 use mathlib.Core.Bool.{Bool, true, false, cond, ◌&&◌}
@@ -15,7 +19,9 @@ use Rattle.records.specs.declared.Cursor.{Cursor}
 use Rattle.records.specs.declared.Reader.{Reader}
 use Rattle.records.specs.declared.Reader.TheVariants as reader
 use Rattle.records.specs.declared.Record.{Record}
-use Rattle.records.specs.declared.Record.TheVariants.{Page, Block, State, Commit, Ack, Short, Refused}
+use Rattle.records.specs.declared.Unread.{Unread}
+use Rattle.records.specs.declared.Record.TheVariants.{Page, Block, State, Commit, Ack}
+use Rattle.records.specs.declared.Unread.TheVariants.{Short, Refused}
 use Rattle.records.specs.declared.Area.{Area}
 use Rattle.records.specs.declared.Area.TheVariants.{Zero, Activation, Neither}
 use Rattle.records.specs.Area.{area_of, area_length}
@@ -27,16 +33,10 @@ use Rattle.queue.specs.Held.{oldest_at, oldest}
 use Rattle.staging.specs.Slot.{flush_count}
 use Rattle.sums.specs.Sum.{sum_over, rising}
 use Rattle.sums.proofs.SumLaws.{sum_low}
-use Rattle.rules.specs.declared.Answer.{Answer}
-use Rattle.rules.specs.declared.Answer.TheVariants.{Accepted}
-use Rattle.rules.specs.declared.Answer.TheVariants as answer
 use Rattle.rules.specs.declared.Primary.{Primary}
-use Rattle.rules.specs.declared.PrimaryReply.{PrimaryReply}
 use Rattle.rules.specs.declared.Standby.{Standby}
-use Rattle.rules.specs.declared.StandbyReply.{StandbyReply}
 use Rattle.rules.specs.declared.ReadLent.{ReadLent}
 use Rattle.rules.specs.declared.StartLent.{StartLent}
-use Rattle.rules.specs.declared.Choice.TheVariants as choice-of
 use Rattle.rules.specs.Reply.{number_of, value_of, used_of, missing_of, unless_refused, answer_of}
 use Rattle.rules.specs.PrimaryState.{primary_ok, protected}
 use Rattle.rules.specs.StandbyState.{standby_ok, is_receiving}
@@ -51,6 +51,7 @@ use Rattle.rules.specs.Read.{read_reply}
 use Rattle.rules.specs.Flush.{flush_tests, flush_refusal, flush_reply}
 use Rattle.rules.specs.Takeover.{standby_tick_tests, standby_tick_refusal, standby_tick_reply, activation_tests, activation_refusal, activation_reply, active_write_tests, active_memory_write_refusal, active_memory_write_reply, active_disk_write_refusal, active_disk_write_reply}
 use Rattle.rules.specs.Start.{start_tests, start_refusal, started}
+use Rattle.records.specs.declared.refusal.Refusal.TheVariants.{OutOfRange}
 use Rattle.rules.specs.Choose.{area_choice, choice_of, choice_number, disk_of}
 use Rattle.rules.proofs.ReplyLaws.{pick-cases, unless-cases, answer-found}
 use Rattle.rules.proofs.PrimaryFacts.{primary-facts}
@@ -95,15 +96,15 @@ pub reply-parts : {n v : ℕ} → ReplyFits n v → Parts (reply_word n v) n 0 0
 reply-parts f = told-parts f.number (omega arith) f.value
 
 -- of the answer of a call that reads a record
-abbrev pub AnsweredFits : Answer → Type 0
-AnsweredFits (Accepted value used) = (used < 65536) × (value < 4294967296)
-AnsweredFits (answer.Short missing) = missing < 65536
-AnsweredFits (answer.Refused number) = number < cut_short
+abbrev pub AnsweredFits : Result Accepted Unread → Type 0
+AnsweredFits (Ok a) = (a.used < 65536) × (a.value < 4294967296)
+AnsweredFits (Err (unread.Short missing)) = missing < 65536
+AnsweredFits (Err (unread.Refused number)) = number < cut_short
 
-pub record-parts : (a : Answer) → AnsweredFits a → Parts (record_word a) (number_of a) (used_of a) (missing_of a) (value_of a)
-record-parts (Accepted value used) f = told-parts (omega arith) f.0 f.1
-record-parts (answer.Short missing) f = short-parts f
-record-parts (answer.Refused number) f = told-parts f (omega arith) (omega arith)
+pub record-parts : (a : Result Accepted Unread) → AnsweredFits a → Parts (record_word a) (number_of a) (used_of a) (missing_of a) (value_of a)
+record-parts (Ok a) f = told-parts (omega arith) f.0 f.1
+record-parts (Err (unread.Short missing)) f = short-parts f
+record-parts (Err (unread.Refused number)) f = told-parts f (omega arith) (omega arith)
 
 -- ---- calls that read no record
 
@@ -131,10 +132,10 @@ pub reply-fits : (ts : List Test) (v : ℕ) → all_below ts ≡ true → (refus
 reply-fits ts v b f =
     reply-of (refusal-below ts b) (pick-cases (λ (x : ℕ). x < 4294967296) (refusal ts) v 0 f (λ e. omega arith))
 
-abbrev pub PrimaryFits : PrimaryReply → Type 0
+abbrev pub PrimaryFits : Reply Primary → Type 0
 PrimaryFits r = ReplyFits r.number r.value
 
-abbrev pub StandbyFits : StandbyReply → Type 0
+abbrev pub StandbyFits : Reply Standby → Type 0
 StandbyFits r = ReplyFits r.number r.value
 
 -- ---- the primary's, of words that are a state: the value is an epoch or a packet's length, which fit their words
@@ -230,19 +231,19 @@ module _ (s : Standby) where
 
 -- a record with its own refusal, behind the tests of the state and of its mode: the answer fits where that of an
 -- accepted record does
-judged-fits : (a b : Bool) (n : ℕ) (r : Record) → n < cut_short → (n ≡ 0 → AnsweredFits (answer_of r))
-    → AnsweredFits (answer_of (cond a (cond b (unless_refused n r) (Refused wrong_mode)) (Refused out_of_range)))
+judged-fits : (a b : Bool) (n : ℕ) (r : Result Record Unread) → n < cut_short → (n ≡ 0 → AnsweredFits (answer_of r))
+    → AnsweredFits (answer_of (cond a (cond b (unless_refused n r) (Err (Refused wrong_mode))) (Err (Refused out_of_range))))
 judged-fits false b n r low taken = omega arith
 judged-fits true false n r low taken = omega arith
 judged-fits true true n r low taken = unless-cases n r (λ x. AnsweredFits (answer_of x)) taken (λ z. low)
 
 -- the record that is read has its kind as its value, but for an ACK
-found-fits : (for : Reader) (u : ℕ) (s : List ℕ) → ((e : ℕ) (c : Cursor) → read_record for u s ≡ Ack e c → e < 4294967296)
+found-fits : (for : Reader) (u : ℕ) (s : List ℕ) → ((e : ℕ) (c : Cursor) → read_record for u s ≡ Ok (Ack e c) → e < 4294967296)
     → AnsweredFits (answer_of (read_record for u s))
 found-fits for u s f = go (read_record for u s) (read-ranges for u s) f
   where
-    go : (r : Record) → ReadRanges for s r → ((e : ℕ) (c : Cursor) → r ≡ Ack e c → e < 4294967296) → AnsweredFits (answer_of r)
-    go = found-cases (λ r. ReadRanges for s r → ((e : ℕ) (c : Cursor) → r ≡ Ack e c → e < 4294967296) → AnsweredFits (answer_of r))
+    go : (r : Result Record Unread) → ReadRanges for s r → ((e : ℕ) (c : Cursor) → r ≡ Ok (Ack e c) → e < 4294967296) → AnsweredFits (answer_of r)
+    go = found-cases (λ r. ReadRanges for s r → ((e : ℕ) (c : Cursor) → r ≡ Ok (Ack e c) → e < 4294967296) → AnsweredFits (answer_of r))
         (λ r h g f.
         let v : read.value_of r < 4294967296 = on-ack (λ (x : ℕ). x < 4294967296) (λ e c. e) (kind_of r) r f (omega (arith, g.kind)) in
         subst AnsweredFits (sym (answer-found r h)) (omega (arith, g.used), v))
@@ -260,15 +261,15 @@ ack-fits w ok bytes =
 
 -- every refusal of a record at the standby
 module _ (s : Standby) (reply : ℕ) where
-  record-below : (r : Record) → other_refusal r ≤ bad_length → record_refusal s reply r < cut_short
+  record-below : (r : Result Record Unread) → other_refusal r ≤ bad_length → record_refusal s reply r < cut_short
   unfolding page_refusal block_refusal state_refusal commit_refusal
-  record-below (Page w e p c) h = refusal-below (page_tests s e p) refl
-  record-below (Block e n c) h = refusal-below (block_tests s (free_for s) e n) refl
-  record-below (State e c) h = refusal-below (state_tests s e) refl
-  record-below (Commit w e p b c) h = refusal-below (commit_tests s reply e p b) refl
-  record-below (Ack e c) h = omega arith
-  record-below (Short n) h = omega arith
-  record-below (Refused n) h = omega arith
+  record-below (Ok (Page w e p c)) h = refusal-below (page_tests s e p) refl
+  record-below (Ok (Block e n c)) h = refusal-below (block_tests s (free_for s) e n) refl
+  record-below (Ok (State e c)) h = refusal-below (state_tests s e) refl
+  record-below (Ok (Commit w e p b c)) h = refusal-below (commit_tests s reply e p b) refl
+  record-below (Ok (Ack e c)) h = omega arith
+  record-below (Err (Short n)) h = omega arith
+  record-below (Err (Refused n)) h = omega arith
 
 -- of any state; an ACK is of another kind
 pub read_fits : (s : Standby) (l : ReadLent) (bytes : List ℕ) → AnsweredFits (read_reply s l bytes).answer
@@ -279,7 +280,7 @@ read_fits s l bytes =
     (record-below s l.reply r (read-ranges (reader_of s) s.settings.u bytes).other)
     (λ z. found-fits (reader_of s) s.settings.u bytes (λ e c q. absurd (other e c (rw q at z))))
   where
-    other : (e : ℕ) (c : Cursor) → record_refusal s l.reply (Ack e c) ≡ 0 → ⊥
+    other : (e : ℕ) (c : Cursor) → record_refusal s l.reply (Ok (Ack e c)) ≡ 0 → ⊥
     other e c z = omega arith
 
 -- ---- start and the disk choice
@@ -292,7 +293,7 @@ pub choice-fits : (primary standby : ℕ) (area : List ℕ) → ReplyFits (choic
 unfolding choice_of
 choice-fits primary standby area = go (eqb primary standby && eqb (length area) area_length) (area_of area)
   where
-    go : (b : Bool) (a : Area) → let c = cond b (area_choice a) (choice-of.Refused out_of_range) in ReplyFits (choice_number c) (disk_of c)
+    go : (b : Bool) (a : Area) → let c = cond b (area_choice a) (Err OutOfRange) in ReplyFits (choice_number c) (disk_of c)
     go true Zero = reply-of (omega arith) (omega arith)
     go true (Activation epoch) = reply-of (omega arith) (omega arith)
     go true Neither = reply-of (omega arith) (omega arith)

@@ -1,5 +1,6 @@
 -- What differs from the state lent is one packet and one block number at most: nothing where a call keeps both, a packet
 -- where it stores one, a block number where it remembers one. Assumes nothing.
+use Rattle.rules.specs.declared.Reply.{Reply}
 use mathlib.Core.Path.{◌≡◌, refl, sym, ap, ap₂, ◌∙◌}
 use mathlib.Core.List.{List}
 use mathlib.Core.Bool.{cond}
@@ -16,13 +17,15 @@ use Rattle.settings.specs.Range.{most_packets, most_allowance}
 use Rattle.queue.specs.declared.Packet.{Packet}
 use Rattle.queue.specs.Held.{no_packet, packet_at, added}
 use Rattle.rules.specs.declared.Primary.{Primary}
-use Rattle.rules.specs.declared.PrimaryReply.{PrimaryReply}
 use Rattle.rules.specs.PrimaryState.{is_written}
 use Rattle.rules.specs.PrimaryWrites.{disk_write_refusal, with_block_appended, disk_write_state, disk_write_reply}
 use Rattle.rules.specs.Packets.{packet_refusal, packet_reply}
 use Rattle.rules.proofs.ReplyLaws.{pick-cases}
 use Rattle.rules.proofs.PacketLaws.{packet-accepted}
-use Rattle.rules.proofs.QueueLaws.{Kept}
+use Rattle.rules.proofs.QueueLaws.{Kept, memory-write-kept, checkpoint-kept, drain_kept, tick-kept, ack-kept}
+
+-- calls that keep the packets and the block numbers
+pub ruleset kept = (memory-write-kept, checkpoint-kept, drain_kept, tick-kept, ack-kept)
 
 -- the next state differs from the one lent in this packet and in this block number at most, as `store_one` asks
 abbrev pub OneDiffers : (lent next : Primary) (i j : ℕ) → Type 0
@@ -75,15 +78,15 @@ module _ (p : Primary) where
       (eq-or-ne number 0)
 
 -- by what the code has: the state read, the reply, and the place
-pub disk-write-stores : (lent p : Primary) (r : PrimaryReply) (disk stream block n j : ℕ) → p ≡ lent → length lent.numbers ≡ most_allowance → r ≡ disk_write_reply p disk stream block n
+pub disk-write-stores : (lent p : Primary) (r : Reply Primary) (disk stream block n j : ℕ) → p ≡ lent → length lent.numbers ≡ most_allowance → r ≡ disk_write_reply p disk stream block n
     → j ≡ cond (ltb p.blocks most_allowance) p.blocks 0 → OneDiffers lent r.state 0 j
 disk-write-stores lent p r disk stream block n j is array e at = rw (at, e, is) (disk-write-one lent disk stream block n array)
 
-pub packet-stores : (lent p : Primary) (r : PrimaryReply) (held port n i : ℕ) → p ≡ lent → length lent.queue.packets ≡ most_packets → r ≡ packet_reply p held port n
+pub packet-stores : (lent p : Primary) (r : Reply Primary) (held port n i : ℕ) → p ≡ lent → length lent.queue.packets ≡ most_packets → r ≡ packet_reply p held port n
     → i ≡ pick r.number p.queue.count 0 → OneDiffers lent r.state i 0
 unfolding packet_reply
 packet-stores lent p r held port n i is array e at =
     let e' : r ≡ packet_reply lent held port n = e ∙ ap (λ (x : Primary). packet_reply x held port n) is in
     let at' : i ≡ pick (packet_refusal lent held port n) lent.queue.count 0
-    = at ∙ ap₂ (λ (m k : ℕ). pick m k 0) (ap (λ (x : PrimaryReply). x.number) e') (ap (λ (x : Primary). x.queue.count) is) in
+    = at ∙ ap₂ (λ (m k : ℕ). pick m k 0) (ap (λ (x : Reply Primary). x.number) e') (ap (λ (x : Primary). x.queue.count) is) in
     rw (at', e') (packet-one lent held port n array)

@@ -1,5 +1,9 @@
 -- The bytes missing where an answer's word says that a record is cut short (document 02, Job 2): of the same words and
 -- lent lengths, what is claimed of the record test. Of words that are no state the answer is 1. Assumes nothing.
+use Rattle.std.specs.Prelude.{Result, Ok, Err}
+use Rattle.rules.specs.declared.Accepted.{Accepted}
+use Rattle.records.specs.declared.Unread.{Unread}
+use Rattle.records.specs.declared.Unread.TheVariants.{Short, Refused}
 use mathlib.Core.Path.{◌≡◌, sym, ap, ◌∙◌}
 use mathlib.Core.List.{List}
 use mathlib.Core.Bool.{Bool, true, cond, false≢true}
@@ -14,8 +18,6 @@ use Rattle.records.specs.declared.Reader.TheVariants as reader
 use Rattle.records.specs.Read.{cut_short}
 use Rattle.records.specs.Missing.{MissingRight}
 use Rattle.records.proofs.MissingLaws.{missing-where, missing-as}
-use Rattle.rules.specs.declared.Answer.{Answer}
-use Rattle.rules.specs.declared.Answer.TheVariants.{Accepted, Short, Refused}
 use Rattle.rules.specs.declared.ReadLent.{ReadLent}
 use Rattle.rules.specs.Reply.{number_of, missing_of}
 use Rattle.rules.specs.Stream.{ack_reply}
@@ -28,36 +30,36 @@ use Rattle.capi.specs.StandbyCalls.{LentStandby, is_standby, standby_in}
 use Rattle.capi.proofs.AnswerLaws.{AnsweredFits, record-parts, ack-fits, read_fits}
 
 -- only cut short has its number
-says-short : (a : Answer) → AnsweredFits a → (n : ℕ) → SaysMissing (record_word a) n → a ≡ Short n
-says-short (Accepted value used) f n c =
-    let p = record-parts (Accepted value used) f in
-    absurd (omega (arith, p.number_is, eqb-true (answer_number (record_word (Accepted value used))) cut_short c.0))
-says-short (Short missing) f n c = ap Short (sym (record-parts (Short missing) f).missing_is ∙ c.1)
-says-short (Refused number) f n c =
-    let p = record-parts (Refused number) f in
-    absurd (omega (arith, p.number_is, eqb-true (answer_number (record_word (Refused number))) cut_short c.0))
+says-short : (a : Result Accepted Unread) → AnsweredFits a → (n : ℕ) → SaysMissing (record_word a) n → a ≡ Err (Short n)
+says-short (Ok a) f n c =
+    let p = record-parts (Ok a) f in
+    absurd (omega (arith, p.number_is, eqb-true (answer_number (record_word (Ok a))) cut_short c.0))
+says-short (Err (Short missing)) f n c = ap (λ (m : ℕ). Err (Short m)) (sym (record-parts (Err (Short missing)) f).missing_is ∙ c.1)
+says-short (Err (Refused number)) f n c =
+    let p = record-parts (Err (Refused number)) f in
+    absurd (omega (arith, p.number_is, eqb-true (answer_number (record_word (Err (Refused number)))) cut_short c.0))
 
-short-says : (a : Answer) → AnsweredFits a → (n : ℕ) → a ≡ Short n → SaysMissing (record_word a) n
+short-says : (a : Result Accepted Unread) → AnsweredFits a → (n : ℕ) → a ≡ Err (Short n) → SaysMissing (record_word a) n
 short-says a f n e =
     let p = record-parts a f in
     (eq-eqb (answer_number (record_word a)) cut_short (p.number_is ∙ ap number_of e), p.missing_is ∙ ap missing_of e)
 
 -- where a state is lent the word is the answer's, else 1
-module _ (for : Reader) (u : ℕ) (ok : Bool) (answer : List ℕ → Answer) (fits : ok ≡ true → (bytes : List ℕ) → AnsweredFits (answer bytes)) where
+module _ (for : Reader) (u : ℕ) (ok : Bool) (answer : List ℕ → Result Accepted Unread) (fits : ok ≡ true → (bytes : List ℕ) → AnsweredFits (answer bytes)) where
   abbrev Says : List ℕ → ℕ → Type 0
   Says bytes n = SaysMissing (cond ok (record_word (answer bytes)) out_of_range) n
 
-  says-missing : MissingRight for u (λ bytes n. answer bytes ≡ Short n) → MissingRight for u Says
+  says-missing : MissingRight for u (λ bytes n. answer bytes ≡ Err (Short n)) → MissingRight for u Says
   says-missing right =
-      missing-as for u (λ bytes n. (ok ≡ true) × (answer bytes ≡ Short n)) Says to from (missing-where for u (ok ≡ true) (λ bytes n. answer bytes ≡ Short n) right)
+      missing-as for u (λ bytes n. (ok ≡ true) × (answer bytes ≡ Err (Short n))) Says to from (missing-where for u (ok ≡ true) (λ bytes n. answer bytes ≡ Err (Short n)) right)
     where
       lent : (bytes : List ℕ) (n : ℕ) → Says bytes n → ok ≡ true
       lent bytes n c = ⊎_elim (λ e. e) (λ none. absurd (false≢true (rw none at c.0))) (by-test ok)
 
-      to : (bytes : List ℕ) (n : ℕ) → Says bytes n → (ok ≡ true) × (answer bytes ≡ Short n)
+      to : (bytes : List ℕ) (n : ℕ) → Says bytes n → (ok ≡ true) × (answer bytes ≡ Err (Short n))
       to bytes n c = let e = lent bytes n c in (e, says-short (answer bytes) (fits e bytes) n (rw e at c))
 
-      from : (bytes : List ℕ) (n : ℕ) → (ok ≡ true) × (answer bytes ≡ Short n) → Says bytes n
+      from : (bytes : List ℕ) (n : ℕ) → (ok ≡ true) × (answer bytes ≡ Err (Short n)) → Says bytes n
       from bytes n c = rw c.0 (short-says (answer bytes) (fits c.0 bytes) n c.1)
 
 -- `primary_acknowledge` and `standby_read`, by what their contracts say of the answer

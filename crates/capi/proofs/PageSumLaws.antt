@@ -13,10 +13,14 @@ use Rattle.lists.proofs.TestLaws.{both, within-facts, accepted}
 use Rattle.lists.proofs.PageLaws.{page-end}
 use Rattle.records.specs.Kind.{unit_ok}
 use Rattle.records.proofs.KindLaws.{unit-le}
+use Rattle.records.proofs.RefusalLaws.{refusal-some}
 use Rattle.settings.specs.Range.{most_pages, memory_pages_ok}
 use Rattle.sums.specs.Sum.{page_sum}
 use Rattle.capi.specs.PairCalls.{page_sum_tests, page_sum_refusal, page_sum_word}
 use Rattle.capi.proofs.AnswerLaws.{Parts, reply-parts, reply-fits}
+
+-- a page size is in its range
+pub ruleset units = (unit-le)
 
 -- the page is one of the image, as its part requires it
 pub page-sum-accepted : (u image page : ℕ) → page_sum_refusal u image page ≡ 0 → (u ≤ 4096) × (page * u + u ≤ image) × (image ≤ 268435456)
@@ -29,6 +33,9 @@ page-sum-accepted u image page e =
     let small = (unit-le u w.0).1 in
     let most : image / u * u ≤ 268435456 = mul-le-mul few small in
     (small, omega (arith, page-end page (image / u) u (ltb-true page (image / u) h.1.0), div-mul-le_self image u), omega (arith, most, div-add-mod' image u, eqb-true (image % u) 0 w.1))
+
+-- a page's part is refused or accepted
+pub ruleset told = (page-sum-accepted, refusal-some)
 
 pub page-sum-parts : (u : ℕ) (image : List ℕ) (page : ℕ) → let n = page_sum_refusal u (length image) page in Parts (page_sum_word u image page) n 0 0 (pick n (page_sum u image page) 0)
 unfolding page_sum_word page_sum_refusal

@@ -1,5 +1,6 @@
 -- What each call's contract says is the step rules' clause of it, on the world that has this end with these words and
 -- buffers: one equation of all that a step leaves. Assumes nothing.
+use Rattle.std.specs.Prelude.{Result, Ok, Err}
 use mathlib.Core.Path.{◌≡◌, refl, sym, ap, subst, ◌∙◌}
 use mathlib.Core.List.{List, [], ◌++◌}
 use mathlib.Core.Bool.{Bool, true, false, cond}
@@ -20,8 +21,9 @@ use Rattle.rules.specs.PrimaryWrites.{memory_write_refusal, memory_write_reply}
 use Rattle.rules.proofs.ReplyLaws.{pick-cases}
 use Rattle.rules.proofs.SumLaws.{primary-sum-state, standby-sum-state}
 use Rattle.rules.specs.Choose.{choice_of, choice_number, disk_of}
-use Rattle.rules.specs.declared.Choice.{Choice}
-use Rattle.rules.specs.declared.Choice.TheVariants as choice-of
+use Rattle.records.specs.declared.refusal.Refusal.{Refusal}
+use Rattle.rules.specs.declared.Disk.{Disk}
+use Rattle.rules.specs.declared.Disk.TheVariants.{PrimaryDisk, StandbyDisk}
 use Rattle.rules.specs.World.{World, Processor, Buffers, start_lent, start_number, start_world}
 use Rattle.rules.specs.World as call
 use Rattle.rules.specs.Step.{step, outcome, at_primary, at_standby}
@@ -227,11 +229,11 @@ patience-kept settings e = let f = (settings-facts (settings_of settings) e).t-h
 
 -- ---- the disk choice: the word's number, and its value, which is 1 for the primary's disk alone and 2 for the
 -- standby's alone
-pub record ChoiceJoined (c : Choice) (word : ℕ) : Type 0 where
+pub record ChoiceJoined (c : Result Disk Refusal) (word : ℕ) : Type 0 where
   pub number_is : answer_number word ≡ choice_number c
   pub value_is : answer_value word ≡ disk_of c
-  pub primary : answer_value word ≡ 1 → c ≡ choice-of.PrimaryDisk
-  pub standby : answer_value word ≡ 2 → c ≡ choice-of.StandbyDisk
+  pub primary : answer_value word ≡ 1 → c ≡ Ok PrimaryDisk
+  pub standby : answer_value word ≡ 2 → c ≡ Ok StandbyDisk
 
 pub choice-joined : (primary standby : ℕ) (area : List ℕ) → ChoiceJoined (choice_of primary standby area) (choice_word (choice_of primary standby area))
 choice-joined primary standby area =
@@ -239,15 +241,15 @@ choice-joined primary standby area =
     let t = reply-parts (choice-fits primary standby area) in
     record { number_is = t.number_is; value_is = t.value_is; primary = λ e. first c (sym t.value_is ∙ e); standby = λ e. second c (sym t.value_is ∙ e) }
   where
-    first : (c : Choice) → disk_of c ≡ 1 → c ≡ choice-of.PrimaryDisk
-    first choice-of.PrimaryDisk e = refl
-    first choice-of.StandbyDisk e = absurd (omega arith)
-    first (choice-of.Refused n) e = absurd (omega arith)
+    first : (c : Result Disk Refusal) → disk_of c ≡ 1 → c ≡ Ok PrimaryDisk
+    first (Ok PrimaryDisk) e = refl
+    first (Ok StandbyDisk) e = absurd (omega arith)
+    first (Err refusal) e = absurd (omega arith)
 
-    second : (c : Choice) → disk_of c ≡ 2 → c ≡ choice-of.StandbyDisk
-    second choice-of.PrimaryDisk e = absurd (omega arith)
-    second choice-of.StandbyDisk e = refl
-    second (choice-of.Refused n) e = absurd (omega arith)
+    second : (c : Result Disk Refusal) → disk_of c ≡ 2 → c ≡ Ok StandbyDisk
+    second (Ok PrimaryDisk) e = absurd (omega arith)
+    second (Ok StandbyDisk) e = refl
+    second (Err refusal) e = absurd (omega arith)
 
 -- ---- what is lent of a standby's state is one, part by part
 lent_same : {w w' : LentStandby} → w'.words ≡ w.words → w'.pending ≡ w.pending → w'.processor ≡ w.processor → w' ≡ w

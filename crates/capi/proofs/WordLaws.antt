@@ -4,19 +4,21 @@ use mathlib.Core.List.{List, [], ◌∷◌, ◌++◌, append_assoc}
 use mathlib.Core.Bool.{Bool, true, false, ◌&&◌}
 use Prim.Native.Nat.{ℕ, suc, zero, ◌+◌, ◌-◌, ◌^◌, ◌≤◌, ◌<◌}
 use native.Mathlib.Numerals.{add-one}
+use Rattle.std.specs.Int.{from_bool}
+use borrow.Rule.Slice.PartMut.{put_mid}
 use native.Mathlib.Nat.{add-zero, zero-add}
 use native.Mathlib.Omega.{arith}
 use borrow.Author.Tests.{leb-true, le-leb}
 use lib.Bits.{bit_or, or_lt, or_add_and, and_le_l, and_le_r}
 use lib.Dec.{leb}
 use lib.ListN.{length, take, drop, get_or, set, take-append-drop}
-use lib.Seq.{drop-cons, take-suc-set, take-suc, take_all, take-append-le, drop-append-le, length-take-le, get_or-take, get_or-drop}
+use lib.Seq.{drop-cons, drop-drop, take-suc-set, take-suc, take_all, take-append-le, drop-append-le, length-take-le, get_or-take, get_or-drop}
 use Rattle.lists.specs.Part.{part, put}
 use Rattle.lists.proofs.PartLaws.{put-put, length-put, put-none, length_part}
 use Rattle.lists.proofs.ArrayLaws.{set-put, rest-cons, rest-none}
 use Rattle.lists.proofs.ChunkLaws.{part-most}
 use Rattle.lists.proofs.TestLaws.{agree, both, join}
-use Rattle.capi.specs.Word.{all_fit, between}
+use Rattle.capi.specs.Word.{all_fit, between, flag_word}
 
 -- ---- fields whose largest number is most
 module _ (most : ℕ) where
@@ -95,6 +97,11 @@ words-from (suc n) i w h =
     let e : i + suc n ≡ suc i + n = omega arith in
     rw e (ap (λ (l : List ℕ). get_or w i 0 ∷ l) (words-from n (suc i) w (omega arith)) ∙ sym (drop-cons w i 0 (omega arith)))
 
+-- ---- a bool cast to a word is its flag
+pub flag_is : (b : Bool) → from_bool b ≡ flag_word b
+flag_is true = refl
+flag_is false = refl
+
 -- ---- reading and storing
 module _ {A : Type 0} where
   -- the words up to the last are all from a place on; those up to another are before the others
@@ -120,6 +127,11 @@ module _ {A : Type 0} where
 
   pub part_end : (s l : List A) (at n : ℕ) → length l ≡ n → take n l ≡ take n (part at n s) → l ≡ part at n s
   part_end s l at n h e = sym (take_all n l (omega arith)) ∙ e ∙ take_all n (part at n s) (part-most at n s)
+
+  -- a part of a list that comes back written over
+  pub part-put : (d s : List A) (at n : ℕ) → length s ≡ n → put_mid at n d s ≡ put d at s
+  unfolding put
+  part-put d s at n h = rw (drop-drop, ← h) (sym (append_assoc (take at d) s (drop (at + length s) d)))
 
   -- an element stored behind a list that is put
   set_next : (d s : List A) (at i : ℕ) (a : A) → i ≡ at + length s → i < length d → set (put d at s) i a ≡ put d at (s ++ (a ∷ []))

@@ -1,12 +1,13 @@
 -- Start, which makes the words of both states, the disk choice, and a page's part of a sum. Assumes nothing.
-use Rattle.std.specs.Prelude.{ℕ, ◌/◌, ◌%◌, min, Bool, ◌&&◌, List, [], ◌∷◌, ltb, eqb, length, get_or}
+use Rattle.std.specs.Prelude.{ℕ, ◌/◌, ◌%◌, min, Bool, ◌&&◌, List, [], ◌∷◌, ltb, eqb, length, get_or, Result}
 use Rattle.lists.specs.Refusal.{Test, test, refusal, pick}
 use Rattle.records.specs.Kind.{unit_ok}
 use Rattle.records.specs.Number.{out_of_range, no_such_unit}
 use Rattle.settings.specs.declared.Settings.{Settings}
 use Rattle.settings.specs.Range.{memory_pages_ok}
 use Rattle.sums.specs.Sum.{page_sum}
-use Rattle.rules.specs.declared.Choice.{Choice}
+use Rattle.records.specs.declared.refusal.Refusal.{Refusal}
+use Rattle.rules.specs.declared.Disk.{Disk}
 use Rattle.rules.specs.Choose.{choice_number, disk_of}
 use Rattle.rules.specs.Start.{started, start_marks, start_copy, start_area}
 use Rattle.rules.specs.World.{Buffers, start_lent}
@@ -63,7 +64,7 @@ lent_buffers memory disk dirty held stream standby_memory standby_disk staged_pa
     }
 
 -- ---- the disk choice: its value is the disk
-abbrev pub choice_word : Choice → ℕ
+abbrev pub choice_word : Result Disk Refusal → ℕ
 choice_word c = reply_word (choice_number c) (disk_of c)
 
 -- ---- a page's own part of a sum, at either end. 1: u is no page size, or the image is not of 1 to 65,536 pages;

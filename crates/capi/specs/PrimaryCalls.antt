@@ -1,10 +1,10 @@
 -- The primary's calls on a state that is lent as words: what each leaves, by the definitions of its own contract. Words
 -- that are no state give 1, and nothing changes. In each, a name with a prime is what the call leaves. Assumes nothing.
+use Rattle.rules.specs.declared.Reply.{Reply}
+use Rattle.rules.specs.declared.ReadReply.{ReadReply}
 use Rattle.std.specs.Prelude.{ℕ, ◌≡◌, Bool, true, cond, List, length}
 use Rattle.records.specs.Number.{out_of_range}
 use Rattle.rules.specs.declared.Primary.{Primary}
-use Rattle.rules.specs.declared.PrimaryReply.{PrimaryReply}
-use Rattle.rules.specs.declared.PrimaryAnswer.{PrimaryAnswer}
 use Rattle.rules.specs.PrimaryWrites.{memory_write_reply, memory_write_memory, memory_write_dirty, disk_write_reply, disk_write_disk, disk_write_stream}
 use Rattle.rules.specs.Packets.{packet_reply, packet_held, take_reply, take_held, take_destination}
 use Rattle.rules.specs.Checkpoint.{dirty_count, checkpoint_reply, checkpoint_dirty, checkpoint_stream}
@@ -23,10 +23,10 @@ pub record PrimaryDone (ok : Bool) (w : List ℕ) (next : Primary) (word answer 
   pub again : ok ≡ true → primary_words_ok w' ≡ true
   pub same : ok ≡ true → primary_of w' ≡ next
 
-abbrev pub PrimaryReplied : List ℕ → PrimaryReply → ℕ → List ℕ → Type 0
+abbrev pub PrimaryReplied : List ℕ → Reply Primary → ℕ → List ℕ → Type 0
 PrimaryReplied w r = PrimaryDone (primary_words_ok w) w r.state (reply_word r.number r.value)
 
-abbrev pub PrimaryAnswered : List ℕ → PrimaryAnswer → ℕ → List ℕ → Type 0
+abbrev pub PrimaryAnswered : List ℕ → ReadReply Primary → ℕ → List ℕ → Type 0
 PrimaryAnswered w r = PrimaryDone (primary_words_ok w) w r.state (record_word r.answer)
 
 -- a lent buffer

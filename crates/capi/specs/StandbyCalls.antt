@@ -1,10 +1,10 @@
 -- The standby's calls on a state that is lent as words and two processor states: what each leaves, as PrimaryCalls says
 -- it of the primary's. Assumes nothing.
+use Rattle.rules.specs.declared.Reply.{Reply}
+use Rattle.rules.specs.declared.ReadReply.{ReadReply}
 use Rattle.std.specs.Prelude.{ℕ, ◌≡◌, Bool, true, cond, List, length}
 use Rattle.records.specs.Number.{out_of_range}
 use Rattle.rules.specs.declared.Standby.{Standby}
-use Rattle.rules.specs.declared.StandbyReply.{StandbyReply}
-use Rattle.rules.specs.declared.StandbyAnswer.{StandbyAnswer}
 use Rattle.rules.specs.Read.{read_lent, read_reply, read_memory, read_staged_pages, read_staged_marks, read_staged_blocks, read_reply_bytes}
 use Rattle.rules.specs.Flush.{flush_reply, flush_staged_blocks, flush_disk}
 use Rattle.rules.specs.Takeover.{standby_tick_reply, standby_tick_marks, activation_reply, activation_area, active_memory_write_reply, active_memory_write_memory, active_disk_write_reply, active_disk_write_disk}
@@ -36,10 +36,10 @@ pub record StandbyDone (ok : Bool) (w : LentStandby) (next : Standby) (word answ
   pub again : ok ≡ true → is_standby w' ≡ true
   pub same : ok ≡ true → standby_in w' ≡ next
 
-abbrev pub StandbyReplied : LentStandby → StandbyReply → ℕ → LentStandby → Type 0
+abbrev pub StandbyReplied : LentStandby → Reply Standby → ℕ → LentStandby → Type 0
 StandbyReplied w r = StandbyDone (is_standby w) w r.state (reply_word r.number r.value)
 
-abbrev pub StandbyAnswered : LentStandby → StandbyAnswer → ℕ → LentStandby → Type 0
+abbrev pub StandbyAnswered : LentStandby → ReadReply Standby → ℕ → LentStandby → Type 0
 StandbyAnswered w r = StandbyDone (is_standby w) w r.state (record_word r.answer)
 
 -- a lent buffer

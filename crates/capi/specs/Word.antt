@@ -1,8 +1,9 @@
 -- Numbers, flags and answers as 64-bit words. Assumes nothing.
-use Rattle.std.specs.Prelude.{ℕ, ◌+◌, ◌*◌, ◌/◌, ◌%◌, ◌≡◌, Bool, true, ◌&&◌, cond, List, [], ◌∷◌, leb, eqb, take, drop}
+use Rattle.rules.specs.declared.Accepted.{Accepted}
+use Rattle.records.specs.declared.Unread.{Unread}
+use Rattle.records.specs.declared.Unread.TheVariants.{Short, Refused}
+use Rattle.std.specs.Prelude.{ℕ, ◌+◌, ◌*◌, ◌/◌, ◌%◌, ◌≡◌, Bool, true, ◌&&◌, cond, List, [], ◌∷◌, leb, eqb, take, drop, Result, Ok, Err}
 use Rattle.records.specs.Read.{cut_short}
-use Rattle.rules.specs.declared.Answer.{Answer}
-use Rattle.rules.specs.declared.Answer.TheVariants.{Accepted, Short, Refused}
 use Rattle.rules.specs.Reply.{number_of, value_of}
 
 -- ---- the answer of a call as one word: the number in the low 16 bits, a count of bytes in the next 16, above them the
@@ -39,12 +40,12 @@ abbrev pub reply_word : ℕ → ℕ → ℕ
 reply_word number value = answer_word number 0 value
 
 -- of one that reads a record; cut short has its number, 256, and the bytes missing
-abbrev pub count_of : Answer → ℕ
-count_of (Accepted value used) = used
-count_of (Short missing) = missing
-count_of (Refused number) = 0
+abbrev pub count_of : Result Accepted Unread → ℕ
+count_of (Ok a) = a.used
+count_of (Err (Short missing)) = missing
+count_of (Err (Refused number)) = 0
 
-abbrev pub record_word : Answer → ℕ
+abbrev pub record_word : Result Accepted Unread → ℕ
 record_word a = answer_word (number_of a) (count_of a) (value_of a)
 
 -- ---- a word that fits a field of 32 bits, of 16 bits

@@ -1,5 +1,6 @@
 // Start, the disk choice, and a page's part of a sum.
 ghost use Rattle.std.specs.Prelude.{◌≡◌, ◌&&◌, min, eqb, length};
+ghost use Rattle.records.specs.Number.{number_in};
 ghost use Rattle.rules.specs.Choose.{choice_of};
 ghost use Rattle.capi.specs.Word.{most32};
 ghost use Rattle.capi.specs.PrimaryWords.{primary_length};
@@ -10,9 +11,9 @@ ghost use Rattle.capi.specs.PairCalls.{settings_length, settings_of, lent_buffer
 use crate::{primary_words, standby_words, word};
 use ends::choice::decide;
 use ends::start::start;
-use records::number;
 use records::reading::unit_ok;
-use rules::Choice;
+use records::refusal::Refusal;
+use rules::Disk;
 use settings::{MOST_PAGES, Settings};
 
 // How many words the settings have: U M D B S Q L T.
@@ -29,17 +30,14 @@ fn start_ok(settings: usize, primary: usize, standby: usize) -> bool
 fn patience(t: u64) -> u32
     ensures { result ≡ min t most32 }
 {
-    if word::MOST_32 < t {
-        return 4294967295;
-    }
-    word::field(t)
+    word::field(t.min(word::MOST_32))
 }
 
+#[tactic(auto, unfolding(crate::specs::PairCalls::settings_of))]
 fn settings_of(w: &[u64]) -> Settings
     requires { length w.now ≡ settings_length }
     ensures { result ≡ settings_of w.now }
 {
-    let t = patience(w[7]);
     Settings {
         u: w[0] as usize,
         m: w[1] as usize,
@@ -48,11 +46,12 @@ fn settings_of(w: &[u64]) -> Settings
         s: w[4] as usize,
         q: w[5] as usize,
         l: w[6] as usize,
-        t: t,
+        t: patience(w[7]),
     }
 }
 
 // Start, lent every buffer of both ends, in the order of tests/calls/FORM.md, and room for the two states.
+#[tactic(auto, using(crate::proofs::LengthLaws::started), unfolding(crate::specs::PairCalls::start_words_ok))]
 pub fn pair_start(
     settings: &[u64],
     first: &[u8; 64],
@@ -75,17 +74,25 @@ pub fn pair_start(
     ensures { StartDone settings.now first.now (lent_buffers memory.now disk.now dirty.old held.now stream.now smemory.old sdisk.old pages.now marks.old blocks.now area.old) primary.old (as_lent standby.old pending.old processor.old) result dirty.new smemory.new sdisk.new marks.new area.new primary.new (as_lent standby.new pending.new processor.new) }
 {
     if !start_ok(settings.len(), primary.len(), standby.len()) {
-        return number::OUT_OF_RANGE;
+        return Refusal::OutOfRange.number();
     }
-    let at_start = *first;
-    let g = settings_of(settings);
     let r = start(
-        g, at_start, memory, disk, dirty, held, stream, smemory, sdisk, pages, marks, blocks, area,
+        settings_of(settings),
+        *first,
+        memory,
+        disk,
+        dirty,
+        held,
+        stream,
+        smemory,
+        sdisk,
+        pages,
+        marks,
+        blocks,
+        area,
     );
-    let p = r.primary;
-    let s = r.standby;
-    primary_words::store(primary, p);
-    standby_words::store(standby, pending, processor, s);
+    primary_words::store(primary, r.primary);
+    standby_words::store(standby, pending, processor, r.standby);
     word::reply_word(r.number, 0)
 }
 
@@ -93,44 +100,38 @@ pub fn pair_start(
 pub fn pair_disk_choice(primary: &[u8], standby: &[u8], area: &[u8]) -> u64
     ensures { result ≡ choice_word (choice_of (length primary.now) (length standby.now) area.now) }
 {
-    let choice = decide(primary.len(), standby.len(), area);
-    match choice {
-        Choice::PrimaryDisk => word::reply_word(0, 1),
-        Choice::StandbyDisk => word::reply_word(0, 2),
-        Choice::Refused { number } => word::reply_word(number, 0),
+    match decide(primary.len(), standby.len(), area) {
+        Ok(Disk::PrimaryDisk) => word::reply_word(0, 1),
+        Ok(Disk::StandbyDisk) => word::reply_word(0, 2),
+        Err(refusal) => word::reply_word(refusal.number(), 0),
     }
 }
 
 // What a page's part of a sum is refused with: 1 2.
-fn page_sum_refusal(u: usize, image: usize, page: usize) -> u64
-    ensures { result ≡ page_sum_refusal u image page }
+#[tactic(auto, using(crate::proofs::PageSumLaws::units), unfolding(crate::specs::PairCalls::page_sum_refusal))]
+fn check_page_sum(u: usize, image: usize, page: usize) -> Result<(), Refusal>
+    ensures { number_in result ≡ page_sum_refusal u image page }
 {
-    if !unit_ok(u) {
-        return number::OUT_OF_RANGE;
+    if !unit_ok(u) || image % u != 0 {
+        return Err(Refusal::OutOfRange);
     }
     let m = image / u;
-    if image % u != 0 {
-        return number::OUT_OF_RANGE;
-    }
-    if m < 1 {
-        return number::OUT_OF_RANGE;
-    }
-    if MOST_PAGES < m {
-        return number::OUT_OF_RANGE;
+    if m < 1 || MOST_PAGES < m {
+        return Err(Refusal::OutOfRange);
     }
     if m <= page {
-        return number::NO_SUCH_UNIT;
+        return Err(Refusal::NoSuchUnit);
     }
-    0
+    Ok(())
 }
 
 // A page's own part of a sum.
+#[tactic(auto, using(crate::proofs::PageSumLaws::told), unfolding(crate::specs::PairCalls::page_sum_word))]
 pub fn pair_page_sum(image: &[u8], u: usize, page: usize) -> u64
     ensures { result ≡ page_sum_word u image.now page }
 {
-    let number = page_sum_refusal(u, image.len(), page);
-    if number != 0 {
-        return word::reply_word(number, 0);
+    if let Err(refusal) = check_page_sum(u, image.len(), page) {
+        return word::reply_word(refusal.number(), 0);
     }
     word::reply_word(0, sums::page_sum(image, u, page))
 }

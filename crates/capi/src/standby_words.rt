@@ -28,16 +28,15 @@ pub(crate) fn words_ok(w: &[u64]) -> bool
     ticks & (w[7] <= 2) & (w[8] <= word::MOST_32) & (w[79] <= 1)
 }
 
+// Functions, since neither a mode nor a word is a type of this crate: no `From` can be implemented here for the two.
 fn mode_of(n: u64) -> Mode
     ensures { result ≡ mode_of n }
 {
-    if n == 0 {
-        return Mode::Receiving;
+    match n {
+        0 => Mode::Receiving,
+        1 => Mode::TakingOver,
+        _ => Mode::Active,
     }
-    if n == 1 {
-        return Mode::TakingOver;
-    }
-    Mode::Active
 }
 
 fn mode_word(m: Mode) -> u64
@@ -55,10 +54,8 @@ fn numbers_of(w: &[u64]) -> [usize; 64]
     ensures { result ≡ part numbers_at numbers_many w.now }
 {
     let mut numbers = [0usize; MOST_SLOTS];
-    let mut i = 0;
-    while i < MOST_SLOTS {
+    for i in 0..MOST_SLOTS {
         numbers[i] = w[NUMBERS + i] as usize;
-        i += 1;
     }
     numbers
 }
@@ -68,39 +65,32 @@ pub(crate) fn standby_of(w: &[u64], pending: &[u8; 64], processor: &[u8; 64]) ->
     requires { standby_words_ok w.now ≡ true }
     ensures { result ≡ standby_of w.now pending.now processor.now }
 {
-    let staged = *pending;
-    let kept = *processor;
-    let settings = StandbySettings {
-        u: w[0] as usize,
-        m: w[1] as usize,
-        d: w[2] as usize,
-        b: w[3] as usize,
-        s: w[4] as usize,
-    };
-    let detector = Detector {
-        patience: word::field(w[5]),
-        count: word::field(w[6]),
-    };
-    let mode = mode_of(w[7]);
-    let numbers = numbers_of(w);
-    let slots = Slots {
-        staged: w[9] as usize,
-        due: w[10] as usize,
-        numbers: numbers,
-    };
     Standby {
-        settings: settings,
-        detector: detector,
-        mode: mode,
+        settings: StandbySettings {
+            u: w[0] as usize,
+            m: w[1] as usize,
+            d: w[2] as usize,
+            b: w[3] as usize,
+            s: w[4] as usize,
+        },
+        detector: Detector {
+            patience: word::field(w[5]),
+            count: word::field(w[6]),
+        },
+        mode: mode_of(w[7]),
         received: word::field(w[8]),
-        slots: slots,
+        slots: Slots {
+            staged: w[9] as usize,
+            due: w[10] as usize,
+            numbers: numbers_of(w),
+        },
         blocks: w[75] as usize,
         records: w[76] as usize,
         pages: w[77] as usize,
         next: w[78] as usize,
         seen: word::flag_of(w[79]),
-        pending: staged,
-        processor: kept,
+        pending: *pending,
+        processor: *processor,
     }
 }
 
@@ -108,36 +98,30 @@ fn first_words(s: Standby) -> [u64; 11]
     ensures value { result ≡ first_words s }
     ensures result_value { (all_fit32 (between 5 7 result) && fits32 (get_or result 8 0)) ≡ true }
 {
-    let g = s.settings;
-    let d = s.detector;
-    let k = s.slots;
-    let m = s.mode;
-    let mode = mode_word(m);
     [
-        g.u as u64,
-        g.m as u64,
-        g.d as u64,
-        g.b as u64,
-        g.s as u64,
-        d.patience as u64,
-        d.count as u64,
-        mode,
+        s.settings.u as u64,
+        s.settings.m as u64,
+        s.settings.d as u64,
+        s.settings.b as u64,
+        s.settings.s as u64,
+        s.detector.patience as u64,
+        s.detector.count as u64,
+        mode_word(s.mode),
         s.received as u64,
-        k.staged as u64,
-        k.due as u64,
+        s.slots.staged as u64,
+        s.slots.due as u64,
     ]
 }
 
 fn last_words(s: Standby) -> [u64; 5]
     ensures { result ≡ last_words s }
 {
-    let seen = word::flag_word(s.seen);
     [
         s.blocks as u64,
         s.records as u64,
         s.pages as u64,
         s.next as u64,
-        seen,
+        u64::from(s.seen),
     ]
 }
 
@@ -145,10 +129,8 @@ fn store_numbers(w: &mut [u64], numbers: [usize; 64])
     requires { length w.old ≡ standby_length }
     ensures { w.new ≡ put w.old numbers_at numbers }
 {
-    let mut i = 0;
-    while i < MOST_SLOTS {
+    for i in 0..MOST_SLOTS {
         w[NUMBERS + i] = numbers[i] as u64;
-        i += 1;
     }
 }
 
@@ -162,15 +144,10 @@ pub(crate) fn store(w: &mut [u64], pending: &mut [u8; 64], processor: &mut [u8; 
     ensures w_after_2 { standby_words_ok w.new ≡ true }
     ensures processor_after_2 { standby_of w.new pending.new processor.new ≡ s }
 {
-    let k = s.slots;
-    let numbers = k.numbers;
-    let first = first_words(s);
-    let last = last_words(s);
-    word::store_at(w, 0, &first);
-    store_numbers(w, numbers);
-    word::store_at(w, LAST, &last);
-    let staged = s.pending;
-    let kept = s.processor;
+    word::store_at(w, 0, &first_words(s));
+    store_numbers(w, s.slots.numbers);
+    word::store_at(w, LAST, &last_words(s));
+    let (staged, kept) = (s.pending, s.processor);
     *pending = staged;
     *processor = kept;
 }

@@ -2,16 +2,15 @@
 ghost use Rattle.std.specs.Prelude.{◌≡◌, cond, ◌<◌, ◌≤◌, ◌+◌, ltb, length};
 ghost use Rattle.lists.specs.Part.{put};
 ghost use Rattle.lists.specs.Refusal.{pick};
-ghost use Rattle.capi.specs.Word.{reply_word, record_word, answer_word, all_fit32, between, flag_of, flag_word};
+ghost use Rattle.capi.specs.Word.{reply_word, record_word, answer_word, all_fit32, between, flag_of};
 
-use records::CUT_SHORT;
-use rules::Answer;
+use records::{CUT_SHORT, Unread};
+use rules::Accepted;
 
-// The largest number of a field of 32 bits.
-pub(crate) const MOST_32: u64 = 4294967295;
+// The largest number of a field of 32 bits, and of one of 16.
+pub(crate) const MOST_32: u64 = u32::MAX as u64;
 
-// The same of 16 bits.
-pub(crate) const MOST_16: u64 = 65535;
+pub(crate) const MOST_16: u64 = u16::MAX as u64;
 
 // Whether the words from one place on, up to another, all fit a field of 32 bits. All are looked at, whatever the first
 // ones say: so the compiler can look at several at once.
@@ -20,10 +19,8 @@ pub(crate) fn all_fit32(w: &[u64], from: usize, to: usize) -> bool
     ensures { result ≡ all_fit32 (between from to w.now) }
 {
     let mut low = true;
-    let mut i = from;
-    while i < to {
-        low = low & (w[i] <= MOST_32);
-        i += 1;
+    for i in from..to {
+        low &= w[i] <= MOST_32;
     }
     low
 }
@@ -50,15 +47,6 @@ pub(crate) fn flag_of(n: u64) -> bool
     n == 1
 }
 
-pub(crate) fn flag_word(b: bool) -> u64
-    ensures { result ≡ flag_word b }
-{
-    if b {
-        return 1;
-    }
-    0
-}
-
 fn answer(number: u64, count: u64, value: u64) -> u64
     ensures { result ≡ answer_word number count value }
 {
@@ -69,20 +57,14 @@ fn answer(number: u64, count: u64, value: u64) -> u64
 pub(crate) fn if_accepted(number: u64, at: usize) -> usize
     ensures { result ≡ pick number at 0 }
 {
-    if number == 0 {
-        return at;
-    }
-    0
+    if number == 0 { at } else { 0 }
 }
 
 // A place among so many, else the first.
 pub(crate) fn if_below(at: usize, many: usize) -> usize
     ensures { result ≡ cond (ltb at many) at 0 }
 {
-    if at < many {
-        return at;
-    }
-    0
+    if at < many { at } else { 0 }
 }
 
 // The answer of a call that reads no record.
@@ -93,13 +75,13 @@ pub(crate) fn reply_word(number: u64, value: u64) -> u64
 }
 
 // The answer of a call that reads a record.
-pub fn record_word(a: Answer) -> u64
+pub fn record_word(a: Result<Accepted, Unread>) -> u64
     ensures { result ≡ record_word a }
 {
     match a {
-        Answer::Accepted { value, used } => answer(0, used as u64, value),
-        Answer::Short { missing } => answer(CUT_SHORT, missing as u64, 0),
-        Answer::Refused { number } => answer(number, 0, 0),
+        Ok(accepted) => answer(0, accepted.used as u64, accepted.value),
+        Err(Unread::Short { missing }) => answer(CUT_SHORT, missing as u64, 0),
+        Err(Unread::Refused { number }) => answer(number, 0, 0),
     }
 }
 
@@ -108,9 +90,5 @@ pub(crate) fn store_at(w: &mut [u64], at: usize, src: &[u64])
     requires { at + length src.now ≤ length w.old }
     ensures { w.new ≡ put w.old at src.now }
 {
-    let mut i = 0;
-    while i < src.len() {
-        w[at + i] = src[i];
-        i += 1;
-    }
+    w[at..at + src.len()].copy_from_slice(src);
 }

@@ -1,5 +1,7 @@
 -- What the call answers, by the records of the file: where none is refused by the ending, else the number of the first
 -- that is, behind records that are not. Assumes nothing.
+use Rattle.std.specs.Prelude.{Err}
+use Rattle.records.specs.declared.Unread.TheVariants.{Refused}
 use mathlib.Core.Path.{◌≡◌, refl, ◌∙◌}
 use mathlib.Core.Bool.{true}
 use mathlib.Core.List.{List, [], ◌∷◌, ◌++◌}
@@ -9,7 +11,6 @@ use borrow.Author.Tests.{ne_eqb}
 use Rattle.lists.proofs.TestLaws.{pick-accepted, pick-refused}
 use Rattle.records.specs.Message.{Message}
 use Rattle.checkpoints.specs.declared.FileSettings.{FileSettings}
-use Rattle.checkpoints.specs.declared.Saved.TheVariants.{Refused}
 use Rattle.checkpoints.specs.Judge.{Known, none_known, message_refusal, known_with, refusal_from}
 use Rattle.checkpoints.specs.File.{file_in}
 use Rattle.checkpoints.specs.Saving.{file_settings_ok, normal_bytes, ended, saved}
@@ -43,6 +44,6 @@ module _ (g : FileSettings) (ok : file_settings_ok g ≡ true) (file : List ℕ)
   saved-ended z = rw (ok, z)
 
   -- else the number of the first that is
-  pub saved-refused : (n : ℕ) → refusal_from g none_known (file_in g file).messages ≡ n → (n ≡ 0 → ⊥) → saved g file room ≡ Refused n
+  pub saved-refused : (n : ℕ) → refusal_from g none_known (file_in g file).messages ≡ n → (n ≡ 0 → ⊥) → saved g file room ≡ Err (Refused n)
   unfolding saved
   saved-refused n z ne = rw (ok, z, ne_eqb n 0 ne)

@@ -1,4 +1,5 @@
 -- What a standby reads, written again, is the bytes that were read. Assumes nothing.
+use Rattle.std.specs.Prelude.{Result, Ok, Err}
 use Prim.Native.Nat.{ℕ, ◌+◌, ◌-◌, ◌≤◌}
 use mathlib.Core.Path.{◌≡◌, refl, sym, ap, ap₂, ◌∙◌}
 use mathlib.Core.Bool.{Bool, true, false, false≢true}
@@ -14,7 +15,9 @@ use Rattle.lists.proofs.TestLaws.{not-both}
 use Rattle.records.specs.declared.Cursor.{Cursor}
 use Rattle.records.specs.declared.Reader.TheVariants.{Standby}
 use Rattle.records.specs.declared.Record.{Record}
-use Rattle.records.specs.declared.Record.TheVariants.{Page, Block, State, Commit, Ack, Short, Refused}
+use Rattle.records.specs.declared.Unread.{Unread}
+use Rattle.records.specs.declared.Record.TheVariants.{Page, Block, State, Commit, Ack}
+use Rattle.records.specs.declared.Unread.TheVariants.{Short, Refused}
 use Rattle.records.specs.Kind.{BLOCK, STATE, ACK, page_kind, commit_kind, number_width, processor_bytes, body_length, record_length, is_for}
 use Rattle.records.specs.Read.{read_record, used_of, kind_of, cursor, page_at, commit_at}
 use Rattle.records.specs.Write.{frame, unit_record, state_record, commit_record}
@@ -44,9 +47,9 @@ frame-again kind n body s h l size k e =
     rw (len, ← k) (field-join 2 0 (2 + n) (4 + n) s (le_bytes 2 (le_at 2 s 2) ++ body) h (omega arith) (omega arith) inner ∙ part-zero (4 + n) s)
 
 -- ---- the message that a record stands for, with its bytes
-abbrev pub message_of : Record → List ℕ → Message
+abbrev pub message_of : Result Record Unread → List ℕ → Message
 message_of r s =
-    elim r [ Page w e p c ↦ page e p (bytes_at c s) | Block e n c ↦ block e n (bytes_at c s) | State e c ↦ state e (bytes_at c s) | Commit w e p b c ↦ commit e p b | Ack e c ↦ ack e | Short n ↦ ack 0 | Refused n ↦ ack 0 ]
+    elim r [ Ok (Page w e p c) ↦ page e p (bytes_at c s) | Ok (Block e n c) ↦ block e n (bytes_at c s) | Ok (State e c) ↦ state e (bytes_at c s) | Ok (Commit w e p b c) ↦ commit e p b | Ok (Ack e c) ↦ ack e | Err (Short n) ↦ ack 0 | Err (Refused n) ↦ ack 0 ]
 
 -- a PAGE for a standby is of its width
 pub page-width : (wide w : Bool) → is_for (Standby wide) (page_kind w) ≡ true → w ≡ wide
@@ -70,15 +73,15 @@ block-length u = omega arith
 -- ---- what a standby reads
 module _ (u : ℕ) (wide : Bool) (s : List ℕ) where
   -- a PAGE that it reads is of its width
-  pub found-width-page : (w : Bool) (e p : ℕ) (c : Cursor) → read_record (Standby wide) u s ≡ Page w e p c → w ≡ wide
+  pub found-width-page : (w : Bool) (e p : ℕ) (c : Cursor) → read_record (Standby wide) u s ≡ Ok (Page w e p c) → w ≡ wide
   found-width-page w e p c q = page-width wide w (rw q at (read-facts (Standby wide) u s)).for-reader
 
   -- so is a COMMIT
-  pub found-width-commit : (w : Bool) (e p b : ℕ) (c : Cursor) → read_record (Standby wide) u s ≡ Commit w e p b c → w ≡ wide
+  pub found-width-commit : (w : Bool) (e p b : ℕ) (c : Cursor) → read_record (Standby wide) u s ≡ Ok (Commit w e p b c) → w ≡ wide
   found-width-commit w e p b c q = commit-width wide w (rw q at (read-facts (Standby wide) u s)).for-reader
 
   -- it reads no ACK
-  pub found-no-ack : (e : ℕ) (c : Cursor) → read_record (Standby wide) u s ≡ Ack e c → ⊥
+  pub found-no-ack : (e : ℕ) (c : Cursor) → read_record (Standby wide) u s ≡ Ok (Ack e c) → ⊥
   found-no-ack e c q = not-both (is_for (Standby wide) ACK) (rw q at (read-facts (Standby wide) u s)).for-reader (ack-not-for wide)
 
   -- what it reads has 8 bytes or more, and no more than there are
@@ -90,7 +93,7 @@ module _ (u : ℕ) (wide : Bool) (s : List ℕ) where
 
 -- ---- written again
 -- a record is a message that a standby of this width reads, and that is written as the bytes read
-abbrev pub Again : (u : ℕ) (wide : Bool) (s : List ℕ) → Record → Type 0
+abbrev pub Again : (u : ℕ) (wide : Bool) (s : List ℕ) → Result Record Unread → Type 0
 Again u wide s r = (encode wide (message_of r s) ≡ take (used_of r) s) × Readable u wide (message_of r s)
 
 module _ (u : ℕ) (wide : Bool) (s : List ℕ) (h : AreBytes s) (w : Whole (Standby wide) u s) where
@@ -126,13 +129,13 @@ module _ (u : ℕ) (wide : Bool) (s : List ℕ) (h : AreBytes s) (w : Whole (Sta
       (a.0, ((le_at-lt 4 4 s h, le_at-lt (number_width wide) 8 s h, a.1), for-page wide))
 
   -- a BLOCK
-  again-block : le_at 2 s 2 ≡ BLOCK → Again u wide s (Block (le_at 4 s 4) (le_at 2 s 8) (cursor 10 (record_length u BLOCK)))
+  again-block : le_at 2 s 2 ≡ BLOCK → Again u wide s (Ok (Block (le_at 4 s 4) (le_at 2 s 8) (cursor 10 (record_length u BLOCK))))
   again-block k =
       let a = again-unit BLOCK 2 k (block-length u) in
       (a.0, ((le_at-lt 4 4 s h, le_at-lt 2 8 s h, a.1), for-block wide))
 
   -- a STATE
-  again-state : le_at 2 s 2 ≡ STATE → Again u wide s (State (le_at 4 s 4) (cursor 8 (record_length u STATE)))
+  again-state : le_at 2 s 2 ≡ STATE → Again u wide s (Ok (State (le_at 4 s 4) (cursor 8 (record_length u STATE))))
   unfolding state_record record_length body_length
   again-state k =
       let b : record_length u STATE ≤ length s = rw k at w.body in
@@ -153,7 +156,7 @@ module _ (u : ℕ) (wide : Bool) (s : List ℕ) (h : AreBytes s) (w : Whole (Sta
 -- what is read, written again, is the bytes that were read
 pub read-encode : (u : ℕ) (wide : Bool) (s : List ℕ) → AreBytes s → is_found (read_record (Standby wide) u s) ≡ true → Again u wide s (read_record (Standby wide) u s)
 read-encode u wide s h =
-    read-cases (λ (r : Record). is_found r ≡ true → Again u wide s r) (Standby wide) u s
+    read-cases (λ (r : Result Record Unread). is_found r ≡ true → Again u wide s r) (Standby wide) u s
     (λ v f. absurd (false≢true f)) (λ v k f. absurd (false≢true f)) (λ v k f. absurd (false≢true f)) (λ v l f. absurd (false≢true f)) (λ c f. absurd (false≢true f))
     (λ w f. fields-cases (Again u wide s) u (le_at 2 s 2) s (for-test (Standby wide) (le_at 2 s 2) w.kind)
     (λ x k. pages w x (page-width wide x (rw k at w.kind)) k)

@@ -1,8 +1,12 @@
 -- The claims of files and their normal forms, proved (document 02, Job 14): what is written, that a normal form has its
 -- file's content, that equal content is equal normal forms, and that a normal form is its own normal form.
 -- Assumes nothing.
+use Rattle.std.specs.Prelude.{Result, Ok, Err}
+use Rattle.std.specs.Result.{is_err}
+use Rattle.records.specs.declared.Unread.{Unread}
+use Rattle.records.specs.declared.Unread.TheVariants.{Short, Refused}
 use mathlib.Core.Path.{◌≡◌, refl, sym, ap, ◌∙◌, subst}
-use mathlib.Core.Bool.{Bool, true, false, cond}
+use mathlib.Core.Bool.{Bool, true, false, cond, true≢false}
 use mathlib.Core.Logic.{◌⊎◌, ⊎_elim}
 use mathlib.Core.List.{List, [], ◌∷◌, ◌++◌, append-nil}
 use Prim.Native.Nat.{ℕ, ◌≤◌}
@@ -18,8 +22,6 @@ use Rattle.records.specs.Message.{Message, commit, encode_all}
 use Rattle.settings.proofs.RangeLaws.{SharedFacts, shared-facts, shared-unit}
 use Rattle.runs.proofs.Effects.{All, Readable}
 use Rattle.checkpoints.specs.declared.FileSettings.{FileSettings}
-use Rattle.checkpoints.specs.declared.Saved.{Saved}
-use Rattle.checkpoints.specs.declared.Saved.TheVariants.{Written, Short, Refused}
 use Rattle.checkpoints.specs.Content.{SameContent, is_block}
 use Rattle.checkpoints.specs.Normal.{normal_of}
 use Rattle.checkpoints.specs.Judge.{none_known, refusal_from, epoch_of}
@@ -33,7 +35,7 @@ use Rattle.checkpoints.proofs.NormalLaws.{normal_staged, normal-same, normal-epo
 use Rattle.checkpoints.proofs.NormalShapeLaws.{normal-content, normal-accepted, normal-again, normal_front, normal-before, normal-ends}
 use Rattle.checkpoints.proofs.NormalReadLaws.{normal-readable}
 use Rattle.checkpoints.proofs.NormalBytesLaws.{file-bytes, normal-bytes}
-use Rattle.checkpoints.proofs.NormalFormLaws.{left-refused, left-short, left-written}
+use Rattle.checkpoints.proofs.NormalFormLaws.{left-unread, left-written}
 
 -- ---- a file that is accepted
 module _ (g : FileSettings) (file : List ℕ) (a : Accepted g file) where
@@ -135,36 +137,33 @@ normal-itself-proved g file a =
 
 -- ---- what is written
 -- a refusal is none, nor is cut short
-not_written : {A : Type 0} (k n : ℕ) → Refused k ≡ Written n → A
-not_written k n q = let z : ◌≡◌ {A = ℕ} 0 1 = cc in absurd (omega arith)
-
-not_short : {A : Type 0} (k n : ℕ) → Short k ≡ Written n → A
-not_short k n q = let z : ◌≡◌ {A = ℕ} 0 1 = cc in absurd (omega arith)
+not_written : {A : Type 0} (u : Unread) (n : ℕ) → ◌≡◌ {A = Result ℕ Unread} (Err u) (Ok n) → A
+not_written u n q = absurd (true≢false (ap is_err q))
 
 -- the end of a file that is written: no byte after it, and room
-ended-written : (f : Ending) (normal room n : ℕ) → ended f normal room ≡ Written n → (f ≡ closed []) × (n ≡ normal) × (n ≤ room)
+ended-written : (f : Ending) (normal room n : ℕ) → ended f normal room ≡ Ok n → (f ≡ closed []) × (n ≡ normal) × (n ≤ room)
 ended-written (closed []) normal room n q =
     ⊎_elim
     (λ (t : leb normal room ≡ true). let e : n ≡ normal = cc (rw t at q) in (refl, e, omega (arith, leb-true normal room t)))
-    (λ (t : leb normal room ≡ false). not_written destination_short n (rw t at q))
+    (λ (t : leb normal room ≡ false). not_written (Refused destination_short) n (rw t at q))
     (by-test (leb normal room))
 ended-written (closed (x ∷ xs)) normal room n q =
-    let t : eqb (length (x ∷ xs)) 0 ≡ false = ne_eqb (length (x ∷ xs)) 0 (λ e. omega arith) in not_written bytes_behind n (rw t at q)
-ended-written (short k) normal room n q = not_short k n q
-ended-written (refused k) normal room n q = not_written k n q
+    let t : eqb (length (x ∷ xs)) 0 ≡ false = ne_eqb (length (x ∷ xs)) 0 (λ e. omega arith) in not_written (Refused bytes_behind) n (rw t at q)
+ended-written (short k) normal room n q = not_written (Short k) n q
+ended-written (refused k) normal room n q = not_written (Refused k) n q
 
 -- all tests before it
-saved-written : (ok : Bool) (number : ℕ) (s : Saved) (n : ℕ) → cond ok (cond (eqb number 0) s (Refused number)) (Refused out_of_range) ≡ Written n
-    → (ok ≡ true) × (number ≡ 0) × (s ≡ Written n)
-saved-written false number s n q = not_written out_of_range n q
+saved-written : (ok : Bool) (number : ℕ) (s : Result ℕ Unread) (n : ℕ) → cond ok (cond (eqb number 0) s (Err (Refused number))) (Err (Refused out_of_range)) ≡ Ok n
+    → (ok ≡ true) × (number ≡ 0) × (s ≡ Ok n)
+saved-written false number s n q = not_written (Refused out_of_range) n q
 saved-written true number s n q = go (eqb number 0) refl q
   where
-    go : (b : Bool) → eqb number 0 ≡ b → cond b s (Refused number) ≡ Written n → (true ≡ true) × (number ≡ 0) × (s ≡ Written n)
+    go : (b : Bool) → eqb number 0 ≡ b → cond b s (Err (Refused number)) ≡ Ok n → (true ≡ true) × (number ≡ 0) × (s ≡ Ok n)
     go true e q = (refl, eqb-true number 0 e, q)
-    go false e q = not_written number n q
+    go false e q = not_written (Refused number) n q
 
 -- with room an accepted file is
-written-accepted : (g : FileSettings) (file : List ℕ) (room : ℕ) → Accepted g file → length (normal_of_file g file) ≤ room → saved g file room ≡ Written (length (normal_of_file g file))
+written-accepted : (g : FileSettings) (file : List ℕ) (room : ℕ) → Accepted g file → length (normal_of_file g file) ≤ room → saved g file room ≡ Ok (length (normal_of_file g file))
 unfolding saved
 written-accepted g file room a l = rw (a.settings, a.records, a.whole, le-leb (length (normal_of_file g file)) room l)
 
@@ -174,14 +173,14 @@ unfolding saved
 written-exactly-proved g file room bytes =
     let normal = length (normal_of_file g file) in (
       written-accepted g file room,
-      (λ (n : ℕ) (q : saved g file room ≡ Written n).
+      (λ (n : ℕ) (q : saved g file room ≡ Ok n).
           let s = saved-written (file_settings_ok g) (refusal_from g none_known (file_in g file).messages) (ended (file_in g file).ending normal room) n q in
           let e = ended-written (file_in g file).ending normal room n s.2 in
           (record { bytes = bytes; settings = s.0; records = s.1; whole = e.0 }, e.1, e.2)),
       (λ (destination : List ℕ). (
         (λ (a : Accepted g file) (l : normal ≤ length destination).
             sym (left-written g file destination normal (written-accepted g file (length destination) a l)) ∙ put_front destination (normal_of_file g file)),
-        (λ (n : ℕ) (q : (saved g file (length destination) ≡ Refused n) ⊎ (saved g file (length destination) ≡ Short n)).
-            ⊎_elim (λ r. sym (left-refused g file destination n r)) (λ r. sym (left-short g file destination n r)) q),
+        (λ (n : ℕ) (q : (saved g file (length destination) ≡ Err (Refused n)) ⊎ (saved g file (length destination) ≡ Err (Short n))).
+            ⊎_elim (λ r. sym (left-unread g file destination (Refused n) r)) (λ r. sym (left-unread g file destination (Short n) r)) q),
       )),
     )

@@ -1,5 +1,6 @@
 -- The bytes of the records of a file: what is read, written again, is the file up to its COMMIT, and what is written is
 -- read back. Assumes nothing.
+use Rattle.std.specs.Prelude.{Result}
 use Prim.Native.Nat.{ℕ, ◌≤◌}
 use mathlib.Core.Path.{◌≡◌, refl, sym, ap, ap₂, ◌∙◌, subst}
 use mathlib.Core.Bool.{Bool, true}
@@ -9,6 +10,7 @@ use lib.ListN.{length, take, drop, length-append, take-append-drop}
 use lib.Seq.{drop_at}
 use Rattle.records.specs.declared.Reader.TheVariants.{Standby}
 use Rattle.records.specs.declared.Record.{Record}
+use Rattle.records.specs.declared.Unread.{Unread}
 use Rattle.records.specs.Kind.{unit_ok, is_wide}
 use Rattle.records.specs.Read.{read_record, used_of}
 use Rattle.records.specs.Message.{Message, page, block, state, commit, ack, message_kind, encode, encode_all, read_as}
@@ -96,7 +98,7 @@ file-closed g s rest v =
 pub message-read : (u : ℕ) (wide : Bool) → unit_ok u ≡ true → (m : Message) → Readable u wide m → (rest : List ℕ)
     → message_of (read_record (Standby wide) u (encode wide m ++ rest)) (encode wide m ++ rest) ≡ m
 message-read u wide v m f rest =
-    ap (λ (r : Record). message_of r (encode wide m ++ rest)) (read-message (Standby wide) u v wide m f.0 f.1 rest) ∙ same m f
+    ap (λ (r : Result Record Unread). message_of r (encode wide m ++ rest)) (read-message (Standby wide) u v wide m f.0 f.1 rest) ∙ same m f
   where
     same : (m : Message) → Readable u wide m → message_of (read_as u wide m) (encode wide m ++ rest) ≡ m
     same (page e p bs) f = ap (page e p) (message-bytes u wide (page e p bs) f.0 rest)

@@ -25,7 +25,7 @@ use Rattle.checkpoints.specs.declared.Counts.{Counts}
 use Rattle.checkpoints.specs.Content.{is_block, named, last_of}
 use Rattle.checkpoints.specs.Normal.{once, normal_blocks}
 use Rattle.checkpoints.specs.Judge.{Known, none_known, epoch_of}
-use Rattle.checkpoints.specs.Scan.{known_of}
+use Rattle.checkpoints.specs.Scan.{first_of, known_of}
 use Rattle.checkpoints.specs.Form.{Kept, keeps_block, kept_block, kept_blocks, pages_at, pages_length, kept_pages, kept_commit, kept_form, form_length, FormFits}
 use Rattle.checkpoints.specs.Saving.{normal_bytes}
 use Rattle.checkpoints.proofs.KnownLaws.{known_after}
@@ -71,7 +71,7 @@ module _ (g : FileSettings) (ms : List Message) (rest : List ℕ) (t : Kept) (h 
   bs = normal_staged is_block g.d ms
 
   -- ---- the counts are those of the records
-  same-epoch : k.epoch ≡ e
+  same-epoch : first_of k ≡ e
   same-epoch = ap (λ (n : Known). n.epoch) h.known ∙ s.known-epoch
 
   same-records : k.records ≡ length s.bs

@@ -1,8 +1,10 @@
 -- The record that is judged, by what was read and its refusal. Assumes nothing.
+use Rattle.std.specs.Prelude.{Result}
 use Prim.Native.Nat.{ℕ}
 use mathlib.Core.Path.{◌≡◌, refl, sym}
 use mathlib.Core.List.{List}
 use Rattle.records.specs.declared.Record.{Record}
+use Rattle.records.specs.declared.Unread.{Unread}
 use Rattle.records.specs.Read.{read_record}
 use Rattle.rules.specs.Reply.{unless_refused}
 use Rattle.checkpoints.specs.declared.FileSettings.{FileSettings}
@@ -10,7 +12,7 @@ use Rattle.checkpoints.specs.Judge.{Known}
 use Rattle.checkpoints.specs.File.{file_reader}
 use Rattle.checkpoints.specs.Scan.{record_refusal, judged}
 
-pub judged-number : (g : FileSettings) (k : Known) (rest : List ℕ) (r : Record) → r ≡ read_record (file_reader g) g.u rest
-    → (n : ℕ) → n ≡ record_refusal g k r → judged g k rest ≡ unless_refused n r
+pub judged-number : (g : FileSettings) (k : Known) (rest : List ℕ) (r : Result Record Unread) → r ≡ read_record (file_reader g) g.u rest
+    → judged g k rest ≡ unless_refused (record_refusal g k r) r
 unfolding judged
-judged-number g k rest r e n f = rw (sym e, sym f) refl
+judged-number g k rest r e = rw (sym e) refl

@@ -1,29 +1,37 @@
 -- The marks of the different blocks. Assumes nothing.
 use Prim.Native.Nat.{ℕ, ◌+◌, ◌/◌, ◌≤◌, ◌<◌}
-use mathlib.Core.Path.{◌≡◌, refl, sym, ap, ◌∙◌}
-use mathlib.Core.Bool.{Bool, true, false, ◌||◌, or-true}
+use mathlib.Core.Path.{◌≡◌, sym, ap, ◌∙◌}
+use mathlib.Core.Bool.{Bool, ◌||◌, or-true, or-false}
 use mathlib.Core.Logic.{⊎_elim}
 use mathlib.Core.List.{List, [], ◌∷◌}
 use native.Mathlib.Omega.{arith}
-use lib.ListN.{length, take, drop, get_or, replicate, length-replicate}
+use native.Mathlib.Numerals.{add-one}
+use lib.Seq.{drop-cons}
+use lib.ListN.{length, take, drop, get_or, get_or-map, drop_of_length-le, replicate, length-replicate}
 use borrow.Author.Tests.{eq-eqb, ne_eqb}
 use Rattle.lists.specs.Select.{is_in}
 use Rattle.lists.proofs.TestLaws.{eq-or-ne}
-use Rattle.lists.proofs.ArrayLaws.{rest-cons, rest-none}
 use Rattle.lists.proofs.SelectLaws.{in-first, in-others, in-none}
 use Rattle.marks.specs.Mark.{marked, with_mark}
 use Rattle.marks.proofs.MarkLaws.{marked-zeros, marked-same, marked_other, length-with_mark}
+use Rattle.checkpoints.specs.declared.KeptBlock.{KeptBlock}
+use Rattle.checkpoints.specs.Scan.{numbers_of}
+use Rattle.checkpoints.proofs.PlaceLaws.{length-numbers}
 use Rattle.checkpoints.specs.Form.{Kept, marked_all, MarksKept}
 
--- ---- the loop: what is left of the first n numbers, from the i-th on
-module _ (ws l : List ℕ) (i n : ℕ) (fits : n ≤ length l) where
-  pub marked_turn : i < n → marked_all ws (drop i (take n l)) ≡ marked_all (with_mark ws (get_or l i 0)) (drop (i + 1) (take n l))
+-- ---- the loop over the blocks: what is left of them, from the i-th on
+module _ (ws : List ℕ) (blocks : List KeptBlock) (i : ℕ) where
+  pub marked_turn : i < length blocks
+      → marked_all ws (drop i (numbers_of blocks)) ≡ marked_all (with_mark ws (get_or blocks i (record { number = 0; place = 0 })).number) (drop (i + 1) (numbers_of blocks))
   unfolding marked_all
-  marked_turn h = ap (marked_all ws) (rest-cons l 0 i n h fits)
+  marked_turn h =
+      let size : length (numbers_of blocks) ≡ length blocks = length-numbers blocks in
+      ap (marked_all ws) (drop-cons (numbers_of blocks) i 0 (omega arith) ∙ ap (λ (j : ℕ). get_or (numbers_of blocks) i 0 ∷ drop j (numbers_of blocks)) (sym (add-one i)))
+      ∙ ap (λ (n : ℕ). marked_all (with_mark ws n) (drop (i + 1) (numbers_of blocks))) (get_or-map (λ (b : KeptBlock). b.number) blocks i (record { number = 0; place = 0 }))
 
-  pub marked-end : n ≤ i → marked_all ws (drop i (take n l)) ≡ ws
+  pub marked-end : length blocks ≤ i → marked_all ws (drop i (numbers_of blocks)) ≡ ws
   unfolding marked_all
-  marked-end h = ap (marked_all ws) (rest-none l i n h fits)
+  marked-end h = ap (marked_all ws) (drop_of_length-le (numbers_of blocks) (omega (arith, length-numbers blocks)))
 
 -- ---- what is marked
 or-in : (n m : ℕ) (ws ns : List ℕ) → n / 64 < length ws → (marked (with_mark ws m) n || is_in n ns) ≡ (marked ws n || is_in n (m ∷ ns))
@@ -36,10 +44,6 @@ or-in n m ws ns low =
     ap (λ (b : Bool). b || is_in n ns) (marked_other ws m n ne)
     ∙ sym (ap (λ (b : Bool). marked ws n || b) (in-others n m ns (ne_eqb m n (λ z. ne (sym z))))))
     (eq-or-ne n m)
-
-or-false : (b : Bool) → (b || false) ≡ b
-or-false true = refl
-or-false false = refl
 
 -- a number that the words have is marked where it was, or where it is one of the numbers
 marked_all_lem : (n : ℕ) (ns ws : List ℕ) → n / 64 < length ws → marked (marked_all ws ns) n ≡ (marked ws n || is_in n ns)

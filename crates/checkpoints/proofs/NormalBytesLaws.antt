@@ -1,5 +1,6 @@
 -- The bytes of records are bytes where those of their fields are, so those of a file's records and of a normal form
 -- are. Assumes nothing.
+use Rattle.std.specs.Prelude.{Result, Ok, Err}
 use mathlib.Core.Path.{◌≡◌, subst}
 use mathlib.Core.Bool.{Bool, true}
 use mathlib.Core.Logic.{⊎_elim}
@@ -12,7 +13,9 @@ use Rattle.lists.specs.Part.{part}
 use Rattle.lists.specs.LittleEndian.{le_bytes}
 use Rattle.lists.proofs.TestLaws.{lt-or-ge}
 use Rattle.records.specs.declared.Record.{Record}
-use Rattle.records.specs.declared.Record.TheVariants.{Page, Block, State, Commit, Ack, Short, Refused}
+use Rattle.records.specs.declared.Unread.{Unread}
+use Rattle.records.specs.declared.Record.TheVariants.{Page, Block, State, Commit, Ack}
+use Rattle.records.specs.declared.Unread.TheVariants.{Short, Refused}
 use Rattle.records.specs.Kind.{unit_ok, BLOCK, STATE, page_kind, commit_kind, number_width}
 use Rattle.records.specs.Write.{frame, unit_record, state_record, commit_record, epoch_record}
 use Rattle.records.specs.Message.{Message, page, block, state, commit, ack, encode, encode_all, bytes_of}
@@ -82,14 +85,14 @@ encode_all-bytes wide [] a = bytes-none
 encode_all-bytes wide (x ∷ xs) a = bytes-append (encode wide x) (encode_all wide xs) (encode-bytes wide x a.0) (encode_all-bytes wide xs a.1)
 
 -- ---- the records of a file
-message-bytes : (r : Record) (s : List ℕ) → AreBytes s → AreBytes (bytes_of (message_of r s))
-message-bytes (Page w e p c) s h = bytes-part c.start (c.end - c.start) s h
-message-bytes (Block e n c) s h = bytes-part c.start (c.end - c.start) s h
-message-bytes (State e c) s h = bytes-part c.start (c.end - c.start) s h
-message-bytes (Commit w e p b c) s h = bytes-none
-message-bytes (Ack e c) s h = bytes-none
-message-bytes (Short n) s h = bytes-none
-message-bytes (Refused n) s h = bytes-none
+message-bytes : (r : Result Record Unread) (s : List ℕ) → AreBytes s → AreBytes (bytes_of (message_of r s))
+message-bytes (Ok (Page w e p c)) s h = bytes-part c.start (c.end - c.start) s h
+message-bytes (Ok (Block e n c)) s h = bytes-part c.start (c.end - c.start) s h
+message-bytes (Ok (State e c)) s h = bytes-part c.start (c.end - c.start) s h
+message-bytes (Ok (Commit w e p b c)) s h = bytes-none
+message-bytes (Ok (Ack e c)) s h = bytes-none
+message-bytes (Err (Short n)) s h = bytes-none
+message-bytes (Err (Refused n)) s h = bytes-none
 
 -- so all records of a file that is bytes
 pub file-bytes : (g : FileSettings) (s : List ℕ) → unit_ok g.u ≡ true → AreBytes s → All (λ x. AreBytes (bytes_of x)) (file_in g s).messages

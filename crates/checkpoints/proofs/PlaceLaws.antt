@@ -1,21 +1,26 @@
 -- The array of the numbers of the different blocks, and that of the positions beside it: with the number of one more
 -- block, and where each block has its slot then. Assumes nothing.
+use Rattle.std.specs.List.{list_any, position, position_or_len}
+use Rattle.std.specs.Option.{unwrap_or}
+use Rattle.std.proofs.lemmas.List.Recursion.{is_position_or_len}
+use Rattle.std.proofs.lemmas.List.{take-map}
 use mathlib.Core.Path.{◌≡◌, refl, sym, ap, ◌∙◌}
-use mathlib.Core.Bool.{true, false}
+use mathlib.Core.Bool.{Bool, true, false, cond}
 use mathlib.Core.Logic.{⊎_elim}
 use mathlib.Core.List.{List, [], ◌∷◌}
 use Prim.Native.Nat.{ℕ, suc, ◌+◌, ◌≤◌, ◌<◌}
 use native.Mathlib.Numerals.{add-one}
 use native.Mathlib.Omega.{arith}
 use lib.Dec.{ltb, eqb}
-use lib.ListN.{length, take, get_or, set}
+use lib.ListN.{length, length-map, take, get_or, set}
 use lib.Seq.{length-take-le, take-set-lt, take-suc-set, set-get_or, get_or-set_same, get_or-set_other}
-use borrow.Author.Tests.{ltb-true, eqb-true, eq-eqb, ne_eqb}
-use Rattle.lists.specs.Select.{place_in, is_in}
+use borrow.Author.Tests.{ltb-true, ltb-false, eqb-true, eq-eqb, ne_eqb}
+use Rattle.lists.specs.Select.{place_of, place_in, is_in}
 use Rattle.lists.proofs.TestLaws.{by-test, not-both, unless, cond-true, cond-false}
-use Rattle.lists.proofs.SelectLaws.{place-yes, place-passes, place_kept, place-behind, place-not-in, with_number, with-number-again, with-number-new}
+use Rattle.lists.proofs.SelectLaws.{in-first, in-others, in-none, place-low, place-yes, place-passes, place_kept, place-behind, place-not-in, with_number, with-number-again, with-number-new}
 use Rattle.rules.specs.Blocks.{blocks_with}
-use Rattle.checkpoints.specs.Scan.{slot_in}
+use Rattle.checkpoints.specs.declared.KeptBlock.{KeptBlock}
+use Rattle.checkpoints.specs.Scan.{numbers_of, places_of, slot_in}
 use Rattle.checkpoints.proofs.NumberLaws.{in-with}
 
 -- ---- places in a list
@@ -136,3 +141,53 @@ module _ (blocks : ℕ) (numbers places : List ℕ) (n value : ℕ) (fits : bloc
   -- and every other one was counted before
   pub counted-before : (m : ℕ) → (m ≡ n → ⊥) → is_in m (take counted stored) ≡ true → is_in m (take blocks numbers) ≡ true
   counted-before m ne h = in-before m n (take blocks numbers) ne (ap (is_in m) (sym (numbers-stored blocks numbers n fits room)) ∙ h)
+
+-- ---- the array of the code
+-- the place of a number, as the search through the blocks finds it
+module _ (n : ℕ) (blocks : List KeptBlock) where
+  -- the test of the search
+  abbrev is_of : KeptBlock → Bool
+  is_of b = eqb b.number n
+
+  place-first : place_in n (numbers_of blocks) ≡ position_or_len is_of blocks
+  unfolding place_of
+  place-first = is_position_or_len (λ (bs : List KeptBlock). place_in n (numbers_of bs)) is_of refl more blocks
+    where
+      more : (x : KeptBlock) (xs : List KeptBlock) → place_in n (numbers_of (x ∷ xs)) ≡ cond (is_of x) 0 (1 + place_in n (numbers_of xs))
+      more x xs = let e : suc (place_in n (numbers_of xs)) ≡ 1 + place_in n (numbers_of xs) = omega arith in ap (λ (k : ℕ). cond (is_of x) 0 k) e
+
+  -- where it finds none, how many there are
+  pub place-searched : unwrap_or (position (λ (b : KeptBlock). eqb b.number n) blocks) (length blocks) ≡ place_in n (numbers_of blocks)
+  place-searched =
+      ⊎_elim
+      (λ (t : ltb (position_or_len is_of blocks) (length blocks) ≡ true). rw t (sym place-first))
+      (λ (t : ltb (position_or_len is_of blocks) (length blocks) ≡ false).
+      rw t
+      (omega (
+        arith,
+        place-first,
+        ltb-false (position_or_len is_of blocks) (length blocks) t,
+        place-low (λ (m : ℕ). eqb m n) (numbers_of blocks),
+        length-map blocks (λ (b : KeptBlock). b.number),
+      )))
+      (by-test (ltb (position_or_len is_of blocks) (length blocks)))
+
+  -- and of a first part of them
+  pub slot-searched : (count : ℕ) → place_in n (numbers_of (take count blocks)) ≡ slot_in count (numbers_of blocks) n
+  slot-searched count = ap (place_in n) (sym (take-map (λ (b : KeptBlock). b.number) count blocks))
+
+-- the blocks are as many as their numbers, and as where they begin
+pub length-numbers : (blocks : List KeptBlock) → length (numbers_of blocks) ≡ length blocks
+length-numbers blocks = length-map blocks (λ (b : KeptBlock). b.number)
+
+pub length-places : (blocks : List KeptBlock) → length (places_of blocks) ≡ length blocks
+length-places blocks = length-map blocks (λ (b : KeptBlock). b.place)
+
+-- a number is there where a block has it
+pub any-in : (n : ℕ) (blocks : List KeptBlock) → list_any (λ (b : KeptBlock). eqb b.number n) blocks ≡ is_in n (numbers_of blocks)
+any-in n [] = sym (in-none n)
+any-in n (b ∷ bs) =
+    ⊎_elim
+    (λ (t : eqb b.number n ≡ true). rw t (sym (in-first n b.number (numbers_of bs) t)))
+    (λ (t : eqb b.number n ≡ false). rw t (any-in n bs ∙ sym (in-others n b.number (numbers_of bs) t)))
+    (by-test (eqb b.number n))

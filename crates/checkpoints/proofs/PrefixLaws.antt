@@ -1,4 +1,5 @@
 -- A record found in a first part of some bytes is the record of all of them, with the same field. Assumes nothing.
+use Rattle.std.specs.Prelude.{Result}
 use Prim.Native.Nat.{ℕ, ◌-◌, ◌≤◌}
 use mathlib.Core.Path.{◌≡◌, sym, ap, ◌∙◌}
 use mathlib.Core.Bool.{Bool, true, false, false≢true}
@@ -13,6 +14,7 @@ use Rattle.lists.proofs.PartLaws.{drop-take}
 use Rattle.records.specs.declared.Cursor.{Cursor}
 use Rattle.records.specs.declared.Reader.{Reader}
 use Rattle.records.specs.declared.Record.{Record}
+use Rattle.records.specs.declared.Unread.{Unread}
 use Rattle.records.specs.Kind.{page_kind, commit_kind, body_length, record_length, is_for}
 use Rattle.records.specs.declared.Reader.TheVariants.{Test}
 use Rattle.records.specs.Read.{fields_of, read_record}
@@ -42,7 +44,7 @@ module _ (u n : ℕ) (s : List ℕ) where
   -- a record found in the first n bytes is that of all
   pub read-prefix : (reader : Reader) → is_found (read_record reader u (take n s)) ≡ true → read_record reader u s ≡ read_record reader u (take n s)
   read-prefix reader =
-      read-cases (λ (r : Record). is_found r ≡ true → read_record reader u s ≡ r) reader u (take n s)
+      read-cases (λ (r : Result Record Unread). is_found r ≡ true → read_record reader u s ≡ r) reader u (take n s)
       (λ v f. absurd (false≢true f)) (λ v k f. absurd (false≢true f)) (λ v k f. absurd (false≢true f)) (λ v h f. absurd (false≢true f)) (λ c f. absurd (false≢true f))
       (λ w f. whole w)
     where

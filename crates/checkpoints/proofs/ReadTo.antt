@@ -1,5 +1,6 @@
 -- What holds as a file is gone through: of what is kept, by the records so far; at the start, and with one record more.
 -- Assumes nothing.
+use Rattle.std.specs.Prelude.{Result, Ok, Err}
 use mathlib.Core.Path.{◌≡◌, refl, sym, ap, ◌∙◌, subst}
 use mathlib.Core.Bool.{true, false, false≢true}
 use mathlib.Core.Logic.{⊎_elim}
@@ -16,7 +17,9 @@ use Rattle.lists.proofs.TestLaws.{by-test, eq-or-ne, cond-true, cond-false}
 use Rattle.lists.proofs.SelectLaws.{in-none}
 use Rattle.records.specs.declared.Cursor.{Cursor}
 use Rattle.records.specs.declared.Record.{Record}
-use Rattle.records.specs.declared.Record.TheVariants.{Page, Block, State, Commit, Ack, Short, Refused}
+use Rattle.records.specs.declared.Unread.{Unread}
+use Rattle.records.specs.declared.Record.TheVariants.{Page, Block, State, Commit, Ack}
+use Rattle.records.specs.declared.Unread.TheVariants.{Short, Refused}
 use Rattle.records.specs.Kind.{unit_ok, is_wide}
 use Rattle.records.specs.Read.{used_of}
 use Rattle.records.specs.Message.{Message, page, block, state, bytes_of}
@@ -111,26 +114,26 @@ module _ (g : FileSettings) (unit : unit_ok g.u ≡ true) (b-high : g.b ≤ 64) 
   fits = omega (arith, i.few, i.numbers)
 
   -- the arrays keep their lengths
-  length-numbers : (r : Record) → length (numbers_with k.blocks t.numbers r) ≡ 64
-  length-numbers (Block e n c) = length-set t.numbers (slot_in k.blocks t.numbers n) n ∙ i.numbers
-  length-numbers (Page w e p c) = i.numbers
-  length-numbers (State e c) = i.numbers
-  length-numbers (Commit w e p b c) = i.numbers
-  length-numbers (Ack e c) = i.numbers
-  length-numbers (Short n) = i.numbers
-  length-numbers (Refused n) = i.numbers
+  length-numbers : (r : Result Record Unread) → length (numbers_with k.blocks t.numbers r) ≡ 64
+  length-numbers (Ok (Block e n c)) = length-set t.numbers (slot_in k.blocks t.numbers n) n ∙ i.numbers
+  length-numbers (Ok (Page w e p c)) = i.numbers
+  length-numbers (Ok (State e c)) = i.numbers
+  length-numbers (Ok (Commit w e p b c)) = i.numbers
+  length-numbers (Ok (Ack e c)) = i.numbers
+  length-numbers (Err (Short n)) = i.numbers
+  length-numbers (Err (Refused n)) = i.numbers
 
-  length-places : (r : Record) → length (places_with k.blocks t.numbers t.places t.at r) ≡ 64
-  length-places (Block e n c) = length-set t.places (slot_in k.blocks t.numbers n) (t.at + c.start) ∙ i.places
-  length-places (Page w e p c) = i.places
-  length-places (State e c) = i.places
-  length-places (Commit w e p b c) = i.places
-  length-places (Ack e c) = i.places
-  length-places (Short n) = i.places
-  length-places (Refused n) = i.places
+  length-places : (r : Result Record Unread) → length (places_with k.blocks t.numbers t.places t.at r) ≡ 64
+  length-places (Ok (Block e n c)) = length-set t.places (slot_in k.blocks t.numbers n) (t.at + c.start) ∙ i.places
+  length-places (Ok (Page w e p c)) = i.places
+  length-places (Ok (State e c)) = i.places
+  length-places (Ok (Commit w e p b c)) = i.places
+  length-places (Ok (Ack e c)) = i.places
+  length-places (Err (Short n)) = i.places
+  length-places (Err (Refused n)) = i.places
 
   -- ---- a BLOCK that is not refused
-  module _ (e n : ℕ) (c : Cursor) (q : head_of g rest ≡ Block e n c) (z : message_refusal g (known_of k t.numbers) (block e n (bytes_at c rest)) ≡ 0) where
+  module _ (e n : ℕ) (c : Cursor) (q : head_of g rest ≡ Ok (Block e n c)) (z : message_refusal g (known_of k t.numbers) (block e n (bytes_at c rest)) ≡ 0) where
     -- another block has room
     room : is_in n (take k.blocks t.numbers) ≡ false → k.blocks < g.b
     room = block_room g k t.numbers fits e n (bytes_at c rest) z
@@ -192,23 +195,23 @@ module _ (g : FileSettings) (unit : unit_ok g.u ≡ true) (b-high : g.b ≤ 64) 
       (l.0 ∙ sym (last-stays m done x (h m)), l.1)
 
   -- ---- a PAGE, a BLOCK or a STATE that is not refused: what it leaves of the blocks
-  abbrev Kept : Record → Type 0
+  abbrev Kept : Result Record Unread → Type 0
   Kept r =
       ((counts_with k t.numbers r).blocks ≤ g.b)
       × ((m : ℕ) → LastAt g.u file (counts_with k t.numbers r).blocks (numbers_with k.blocks t.numbers r) (places_with k.blocks t.numbers t.places t.at r) (done ++ (message_of r rest ∷ [])) m)
 
   -- which holds by its kind
-  kept_more : (r : Record) → head_of g rest ≡ r → goes_on r ≡ true → message_refusal g (known_of k t.numbers) (message_of r rest) ≡ 0 → Kept r
-  kept_more (Page w e p c) q h z = (i.few, other_last (page e p (bytes_at c rest)) (λ m. refl))
-  kept_more (Block e n c) q h z = (block-few e n c q z, block_last e n c q z)
-  kept_more (State e c) q h z = (i.few, other_last (state e (bytes_at c rest)) (λ m. refl))
-  kept_more (Commit w e p b c) q h z = absurd (false≢true h)
-  kept_more (Ack e c) q h z = absurd (false≢true h)
-  kept_more (Short n) q h z = absurd (false≢true h)
-  kept_more (Refused n) q h z = absurd (false≢true h)
+  kept_more : (r : Result Record Unread) → head_of g rest ≡ r → goes_on r ≡ true → message_refusal g (known_of k t.numbers) (message_of r rest) ≡ 0 → Kept r
+  kept_more (Ok (Page w e p c)) q h z = (i.few, other_last (page e p (bytes_at c rest)) (λ m. refl))
+  kept_more (Ok (Block e n c)) q h z = (block-few e n c q z, block_last e n c q z)
+  kept_more (Ok (State e c)) q h z = (i.few, other_last (state e (bytes_at c rest)) (λ m. refl))
+  kept_more (Ok (Commit w e p b c)) q h z = absurd (false≢true h)
+  kept_more (Ok (Ack e c)) q h z = absurd (false≢true h)
+  kept_more (Err (Short n)) q h z = absurd (false≢true h)
+  kept_more (Err (Refused n)) q h z = absurd (false≢true h)
 
   -- it holds with one record more
-  pub read_more : (r : Record) → head_of g rest ≡ r → goes_on r ≡ true → message_refusal g (known_of k t.numbers) (message_of r rest) ≡ 0
+  pub read_more : (r : Result Record Unread) → head_of g rest ≡ r → goes_on r ≡ true → message_refusal g (known_of k t.numbers) (message_of r rest) ≡ 0
       → ReadTo g file (scanned_with t r) (done ++ (message_of r rest ∷ []))
   unfolding scanned_with
   read_more r q h z =

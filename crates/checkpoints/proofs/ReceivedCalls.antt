@@ -1,5 +1,6 @@
 -- Reads and flushes: by cases, at a standby that receives a checkpoint, and that the last checkpoint received never
 -- falls. Assumes nothing.
+use Rattle.std.specs.Prelude.{Result, Ok, Err}
 use Prim.Native.Nat.{ℕ, ◌+◌, ◌≤◌}
 use mathlib.Core.Path.{◌≡◌, refl, sym, ap, subst}
 use mathlib.Core.Bool.{Bool, true, false, cond}
@@ -9,7 +10,9 @@ use lib.Dec.{eqb}
 use lib.ListN.{length, take}
 use Rattle.records.specs.declared.Reader.TheVariants as reader
 use Rattle.records.specs.declared.Record.{Record}
-use Rattle.records.specs.declared.Record.TheVariants.{Page, Block, State, Commit, Ack, Short, Refused}
+use Rattle.records.specs.declared.Unread.{Unread}
+use Rattle.records.specs.declared.Record.TheVariants.{Page, Block, State, Commit, Ack}
+use Rattle.records.specs.declared.Unread.TheVariants.{Short, Refused}
 use Rattle.records.specs.Kind.{ACK, is_wide, body_length, record_length}
 use Rattle.records.specs.Read.{read_record}
 use Rattle.records.specs.Message.{Message}
@@ -53,14 +56,14 @@ call-cases w P reads flushes (call.standby_sum order) f = absurd f
 
 -- ---- the last checkpoint received never falls
 -- by a read, whatever record is judged
-read-grows : (s : Standby) (l : ReadLent) (bytes : List ℕ) (q : Record) → JudgedFacts s l bytes q → s.received ≤ (read_state s bytes q).received
-read-grows s l bytes (Page v e p c) f = omega arith
-read-grows s l bytes (Block e n c) f = omega arith
-read-grows s l bytes (State e c) f = omega arith
-read-grows s l bytes (Commit v e p b c) f = omega (arith, f.tests.epoch-next)
-read-grows s l bytes (Ack e c) f = absurd f
-read-grows s l bytes (Short n) f = omega arith
-read-grows s l bytes (Refused n) f = omega arith
+read-grows : (s : Standby) (l : ReadLent) (bytes : List ℕ) (q : Result Record Unread) → JudgedFacts s l bytes q → s.received ≤ (read_state s bytes q).received
+read-grows s l bytes (Ok (Page v e p c)) f = omega arith
+read-grows s l bytes (Ok (Block e n c)) f = omega arith
+read-grows s l bytes (Ok (State e c)) f = omega arith
+read-grows s l bytes (Ok (Commit v e p b c)) f = omega (arith, f.tests.epoch-next)
+read-grows s l bytes (Ok (Ack e c)) f = absurd f
+read-grows s l bytes (Err (Short n)) f = omega arith
+read-grows s l bytes (Err (Refused n)) f = omega arith
 
 -- by a flush, accepted or refused
 flush-grows : (b : Bool) (s t : Standby) → s.received ≡ t.received → s.received ≤ (cond b t s).received
@@ -86,14 +89,14 @@ step-grows w = call-cases w (λ (c : Call). w.standby.state.received ≤ (step w
         (read-grows s.state l (take n w.link) (judged s.state l (take n w.link)) (judged-facts s.state l (take n w.link)))
 
 -- ---- a read by which it rises accepts a COMMIT, and so has room for an ACK
-commit-room : (s : Standby) (l : ReadLent) (bytes : List ℕ) (q : Record) → JudgedFacts s l bytes q → (read_state s bytes q).received ≡ s.received + 1 → 8 ≤ l.reply
-commit-room s l bytes (Page v e p c) f h = absurd (omega arith)
-commit-room s l bytes (Block e n c) f h = absurd (omega arith)
-commit-room s l bytes (State e c) f h = absurd (omega arith)
-commit-room s l bytes (Commit v e p b c) f h = f.tests.room
-commit-room s l bytes (Ack e c) f h = absurd f
-commit-room s l bytes (Short n) f h = absurd (omega arith)
-commit-room s l bytes (Refused n) f h = absurd (omega arith)
+commit-room : (s : Standby) (l : ReadLent) (bytes : List ℕ) (q : Result Record Unread) → JudgedFacts s l bytes q → (read_state s bytes q).received ≡ s.received + 1 → 8 ≤ l.reply
+commit-room s l bytes (Ok (Page v e p c)) f h = absurd (omega arith)
+commit-room s l bytes (Ok (Block e n c)) f h = absurd (omega arith)
+commit-room s l bytes (Ok (State e c)) f h = absurd (omega arith)
+commit-room s l bytes (Ok (Commit v e p b c)) f h = f.tests.room
+commit-room s l bytes (Ok (Ack e c)) f h = absurd f
+commit-room s l bytes (Err (Short n)) f h = absurd (omega arith)
+commit-room s l bytes (Err (Refused n)) f h = absurd (omega arith)
 
 -- in the world
 pub read-room : (w : World) (n : ℕ) (reply : List ℕ) → (step w (call.read n reply)).next.standby.state.received ≡ w.standby.state.received + 1

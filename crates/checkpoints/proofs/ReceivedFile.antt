@@ -1,5 +1,6 @@
 -- A checkpoint that a standby accepts record by record, as the file of its bytes: its records are not refused, it is
 -- whole, and the standby then has what they do. Assumes nothing.
+use Rattle.std.specs.Prelude.{Result, Ok, Err}
 use Prim.Native.Nat.{ℕ, ◌+◌, ◌≤◌}
 use mathlib.Core.Path.{◌≡◌, refl, sym, ap, ◌∙◌, subst}
 use mathlib.Core.Bool.{true}
@@ -8,7 +9,9 @@ use native.Mathlib.Omega.{arith}
 use lib.ListN.{length, take, drop, length-append}
 use lib.Seq.{append_snoc, take_at}
 use Rattle.records.specs.declared.Record.{Record}
-use Rattle.records.specs.declared.Record.TheVariants.{Page, Block, State, Commit, Ack, Short, Refused}
+use Rattle.records.specs.declared.Unread.{Unread}
+use Rattle.records.specs.declared.Record.TheVariants.{Page, Block, State, Commit, Ack}
+use Rattle.records.specs.declared.Unread.TheVariants.{Short, Refused}
 use Rattle.records.specs.Kind.{unit_ok, is_wide}
 use Rattle.records.specs.Read.{used_of}
 use Rattle.records.specs.Message.{Message, commit, encode_all}
@@ -46,13 +49,13 @@ module _ (x : StandbySettings) (unit : unit_ok x.u ≡ true) (base : Checkpoint)
   g = file_settings x
 
   -- with its record in front
-  whole-next : (q : Record) → head_of (file_settings x) s ≡ q → Before (message_of q s) → ReadDone x base r k ms s t q
+  whole-next : (q : Result Record Unread) → head_of (file_settings x) s ≡ q → Before (message_of q s) → ReadDone x base r k ms s t q
       → WholeFile x base r (known_with k (message_of q s)) (ms ++ (message_of q s ∷ [])) (file_in (file_settings x) t.next.link) end.link end.standby → WholeFile x base r k ms (file_in (file_settings x) s) end.link end.standby
   whole-next q is b d f =
       let y = message_of q s in
       let rest = file_in g t.next.link in
       let next : file_in g s ≡ after y rest =
-      subst (λ (p : Record). Before (message_of p s) → file_in g s ≡ after (message_of p s) (file_in g (drop (used_of p) s))) is (file-before g s unit) b
+      subst (λ (p : Result Record Unread). Before (message_of p s) → file_in g s ≡ after (message_of p s) (file_in g (drop (used_of p) s))) is (file-before g s unit) b
       ∙ ap (λ (l : List ℕ). after y (file_in g l)) (sym d.link) in
       subst (λ (l : File). WholeFile x base r k ms l end.link end.standby) (sym next)
       (record {
@@ -64,21 +67,21 @@ module _ (x : StandbySettings) (unit : unit_ok x.u ≡ true) (base : Checkpoint)
 
   -- one that is not the last is of a record that ends no checkpoint
   middle : ((j : Known) (l : List Message) → Standing x base r j l t.next.standby → WholeFile x base r j l (file_in (file_settings x) t.next.link) end.link end.standby)
-      → t.next.standby.state.received ≤ r → (q : Record) → head_of (file_settings x) s ≡ q → ReadDone x base r k ms s t q → WholeFile x base r k ms (file_in (file_settings x) s) end.link end.standby
-  middle more low (Page v n p c) is d = whole-next (Page v n p c) is tt d (more _ _ d.after)
-  middle more low (Block n m c) is d = whole-next (Block n m c) is tt d (more _ _ d.after)
-  middle more low (State n c) is d = whole-next (State n c) is tt d (more _ _ d.after)
-  middle more low (Commit v n p b c) is d = absurd (omega (arith, d.after.received))
-  middle more low (Ack n c) is d = absurd d.after
-  middle more low (Short n) is d = absurd d.after
-  middle more low (Refused n) is d = absurd d.after
+      → t.next.standby.state.received ≤ r → (q : Result Record Unread) → head_of (file_settings x) s ≡ q → ReadDone x base r k ms s t q → WholeFile x base r k ms (file_in (file_settings x) s) end.link end.standby
+  middle more low (Ok (Page v n p c)) is d = whole-next (Ok (Page v n p c)) is tt d (more _ _ d.after)
+  middle more low (Ok (Block n m c)) is d = whole-next (Ok (Block n m c)) is tt d (more _ _ d.after)
+  middle more low (Ok (State n c)) is d = whole-next (Ok (State n c)) is tt d (more _ _ d.after)
+  middle more low (Ok (Commit v n p b c)) is d = absurd (omega (arith, d.after.received))
+  middle more low (Ok (Ack n c)) is d = absurd d.after
+  middle more low (Err (Short n)) is d = absurd d.after
+  middle more low (Err (Refused n)) is d = absurd d.after
 
   -- the last is of a COMMIT
-  last : t.next ≡ end → t.next.standby.state.received ≡ r + 1 → (q : Record) → head_of (file_settings x) s ≡ q → ReadDone x base r k ms s t q → WholeFile x base r k ms (file_in (file_settings x) s) end.link end.standby
-  last same one (Page v n p c) is d = absurd (omega (arith, d.after.received))
-  last same one (Block n m c) is d = absurd (omega (arith, d.after.received))
-  last same one (State n c) is d = absurd (omega (arith, d.after.received))
-  last same one (Commit v n p b c) is d =
+  last : t.next ≡ end → t.next.standby.state.received ≡ r + 1 → (q : Result Record Unread) → head_of (file_settings x) s ≡ q → ReadDone x base r k ms s t q → WholeFile x base r k ms (file_in (file_settings x) s) end.link end.standby
+  last same one (Ok (Page v n p c)) is d = absurd (omega (arith, d.after.received))
+  last same one (Ok (Block n m c)) is d = absurd (omega (arith, d.after.received))
+  last same one (Ok (State n c)) is d = absurd (omega (arith, d.after.received))
+  last same one (Ok (Commit v n p b c)) is d =
       subst (λ (l : File). WholeFile x base r k ms l end.link end.standby) (sym (file-commit g s unit is))
       (record {
         records = cons-refusal g k (commit n p b) [] d.accepted (nil-refusal g k);
@@ -86,9 +89,9 @@ module _ (x : StandbySettings) (unit : unit_ok x.u ≡ true) (base : Checkpoint)
         epoch = epoch-cons (commit n p b) [] ∙ d.epoch;
         taken = subst (λ (v : World). Taken x base r (ms ++ (commit n p b ∷ [])) v.standby) same d.after;
       })
-  last same one (Ack n c) is d = absurd d.after
-  last same one (Short n) is d = absurd d.after
-  last same one (Refused n) is d = absurd d.after
+  last same one (Ok (Ack n c)) is d = absurd d.after
+  last same one (Err (Short n)) is d = absurd d.after
+  last same one (Err (Refused n)) is d = absurd d.after
 
 -- ---- all calls
 module _ (x : StandbySettings) (unit : unit_ok x.u ≡ true) (base : Checkpoint) (r : ℕ) (n : ℕ) (reply : List ℕ) where

@@ -1,5 +1,6 @@
 -- Where going through a file ends, and what the call then answers: at a COMMIT with what was kept of the whole
 -- checkpoint, else cut short or refused. Assumes nothing.
+use Rattle.std.specs.Prelude.{Result, Ok, Err}
 use mathlib.Core.Path.{◌≡◌, refl, sym, ap, ap₂, ◌∙◌, subst}
 use mathlib.Core.Bool.{Bool, true}
 use mathlib.Core.Logic.{⊎_elim}
@@ -11,7 +12,9 @@ use Rattle.lists.specs.Refusal.{refusal}
 use Rattle.lists.proofs.TestLaws.{eq-or-ne}
 use Rattle.records.specs.declared.Cursor.{Cursor}
 use Rattle.records.specs.declared.Record.{Record}
-use Rattle.records.specs.declared.Record.TheVariants.{Page, Block, State, Commit, Ack, Short, Refused}
+use Rattle.records.specs.declared.Unread.{Unread}
+use Rattle.records.specs.declared.Record.TheVariants.{Page, Block, State, Commit, Ack}
+use Rattle.records.specs.declared.Unread.TheVariants.{Short, Refused}
 use Rattle.records.specs.Kind.{unit_ok, is_wide}
 use Rattle.records.specs.Read.{used_of}
 use Rattle.records.specs.Message.{Message, commit, encode_all}
@@ -19,11 +22,12 @@ use Rattle.records.proofs.ReadLaws.{is_found}
 use Rattle.settings.proofs.RangeLaws.{SharedFacts, shared-facts, shared-unit}
 use Rattle.runs.proofs.Effects.{All, Readable}
 use Rattle.checkpoints.specs.declared.FileSettings.{FileSettings}
-use Rattle.checkpoints.specs.declared.Saved.TheVariants as saved-of
+use Rattle.checkpoints.specs.declared.KeptBlock.{KeptBlock}
+use Rattle.checkpoints.specs.declared.Scanned.{Scanned}
 use Rattle.checkpoints.specs.Judge.{Known, none_known, message_refusal, refusal_from}
 use Rattle.checkpoints.specs.File.{File, Ending, closed, file_of, file_in}
 use Rattle.checkpoints.specs.File as file-of
-use Rattle.checkpoints.specs.Scan.{known_of, record_refusal, judged, goes_on, Scanning, scanned_with, ScanEnd, scan_end, scan_in, scanning, scan_of}
+use Rattle.checkpoints.specs.Scan.{numbers_of, places_of, known_of, record_refusal, judged, goes_on, Scanning, scanned_with, ScanEnd, scan_in, scanning, scan_of, scanned_in}
 use Rattle.checkpoints.specs.Form.{Kept, kept_of, kept_form, form_length, FormFits}
 use Rattle.checkpoints.specs.Saving.{file_settings_ok, normal_bytes, end_tests, written, ended, saved}
 use Rattle.checkpoints.specs.Claims.{AreBytes}
@@ -31,6 +35,7 @@ use Rattle.checkpoints.proofs.ByteLaws.{message_of, found-no-ack, used-range}
 use Rattle.checkpoints.proofs.FileLaws.{head_of, file-before, file-commit, file-short, file-refused}
 use Rattle.checkpoints.proofs.FileBytes.{file-readable, file-encoded}
 use Rattle.checkpoints.proofs.KnownLaws.{known_after, known-append, cons-refusal, nil-refusal, append-refusal}
+use Rattle.checkpoints.proofs.PlaceLaws.{length-numbers, length-places}
 use Rattle.checkpoints.proofs.ShapeLaws.{shape_of}
 use Rattle.checkpoints.proofs.ScanMeaning.{judged-accepted, judged-refused, refusal-found, goes_before, scan-more, scan-last}
 use Rattle.checkpoints.proofs.ReadTo.{joined, ReadTo, read-start, last-stays, read_more}
@@ -38,24 +43,26 @@ use Rattle.checkpoints.proofs.FormLaws.{KeptOf, form-bytes, form-length, form-fi
 use Rattle.checkpoints.proofs.AnswerLaws.{refusal-first, refusal-behind, saved-ended, saved-refused}
 
 -- it ends with a COMMIT: what was kept is that of a whole checkpoint, and the answer is by the bytes left and the room
-pub record Committed (g : FileSettings) (file : List ℕ) (e : ScanEnd) : Type 0 where
-  pub inside : e.reply.end ≤ length file
+pub record Committed (g : FileSettings) (file : List ℕ) (s : Scanned) (numbers places : List ℕ) : Type 0 where
+  pub inside : s.end ≤ length file
   pub answer : (room : ℕ)
       → saved g file room
-      ≡ written (refusal (end_tests (length file - e.reply.end) (form_length g.u (is_wide g.m) e.reply.counts) room)) (form_length g.u (is_wide g.m) e.reply.counts)
-  pub form : kept_form g.u g.d (is_wide g.m) (kept_of e.reply.counts e.numbers e.places file) ≡ normal_bytes g (file_in g file).messages
-  pub fits : FormFits g.u g.d (is_wide g.m) (kept_of e.reply.counts e.numbers e.places file)
-  pub pages : e.reply.counts.pages ≤ 65536
-  pub records : e.reply.counts.records ≤ 65535
+      ≡ written (refusal (end_tests (length file - s.end) (form_length g.u (is_wide g.m) s.counts) room)) (form_length g.u (is_wide g.m) s.counts)
+  pub form : kept_form g.u g.d (is_wide g.m) (kept_of s.counts numbers places file) ≡ normal_bytes g (file_in g file).messages
+  pub fits : FormFits g.u g.d (is_wide g.m) (kept_of s.counts numbers places file)
+  pub pages : s.counts.pages ≤ 65536
+  pub records : s.counts.records ≤ 65535
 
--- the ways to end, each with its answer
-pub data ScanEnds (g : FileSettings) (file : List ℕ) (e : ScanEnd) : Type 0 where
-  committed : (w : Bool) (epoch p b : ℕ) (c : Cursor) → e.reply.last ≡ Commit w epoch p b c → Committed g file e → ScanEnds g file e
-  short : (n : ℕ) → e.reply.last ≡ Short n → ((room : ℕ) → saved g file room ≡ saved-of.Short n) → ScanEnds g file e
-  refused : (n : ℕ) → e.reply.last ≡ Refused n → ((room : ℕ) → saved g file room ≡ saved-of.Refused n) → ScanEnds g file e
+-- with a COMMIT, or with what is cut short or refused, which is the answer
+abbrev pub EndsRight : FileSettings → (file : List ℕ) → Result Scanned Unread → (numbers places : List ℕ) → Type 0
+EndsRight g file (Ok s) numbers places = Committed g file s numbers places
+EndsRight g file (Err u) numbers places = (room : ℕ) → saved g file room ≡ Err u
+
+abbrev pub ScanEnds : FileSettings → (file : List ℕ) → ScanEnd → Type 0
+ScanEnds g file e = EndsRight g file (scanned_in e) e.numbers e.places
 
 -- a record that is kept moves on by its bytes
-at_with : (t : Scanning) (r : Record) → (scanned_with t r).at ≡ t.at + used_of r
+at_with : (t : Scanning) (r : Result Record Unread) → (scanned_with t r).at ≡ t.at + used_of r
 unfolding scanned_with
 at_with t r = refl
 
@@ -85,8 +92,8 @@ module _ (g : FileSettings) (file : List ℕ) (bytes : AreBytes file) (ok : file
         ∙ ap (λ (f : File). ended f.ending (length (normal_bytes g f.messages)) room) all
 
     -- where one is found that is refused, its number
-    refused-answer : (r : Record) → is_found r ≡ true → (more : List Message) (last : Ending) → file_in g rest ≡ file_of (message_of r rest ∷ more) last
-        → (record_refusal g known r ≡ 0 → ⊥) → (room : ℕ) → saved g file room ≡ saved-of.Refused (record_refusal g known r)
+    refused-answer : (r : Result Record Unread) → is_found r ≡ true → (more : List Message) (last : Ending) → file_in g rest ≡ file_of (message_of r rest ∷ more) last
+        → (record_refusal g known r ≡ 0 → ⊥) → (room : ℕ) → saved g file room ≡ Err (Refused (record_refusal g known r))
     refused-answer r f more last q ne room =
         let x = message_of r rest in
         let number : record_refusal g known r ≡ message_refusal g (known_after none_known done) x =
@@ -99,7 +106,7 @@ module _ (g : FileSettings) (file : List ℕ) (bytes : AreBytes file) (ok : file
         ne
 
     -- ---- at a COMMIT that is not refused
-    module _ (w : Bool) (e p b : ℕ) (c : Cursor) (q : head_of g rest ≡ Commit w e p b c) (z : message_refusal g known (commit e p b) ≡ 0) where
+    module _ (w : Bool) (e p b : ℕ) (c : Cursor) (q : head_of g rest ≡ Ok (Commit w e p b c)) (z : message_refusal g known (commit e p b) ≡ 0) where
       -- all records, the bytes behind them, and what is kept
       abbrev ms : List Message
       ms = done ++ (commit e p b ∷ [])
@@ -147,7 +154,7 @@ module _ (g : FileSettings) (file : List ℕ) (bytes : AreBytes file) (ok : file
       behind-length = length-drop c.end rest ∙ omega (arith, length-drop t.at file, commit-inside)
 
       -- all that is said of a COMMIT
-      whole-committed : Committed g file (scan_end t (Commit w e p b c))
+      whole-committed : Committed g file (record { counts = t.counts; end = t.at + c.end }) t.numbers t.places
       whole-committed =
           record {
             inside = commit-inside;
@@ -162,21 +169,21 @@ module _ (g : FileSettings) (file : List ℕ) (bytes : AreBytes file) (ok : file
           }
 
     -- ---- one step, where the later ones are shown
-    module _ (most : ℕ) (later : (r : Record) (xs : List Message) → ReadTo g file (scanned_with t r) xs → t.at + 8 ≤ (scanned_with t r).at → ScanEnds g file (scan_in most g file (scanned_with t r))) where
+    module _ (most : ℕ) (later : (r : Result Record Unread) (xs : List Message) → ReadTo g file (scanned_with t r) xs → t.at + 8 ≤ (scanned_with t r).at → ScanEnds g file (scan_in most g file (scanned_with t r))) where
       -- what is shown
       abbrev Shown : Type 0
       Shown = ScanEnds g file (scan_in (suc most) g file t)
 
       -- a record that is refused is the last
-      step-refused : (r : Record) → head_of g rest ≡ r → is_found r ≡ true → (more : List Message) (last : Ending) → file_in g rest ≡ file_of (message_of r rest ∷ more) last
+      step-refused : (r : Result Record Unread) → head_of g rest ≡ r → is_found r ≡ true → (more : List Message) (last : Ending) → file_in g rest ≡ file_of (message_of r rest ∷ more) last
           → (record_refusal g known r ≡ 0 → ⊥) → Shown
       step-refused r q f more last files ne =
           let n = record_refusal g known r in
-          subst (ScanEnds g file) (sym (scan-last most g file t (Refused n) (judged-refused g known rest r q ne) refl))
-          (refused n refl (refused-answer r f more last files ne))
+          subst (ScanEnds g file) (sym (scan-last most g file t (Err (Refused n)) (judged-refused g known rest r q ne) refl))
+          (refused-answer r f more last files ne)
 
       -- a PAGE, a BLOCK or a STATE
-      step-goes : (r : Record) → head_of g rest ≡ r → goes_on r ≡ true → Shown
+      step-goes : (r : Result Record Unread) → head_of g rest ≡ r → goes_on r ≡ true → Shown
       step-goes r q h =
           let f = goes_before rest r h in
           let x = message_of r rest in
@@ -192,34 +199,34 @@ module _ (g : FileSettings) (file : List ℕ) (bytes : AreBytes file) (ok : file
           (eq-or-ne (record_refusal g known r) 0)
 
       -- a COMMIT
-      step-commit : (w : Bool) (e p b : ℕ) (c : Cursor) → head_of g rest ≡ Commit w e p b c → Shown
+      step-commit : (w : Bool) (e p b : ℕ) (c : Cursor) → head_of g rest ≡ Ok (Commit w e p b c) → Shown
       step-commit w e p b c q =
-          let r = Commit w e p b c in
+          let r = Ok (Commit w e p b c) in
           ⊎_elim
           (λ (z : record_refusal g known r ≡ 0).
           subst (ScanEnds g file) (sym (scan-last most g file t r (judged-accepted g known rest r q z) refl))
-          (committed w e p b c refl (whole-committed w e p b c q z)))
+          (whole-committed w e p b c q z))
           (λ (ne : record_refusal g known r ≡ 0 → ⊥). step-refused r q refl [] (closed (drop c.end rest)) (file-commit g rest unit q) ne)
           (eq-or-ne (record_refusal g known r) 0)
 
       -- refused by its header
-      judged-bad : (n : ℕ) → head_of g rest ≡ Refused n → judged g known rest ≡ Refused n
+      judged-bad : (n : ℕ) → head_of g rest ≡ Err (Refused n) → judged g known rest ≡ Err (Refused n)
       judged-bad n q =
-          ⊎_elim (λ (z : n ≡ 0). judged-accepted g known rest (Refused n) q z) (λ (ne : n ≡ 0 → ⊥). judged-refused g known rest (Refused n) q ne) (eq-or-ne n 0)
+          ⊎_elim (λ (z : n ≡ 0). judged-accepted g known rest (Err (Refused n)) q z) (λ (ne : n ≡ 0 → ⊥). judged-refused g known rest (Err (Refused n)) q ne) (eq-or-ne n 0)
 
       -- by what is read
-      step_by : (r : Record) → head_of g rest ≡ r → Shown
-      step_by (Page w e p c) q = step-goes (Page w e p c) q refl
-      step_by (Block e n c) q = step-goes (Block e n c) q refl
-      step_by (State e c) q = step-goes (State e c) q refl
-      step_by (Commit w e p b c) q = step-commit w e p b c q
-      step_by (Ack e c) q = absurd (found-no-ack g.u (is_wide g.m) rest e c q)
-      step_by (Short n) q =
-          subst (ScanEnds g file) (sym (scan-last most g file t (Short n) (judged-accepted g known rest (Short n) q refl) refl))
-          (short n refl (none-answer (file-of.short n) (file-short g rest unit q)))
-      step_by (Refused n) q =
-          subst (ScanEnds g file) (sym (scan-last most g file t (Refused n) (judged-bad n q) refl))
-          (refused n refl (none-answer (file-of.refused n) (file-refused g rest unit q)))
+      step_by : (r : Result Record Unread) → head_of g rest ≡ r → Shown
+      step_by (Ok (Page w e p c)) q = step-goes (Ok (Page w e p c)) q refl
+      step_by (Ok (Block e n c)) q = step-goes (Ok (Block e n c)) q refl
+      step_by (Ok (State e c)) q = step-goes (Ok (State e c)) q refl
+      step_by (Ok (Commit w e p b c)) q = step-commit w e p b c q
+      step_by (Ok (Ack e c)) q = absurd (found-no-ack g.u (is_wide g.m) rest e c q)
+      step_by (Err (Short n)) q =
+          subst (ScanEnds g file) (sym (scan-last most g file t (Err (Short n)) (judged-accepted g known rest (Err (Short n)) q refl) refl))
+          (none-answer (file-of.short n) (file-short g rest unit q))
+      step_by (Err (Refused n)) q =
+          subst (ScanEnds g file) (sym (scan-last most g file t (Err (Refused n)) (judged-bad n q) refl))
+          (none-answer (file-of.refused n) (file-refused g rest unit q))
 
   -- ---- all steps: there are more than the bytes left, and each record has some
   go : (most : ℕ) (t : Scanning) (done : List Message) → ReadTo g file t done → length file < most + t.at → ScanEnds g file (scan_in most g file t)
@@ -231,3 +238,9 @@ pub scan-ends : (g : FileSettings) (file : List ℕ) → AreBytes file → file_
     → ScanEnds g file (scan_of g file numbers places)
 scan-ends g file bytes ok numbers places n p =
     go g file bytes ok (length file + 1) (scanning numbers places) [] (read-start g file numbers places n p) (omega arith)
+
+-- the same, of what the code then has
+pub ends-right : (g : FileSettings) (file : List ℕ) (blocks : List KeptBlock) {r : Result Scanned Unread} {ns ps : List ℕ} → AreBytes file → file_settings_ok g ≡ true → length blocks ≡ 64
+    → let e = scan_of g file (numbers_of blocks) (places_of blocks) in r ≡ scanned_in e → ns ≡ e.numbers → ps ≡ e.places → EndsRight g file r ns ps
+ends-right g file blocks bytes ok size e f h =
+    rw (e, f, h) (scan-ends g file bytes ok (numbers_of blocks) (places_of blocks) (length-numbers blocks ∙ size) (length-places blocks ∙ size))

@@ -1,5 +1,6 @@
 -- An accepted read at a standby that receives a checkpoint: the record at the head of the link is not refused by those
 -- before it, and leads to what is known with it. Assumes nothing.
+use Rattle.std.specs.Prelude.{Result, Ok, Err}
 use Prim.Native.Nat.{ℕ, ◌+◌}
 use mathlib.Core.Path.{◌≡◌, refl, sym, ap, ◌∙◌, subst}
 use mathlib.Core.Bool.{true}
@@ -9,7 +10,9 @@ use lib.ListN.{length, take, drop, length-take}
 use Rattle.lists.specs.Select.{is_in}
 use Rattle.records.specs.declared.Cursor.{Cursor}
 use Rattle.records.specs.declared.Record.{Record}
-use Rattle.records.specs.declared.Record.TheVariants.{Page, Block, State, Commit, Ack, Short, Refused}
+use Rattle.records.specs.declared.Unread.{Unread}
+use Rattle.records.specs.declared.Record.TheVariants.{Page, Block, State, Commit, Ack}
+use Rattle.records.specs.declared.Unread.TheVariants.{Short, Refused}
 use Rattle.records.specs.Read.{read_record, used_of}
 use Rattle.records.specs.Message.{Message, page, block, state, commit, ack}
 use Rattle.records.proofs.ReadLaws.{RecordFacts, is_found}
@@ -42,7 +45,7 @@ After x base r k ms e (commit n p b) = Taken x base r (ms ++ (commit n p b ∷ [
 After x base r k ms e (ack n) = ⊥
 
 -- a read of the link `s` found the record q, and led to t
-pub record ReadDone (x : StandbySettings) (base : Checkpoint) (r : ℕ) (k : Known) (ms : List Message) (s : List ℕ) (t : Stepped) (q : Record) : Type 0 where
+pub record ReadDone (x : StandbySettings) (base : Checkpoint) (r : ℕ) (k : Known) (ms : List Message) (s : List ℕ) (t : Stepped) (q : Result Record Unread) : Type 0 where
   pub link : t.next.link ≡ drop (used_of q) s
   pub epoch : message_epoch (message_of q s) ≡ r + 1
   pub accepted : message_refusal (file_settings x) k (message_of q s) ≡ 0
@@ -51,17 +54,17 @@ pub record ReadDone (x : StandbySettings) (base : Checkpoint) (r : ℕ) (k : Kno
 -- an accepted record is the one found
 judged-same : (s : Standby) (l : ReadLent) (bytes : List ℕ) → number_of (answer_of (judged s l bytes)) ≡ 0 → judged s l bytes ≡ read_record (reader_of s) s.settings.u bytes
 judged-same s l bytes =
-    judged-cases s l bytes (λ (q : Record). number_of (answer_of q) ≡ 0 → q ≡ read_record (reader_of s) s.settings.u bytes) (λ n h z. absurd (omega arith)) (λ ready z h. refl)
+    judged-cases s l bytes (λ (q : Result Record Unread). number_of (answer_of q) ≡ 0 → q ≡ read_record (reader_of s) s.settings.u bytes) (λ n h z. absurd (omega arith)) (λ ready z h. refl)
 
 -- and is neither cut short nor refused
-judged-found : (s : Standby) (l : ReadLent) (bytes : List ℕ) (q : Record) → JudgedFacts s l bytes q → number_of (answer_of q) ≡ 0 → is_found q ≡ true
-judged-found s l bytes (Page w e p c) f z = refl
-judged-found s l bytes (Block e n c) f z = refl
-judged-found s l bytes (State e c) f z = refl
-judged-found s l bytes (Commit w e p b c) f z = refl
-judged-found s l bytes (Ack e c) f z = absurd f
-judged-found s l bytes (Short n) f z = absurd (omega arith)
-judged-found s l bytes (Refused n) f z = absurd (omega arith)
+judged-found : (s : Standby) (l : ReadLent) (bytes : List ℕ) (q : Result Record Unread) → JudgedFacts s l bytes q → number_of (answer_of q) ≡ 0 → is_found q ≡ true
+judged-found s l bytes (Ok (Page w e p c)) f z = refl
+judged-found s l bytes (Ok (Block e n c)) f z = refl
+judged-found s l bytes (Ok (State e c)) f z = refl
+judged-found s l bytes (Ok (Commit w e p b c)) f z = refl
+judged-found s l bytes (Ok (Ack e c)) f z = absurd f
+judged-found s l bytes (Err (Short n)) f z = absurd (omega arith)
+judged-found s l bytes (Err (Refused n)) f z = absurd (omega arith)
 
 module _ (base : Checkpoint) (r : ℕ) (k : Known) (ms : List Message) (w : World) (h : Standing w.standby.state.settings base r k ms w.standby) (n : ℕ) (reply : List ℕ) where
   abbrev s : Standby
@@ -92,8 +95,8 @@ module _ (base : Checkpoint) (r : ℕ) (k : Known) (ms : List Message) (w : Worl
   same-epoch epoch e z = is-next epoch e ∙ sym (h.epoch z)
 
   -- by the record that was judged
-  by-record : (q : Record) → JudgedFacts s lent bytes q → number_of (answer_of q) ≡ 0 → ReadDone x base r k ms w.link (read_by w bytes reply q) q
-  by-record (Page v e p c) f z =
+  by-record : (q : Result Record Unread) → JudgedFacts s lent bytes q → number_of (answer_of q) ≡ 0 → ReadDone x base r k ms w.link (read_by w bytes reply q) q
+  by-record (Ok (Page v e p c)) f z =
       let t = f.tests in
       record {
         link = refl;
@@ -104,7 +107,7 @@ module _ (base : Checkpoint) (r : ℕ) (k : Known) (ms : List Message) (w : Worl
             subst (λ (bs : List ℕ). Standing x base r (known_with k (page e p bs)) (ms ++ (page e p bs ∷ [])) (page_end w.standby p (bytes_at c bytes))) (field-same _ _ c f.field)
             (page-standing base r k ms w.standby h e p (bytes_at c bytes) t (field-size _ _ c f.field));
       }
-  by-record (Block e m c) f z =
+  by-record (Ok (Block e m c)) f z =
       let t = f.tests in
       record {
         link = refl;
@@ -124,7 +127,7 @@ module _ (base : Checkpoint) (r : ℕ) (k : Known) (ms : List Message) (w : Worl
             subst (λ (bs : List ℕ). Standing x base r (known_with k (block e m bs)) (ms ++ (block e m bs ∷ [])) (block_end w.standby m (bytes_at c bytes))) (field-same _ _ c f.field)
             (block-standing base r k ms w.standby h e m (bytes_at c bytes) t (field-size _ _ c f.field));
       }
-  by-record (State e c) f z =
+  by-record (Ok (State e c)) f z =
       let t = f.tests in
       record {
         link = refl;
@@ -134,7 +137,7 @@ module _ (base : Checkpoint) (r : ℕ) (k : Known) (ms : List Message) (w : Worl
             subst (λ (bs : List ℕ). Standing x base r (known_with k (state e bs)) (ms ++ (state e bs ∷ [])) (state_end w.standby (bytes_at c bytes))) (field-same _ _ c f.field)
             (state-standing base r k ms w.standby h e (bytes_at c bytes) t);
       }
-  by-record (Commit v e p b c) f z =
+  by-record (Ok (Commit v e p b c)) f z =
       let t = f.tests in
       record {
         link = refl;
@@ -148,9 +151,9 @@ module _ (base : Checkpoint) (r : ℕ) (k : Known) (ms : List Message) (w : Worl
             });
         after = commit-taken base r k ms w.standby h (length reply) e p b t;
       }
-  by-record (Ack e c) f z = absurd f
-  by-record (Short m) f z = absurd (omega arith)
-  by-record (Refused m) f z = absurd (omega arith)
+  by-record (Ok (Ack e c)) f z = absurd f
+  by-record (Err (Short m)) f z = absurd (omega arith)
+  by-record (Err (Refused m)) f z = absurd (omega arith)
 
   -- the law of an accepted read
   pub read_done : (step w (call.read n reply)).outcome.number ≡ 0
@@ -160,7 +163,7 @@ module _ (base : Checkpoint) (r : ℕ) (k : Known) (ms : List Message) (w : Worl
       let z : number_of (answer_of q) ≡ 0 = sym (ap (λ (t : Stepped). t.outcome.number) (read_step w n reply)) ∙ accepted in
       let facts = judged-facts s lent bytes in
       let same : q ≡ read_record (reader_of s) x.u bytes = judged-same s lent bytes z in
-      let found : is_found (read_record (reader_of s) x.u bytes) ≡ true = subst (λ (y : Record). is_found y ≡ true) same (judged-found s lent bytes q facts z) in
+      let found : is_found (read_record (reader_of s) x.u bytes) ≡ true = subst (λ (y : Result Record Unread). is_found y ≡ true) same (judged-found s lent bytes q facts z) in
       let whole : q ≡ read_record (reader_of s) x.u w.link = same ∙ sym (read-prefix x.u n w.link (reader_of s) found) in
       subst (λ (t : Stepped). ReadDone x base r k ms w.link t (read_record (reader_of s) x.u w.link)) (sym (read_step w n reply))
       (subst (ReadDone x base r k ms w.link (read_by w bytes reply q)) whole (by-record q facts z))

@@ -3,7 +3,7 @@ use Prim.Native.Nat.{ℕ, zero, suc, ◌+◌, ◌*◌, ◌-◌, ◌^◌, ◌≤�
 use mathlib.Core.Path.{◌≡◌, refl, sym, ap, ◌∙◌}
 use mathlib.Core.Bool.{Bool, true, false}
 use mathlib.Core.Logic.{⊎_elim}
-use mathlib.Core.List.{List, [], ◌++◌, append-nil, append_assoc}
+use mathlib.Core.List.{List, [], ◌∷◌, ◌++◌, append-nil, append_assoc}
 use native.Mathlib.Nat.{le_refl, mul-le-mul}
 use native.Mathlib.Numerals.{add-one}
 use native.Mathlib.Omega.{arith}
@@ -12,15 +12,20 @@ use borrow.Author.Tests.{lt-ltb}
 use borrow.Rule.Slice.PartMut.{put_mid, mid_of}
 use Rattle.lists.specs.Part.{part, put, PutDone}
 use Rattle.lists.proofs.TestLaws.{by-test, eq-or-ne, join, cond-true, cond-false}
-use Rattle.lists.proofs.PartLaws.{length_part, length-put, put-done-none, put-done-more, put-done-length}
+use Rattle.lists.proofs.PartLaws.{length_part, length-put, put-done-more, put-done-length}
 use Rattle.lists.proofs.PageLaws.{gather_none, gather-more}
 use Rattle.records.specs.Kind.{BLOCK, commit_kind, number_end, counts_end, body_length, record_length}
 use Rattle.records.proofs.KindLaws.{width-range, page-length, commit-length}
 use Rattle.records.specs.Write.{block_record, fits_in, unit_fits, counts_fit, Written}
 use Rattle.records.proofs.FrameLaws.{length-unit, length-commit}
 use Rattle.records.proofs.WriteLaws.{written-done}
-use Rattle.marks.specs.Next.{NextMarked}
+use Rattle.marks.specs.Mark.{marked}
+use Rattle.marks.specs.Next.{marked_pages}
+use Rattle.marks.proofs.WalkLaws.{PageOf}
+use Rattle.std.specs.List.{flat_map}
+use Rattle.std.proofs.lemmas.Grind.{flat_map-append}
 use Rattle.checkpoints.specs.declared.Counts.{Counts}
+use Rattle.checkpoints.specs.Scan.{first_of}
 use Rattle.checkpoints.specs.Form.{pages_at, pages_length, kept_pages, kept_commit, kept_form, form_length, FormFits, Kept, keeps_block, place_of_block, kept_block, kept_blocks, BlocksFit, MarksKept}
 
 -- ---- the length of a BLOCK
@@ -55,16 +60,6 @@ module _ (u : ℕ) (t : Kept) where
   unfolding kept_blocks
   blocks-not n e = gather-more _ n ∙ ap (λ (l : List ℕ). kept_blocks u n t ++ l) (cond-false (keeps_block t n) (kept_block u t n) [] e) ∙ append-nil (kept_blocks u n t)
 
-  -- none of those from p to q came
-  blocks-skip : (p r : ℕ) → p ≤ r → ((q : ℕ) → p ≤ q → q < r → keeps_block t q ≡ false) → kept_blocks u r t ≡ kept_blocks u p t
-  blocks-skip p zero h none = rw (let e : p ≡ 0 = omega arith in e)
-  blocks-skip p (suc r) h none =
-      ⊎_elim
-      (λ e. rw e)
-      (λ ne. let l : p ≤ r = omega arith in
-      rw (← add-one r, blocks-not r (none r l (le_refl (suc r)))) (blocks-skip p r l (λ q a b. none q a (omega arith))))
-      (eq-or-ne p (suc r))
-
   -- there are no fewer bytes below a larger number
   blocks-grow : (p r : ℕ) → p ≤ r → length (kept_blocks u p t) ≤ length (kept_blocks u r t)
   blocks-grow p zero h = rw (let e : p ≡ 0 = omega arith in e) (le_refl _)
@@ -82,56 +77,58 @@ module _ (u : ℕ) (t : Kept) where
           (λ (e : keeps_block t n ≡ false). omega (arith, ap length (blocks-not n e)))
           (by-test (keeps_block t n)))
 
--- ---- the loop that writes them: those below n are written, and n is the next block that came, or d
-pub record Writing (u d : ℕ) (t : Kept) (before after : List ℕ) (at n : ℕ) : Type 0 where
-  pub within : n ≤ d
-  pub next : n < d → keeps_block t n ≡ true
-  pub done : PutDone (kept_blocks u n t) before 0 after at
+-- ---- the loop that writes them, over the marked blocks
+abbrev pub blocks_of : (u : ℕ) → Kept → List ℕ → List ℕ
+blocks_of u t blocks = flat_map (λ (n : ℕ). kept_block u t n) blocks
 
 module _ (u d : ℕ) (t : Kept) (ws before : List ℕ) (fits : BlocksFit u d t) (marks : MarksKept d ws t) (room : length (kept_blocks u d t) ≤ length before) where
-  pub writing_start : (n : ℕ) → NextMarked ws 0 d n → Writing u d t before before 0 n
-  writing_start n f =
-      record {
-        within = f.within;
-        next = λ l. sym (marks n l) ∙ f.found l;
-        done =
-            rw (blocks-skip u t 0 n (omega arith) (λ q a b. sym (marks q (omega (arith, f.within))) ∙ f.none q a b), blocks-none u t)
-            (put-done-none before 0);
-      }
+  blocks-of-marked : (n : ℕ) → n ≤ d → blocks_of u t (marked_pages ws n) ≡ kept_blocks u n t
+  unfolding marked_pages
+  blocks-of-marked zero h = sym (blocks-none u t)
+  blocks-of-marked (suc n) h =
+      let same = marks n (omega arith) in
+      rw (← add-one n)
+      (⊎_elim
+      (λ e. rw (blocks-kept u t n (sym same ∙ e)) (rw e (rw (flat_map-append, blocks-of-marked n (omega arith), append-nil))))
+      (λ e. rw (blocks-not u t n (sym same ∙ e)) (rw e (blocks-of-marked n (omega arith))))
+      (by-test (marked ws n)))
 
-  module _ (after : List ℕ) (at n : ℕ) (w : Writing u d t before after at n) where
-    length-next : n < d → length (kept_block u t n) ≡ record_length u BLOCK
-    length-next l = length-block u t.counts.epoch n (part (place_of_block t n) u t.file) (length_part (place_of_block t n) u t.file (fits.inside n l (w.next l)))
+  module _ (blocks after : List ℕ) (at : ℕ) where
+    -- at the next block, block n
+    module _ (n : ℕ) (block_n : PageOf ws d blocks n) (w : PutDone (blocks_of u t blocks) before 0 after at) where
+      pub is-kept : keeps_block t n ≡ true
+      is-kept = sym (marks n block_n.within) ∙ block_n.found
 
-    -- the next record has room
-    pub writing-room : n < d → at + record_length u BLOCK ≤ length before
-    writing-room l =
-        omega (
-          arith,
-          w.done.position,
-          length-next l,
-          ap length (blocks-kept u t n (w.next l)),
-          length-append (kept_blocks u n t) (kept_block u t n),
-          blocks-grow u t (n + 1) d (omega arith),
-        )
+      below : blocks_of u t blocks ≡ kept_blocks u n t
+      below = ap (blocks_of u t) block_n.below ∙ blocks-of-marked n (omega (arith, block_n.within))
 
-    -- a turn: its record, and the next block that came behind it
-    pub writing_more : (then : List ℕ) (to q : ℕ) → n < d → PutDone (kept_block u t n) after at then to → NextMarked ws (n + 1) d q → Writing u d t before then to q
-    writing_more then to q l p f =
-        let front : 0 + length (kept_blocks u n t) ≤ length before = omega (arith, w.done.position, writing-room l) in
-        record {
-          within = f.within;
-          next = λ h. sym (marks q h) ∙ f.found h;
-          done =
-              rw (blocks-skip u t (n + 1) q (omega (arith, f.up)) (λ i a b. sym (marks i (omega (arith, f.within))) ∙ f.none i a b), blocks-kept u t n (w.next l))
-              (put-done-more (kept_blocks u n t) (kept_block u t n) before after then 0 at to front w.done p);
-        }
+      -- its record has room
+      room-before : at + record_length u BLOCK ≤ length before
+      room-before =
+          omega (
+            arith,
+            w.position,
+            ap length below,
+            length-block u (first_of t.counts) n (part (place_of_block t n) u t.file) (length_part (place_of_block t n) u t.file (fits.inside n block_n.within is-kept)),
+            ap length (blocks-kept u t n is-kept),
+            length-append (kept_blocks u n t) (kept_block u t n),
+            blocks-grow u t (n + 1) d (omega (arith, block_n.within)),
+          )
 
-    -- behind the last one
-    pub writing-end : d ≤ n → PutDone (kept_blocks u d t) before 0 after at
-    writing-end h =
-        let e : n ≡ d = omega (arith, w.within) in
-        rw e at w.done
+      written : 0 + length (blocks_of u t blocks) ≤ length before
+      written = omega (arith, w.position, room-before)
+
+      pub next-room : at + record_length u BLOCK ≤ length after
+      next-room = omega (arith, room-before, put-done-length (blocks_of u t blocks) before after 0 at written w)
+
+      -- once it is written
+      pub next-done : (then : List ℕ) (to : ℕ) → PutDone (kept_block u t n) after at then to → PutDone (blocks_of u t (blocks ++ n ∷ [])) before 0 then to
+      next-done then to d =
+          rw (flat_map-append, append-nil) (put-done-more (blocks_of u t blocks) (kept_block u t n) before after then 0 at to written w d)
+
+    -- behind the last block
+    pub all-done : blocks ≡ marked_pages ws d → PutDone (blocks_of u t blocks) before 0 after at → PutDone (kept_blocks u d t) before 0 after at
+    all-done e w = rw (e, blocks-of-marked d (le_refl d)) at w
 
 -- ---- lengths: of so many records, at most
 pub few-records : (count most u e : ℕ) → count ≤ most → u ≤ 4096 → e ≤ 12 → count * (u + e) ≤ most * 4108
@@ -161,7 +158,7 @@ module _ (u d : ℕ) (wide : Bool) (t : Kept) (fits : FormFits u d wide t) (out 
   length-pages = length_part (pages_at u t.counts) (pages_length u wide t.counts) t.file fits.pages
 
   length-end : length (kept_commit wide t) ≡ record_length u (commit_kind wide)
-  length-end = length-commit wide t.counts.epoch t.counts.pages t.counts.blocks ∙ sym (commit-length u wide)
+  length-end = length-commit wide (first_of t.counts) t.counts.pages t.counts.blocks ∙ sym (commit-length u wide)
 
   pub blocks-room : length (kept_blocks u d t) ≤ length out
   blocks-room = omega (arith, fits.size, room)

@@ -1,7 +1,7 @@
 -- What is claimed of files and their normal forms (document 02, Job 14). Assumes nothing.
-use Rattle.std.specs.Prelude.{ℕ, ◌≤◌, ◌<◌, ◌≡◌, List, [], ◌++◌, true, ◌⊎◌, length, drop, get_or}
+use Rattle.records.specs.declared.Unread.TheVariants.{Short, Refused}
+use Rattle.std.specs.Prelude.{ℕ, ◌≤◌, ◌<◌, ◌≡◌, List, [], ◌++◌, true, ◌⊎◌, length, drop, get_or, Ok, Err}
 use Rattle.checkpoints.specs.declared.FileSettings.{FileSettings}
-use Rattle.checkpoints.specs.declared.Saved.TheVariants.{Written, Short, Refused}
 use Rattle.checkpoints.specs.Content.{SameContent}
 use Rattle.checkpoints.specs.Judge.{none_known, refusal_from, epoch_of}
 use Rattle.checkpoints.specs.File.{closed, file_in}
@@ -28,12 +28,12 @@ normal_of_file g file = normal_bytes g (file_in g file).messages
 abbrev pub WrittenExactly : Type 0
 WrittenExactly =
     (g : FileSettings) (file : List ℕ) (room : ℕ) → AreBytes file
-    → (Accepted g file → length (normal_of_file g file) ≤ room → saved g file room ≡ Written (length (normal_of_file g file)))
-    × ((n : ℕ) → saved g file room ≡ Written n → Accepted g file × (n ≡ length (normal_of_file g file)) × (n ≤ room))
+    → (Accepted g file → length (normal_of_file g file) ≤ room → saved g file room ≡ Ok (length (normal_of_file g file)))
+    × ((n : ℕ) → saved g file room ≡ Ok n → Accepted g file × (n ≡ length (normal_of_file g file)) × (n ≤ room))
     × ((destination : List ℕ)
     → (Accepted g file → length (normal_of_file g file) ≤ length destination
     → saved_destination g file destination ≡ normal_of_file g file ++ drop (length (normal_of_file g file)) destination)
-    × ((n : ℕ) → (saved g file (length destination) ≡ Refused n) ⊎ (saved g file (length destination) ≡ Short n) → saved_destination g file destination ≡ destination))
+    × ((n : ℕ) → (saved g file (length destination) ≡ Err (Refused n)) ⊎ (saved g file (length destination) ≡ Err (Short n)) → saved_destination g file destination ≡ destination))
 
 -- the normal form, read as a file, has the file's epoch and content
 abbrev pub NormalContent : Type 0

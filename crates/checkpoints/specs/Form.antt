@@ -8,7 +8,8 @@ use Rattle.records.specs.Kind.{BLOCK, STATE, page_kind, commit_kind, record_leng
 use Rattle.records.specs.Write.{block_record, commit_record, counts_fit}
 use Rattle.marks.specs.Mark.{marked, with_mark}
 use Rattle.checkpoints.specs.declared.Counts.{Counts}
-use Rattle.checkpoints.specs.Scan.{slot_in}
+use Rattle.checkpoints.specs.declared.normal.Kept.{Kept as KeptInCode}
+use Rattle.checkpoints.specs.Scan.{first_of, slot_in, numbers_of, places_of}
 
 -- the numbers of the different blocks, where the last bytes of each begin, and the file
 pub record Kept : Type 0 where
@@ -20,6 +21,10 @@ pub record Kept : Type 0 where
 abbrev pub kept_of : Counts → (numbers places file : List ℕ) → Kept
 kept_of k numbers places file = record { counts = k; numbers = numbers; places = places; file = file }
 
+-- of what the code hands on
+abbrev pub kept_in : KeptInCode → Kept
+kept_in t = kept_of t.counts (numbers_of t.blocks.now) (places_of t.blocks.now) t.file.now
+
 -- block n came
 abbrev pub keeps_block : Kept → ℕ → Bool
 keeps_block t n = is_in n (take t.counts.blocks t.numbers)
@@ -29,7 +34,7 @@ abbrev pub place_of_block : Kept → ℕ → ℕ
 place_of_block t n = get_or t.places (slot_in t.counts.blocks t.numbers n) 0
 
 abbrev pub kept_block : (u : ℕ) → Kept → ℕ → List ℕ
-kept_block u t n = block_record t.counts.epoch n (part (place_of_block t n) u t.file)
+kept_block u t n = block_record (first_of t.counts) n (part (place_of_block t n) u t.file)
 
 -- BLOCKs in rising order
 unfoldable pub kept_blocks : (u d : ℕ) → Kept → List ℕ
@@ -47,7 +52,7 @@ kept_pages u wide t = part (pages_at u t.counts) (pages_length u wide t.counts) 
 
 -- COMMIT with the new counts
 abbrev pub kept_commit : (wide : Bool) → Kept → List ℕ
-kept_commit wide t = commit_record wide t.counts.epoch t.counts.pages t.counts.blocks
+kept_commit wide t = commit_record wide (first_of t.counts) t.counts.pages t.counts.blocks
 
 unfoldable pub kept_form : (u d : ℕ) → (wide : Bool) → Kept → List ℕ
 kept_form u d wide t = kept_blocks u d t ++ (kept_pages u wide t ++ kept_commit wide t)

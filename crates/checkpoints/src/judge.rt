@@ -1,174 +1,148 @@
 // What the next record of a file is refused with, by what is kept of those before it.
-ghost use Rattle.std.specs.Prelude.{◌≡◌, [], ◌≤◌, length, take};
+ghost use Rattle.std.specs.Prelude.{◌≡◌, [], length, Ok};
 ghost use Rattle.lists.specs.Refusal.{refusal};
 ghost use Rattle.lists.specs.Select.{place_in, is_in};
+ghost use Rattle.records.specs.Number.{number_in};
+ghost use Rattle.rules.specs.Blocks.{block_allowed};
 ghost use Rattle.checkpoints.specs.Judge.{is_of_epoch, page_tests, block_tests, state_tests, commit_tests};
-ghost use Rattle.checkpoints.specs.Scan.{known_of, record_refusal, judged};
+ghost use Rattle.checkpoints.specs.Scan.{known_as, numbers_of, record_refusal, judged};
 
-use crate::{Counts, FileSettings};
+use crate::{Counts, FileSettings, KeptBlock};
 use records::kinds::is_wide;
-use records::reading::other_refusal;
-use records::{Reader, Record, number};
+use records::refusal::Refusal;
+use records::{Reader, Record, Unread};
 use settings::MOST_RECORDS;
 
-// The place of number n among the first `count`; where none of them is n, `count`.
-pub(crate) fn place_in(numbers: &[usize], count: usize, n: usize) -> usize
-    requires { count ≤ length numbers.now }
-    ensures { result ≡ place_in n (take count numbers.now) }
+// The place of block n among these; where none of them is n, how many they are.
+pub(crate) fn place_in(blocks: &[KeptBlock], n: usize) -> usize
+    ensures { result ≡ place_in n (numbers_of blocks.now) }
 {
-    let mut i = 0;
-    while i < count {
-        if numbers[i] == n {
-            return i;
-        }
-        i += 1;
-    }
-    count
+    blocks
+        .iter()
+        .position(|block| block.number == n)
+        .unwrap_or(blocks.len())
 }
 
 // Whether a record has the epoch of the first, or is the first.
 fn is_of_epoch(k: Counts, epoch: u32) -> bool
-    ensures { result ≡ is_of_epoch (known_of k []) epoch }
+    ensures { result ≡ is_of_epoch (known_as k []) epoch }
 {
-    let begun = k.begun;
-    let first = k.epoch;
-    !begun | (epoch == first)
+    k.epoch.is_none_or(|first| epoch == first)
 }
 
 // PAGE: 2 8 9.
-fn page_refusal(g: FileSettings, k: Counts, epoch: u32, page: usize) -> u64
-    ensures { result ≡ refusal (page_tests g (known_of k []) epoch page) }
+fn check_page(g: FileSettings, k: Counts, epoch: u32, page: usize) -> Result<(), Refusal>
+    ensures { number_in result ≡ refusal (page_tests g (known_as k []) epoch page) }
 {
-    let m = g.m;
-    let next = k.next;
-    let seen = k.seen;
-    if m <= page {
-        return number::NO_SUCH_UNIT;
+    if g.m <= page {
+        return Err(Refusal::NoSuchUnit);
     }
     if !is_of_epoch(k, epoch) {
-        return number::BAD_EPOCH;
+        return Err(Refusal::BadEpoch);
     }
-    if page < next {
-        return number::OUT_OF_ORDER;
+    if page < k.next || k.seen {
+        return Err(Refusal::OutOfOrder);
     }
-    if seen {
-        return number::OUT_OF_ORDER;
-    }
-    0
+    Ok(())
 }
 
-// BLOCK: 2 8 9 14. The numbers are looked at only where another block would be refused.
-fn block_refusal(g: FileSettings, k: Counts, numbers: &[usize], epoch: u32, block: usize) -> u64
-    requires { k.blocks ≤ length numbers.now }
-    ensures { result ≡ refusal (block_tests g (known_of k numbers.now) (is_in block (take k.blocks numbers.now)) epoch block) }
+// Whether block n is one of these.
+fn is_in(blocks: &[KeptBlock], n: usize) -> bool
+    ensures { result ≡ is_in n (numbers_of blocks.now) }
 {
-    let d = g.d;
-    let most = g.b;
-    let blocks = k.blocks;
-    let records = k.records;
-    let pages = k.pages;
-    let seen = k.seen;
-    if d <= block {
-        return number::NO_SUCH_UNIT;
+    blocks.iter().any(|block| block.number == n)
+}
+
+// Whether the allowance has room for this BLOCK. The blocks are looked at only where another one would be refused.
+fn is_allowed(g: FileSettings, k: Counts, blocks: &[KeptBlock], block: usize) -> bool
+    ensures { result ≡ block_allowed (is_in block (numbers_of blocks.now)) g.b (length (numbers_of blocks.now)) k.records }
+{
+    k.records < MOST_RECORDS && (blocks.len() < g.b || is_in(blocks, block))
+}
+
+// BLOCK: 2 8 9 14.
+fn check_block(
+    g: FileSettings,
+    k: Counts,
+    blocks: &[KeptBlock],
+    epoch: u32,
+    block: usize,
+) -> Result<(), Refusal>
+    ensures { number_in result ≡ refusal (block_tests g (known_as k (numbers_of blocks.now)) (is_in block (numbers_of blocks.now)) epoch block) }
+{
+    if g.d <= block {
+        return Err(Refusal::NoSuchUnit);
     }
     if !is_of_epoch(k, epoch) {
-        return number::BAD_EPOCH;
+        return Err(Refusal::BadEpoch);
     }
-    if pages != 0 {
-        return number::OUT_OF_ORDER;
+    if k.pages != 0 || k.seen {
+        return Err(Refusal::OutOfOrder);
     }
-    if seen {
-        return number::OUT_OF_ORDER;
+    if !is_allowed(g, k, blocks, block) {
+        return Err(Refusal::AllowanceUsed);
     }
-    if MOST_RECORDS <= records {
-        return number::ALLOWANCE_USED;
-    }
-    if blocks < most {
-        return 0;
-    }
-    if place_in(numbers, blocks, block) < blocks {
-        return 0;
-    }
-    number::ALLOWANCE_USED
+    Ok(())
 }
 
 // STATE: 8 9.
-fn state_refusal(k: Counts, epoch: u32) -> u64
-    ensures { result ≡ refusal (state_tests (known_of k []) epoch) }
+fn check_state(k: Counts, epoch: u32) -> Result<(), Refusal>
+    ensures { number_in result ≡ refusal (state_tests (known_as k []) epoch) }
 {
-    let seen = k.seen;
     if !is_of_epoch(k, epoch) {
-        return number::BAD_EPOCH;
+        return Err(Refusal::BadEpoch);
     }
-    if seen {
-        return number::OUT_OF_ORDER;
+    if k.seen {
+        return Err(Refusal::OutOfOrder);
     }
-    0
+    Ok(())
 }
 
 // COMMIT: 8 9 10.
-fn commit_refusal(k: Counts, epoch: u32, pages: usize, blocks: usize) -> u64
-    ensures { result ≡ refusal (commit_tests (known_of k []) epoch pages blocks) }
+fn check_commit(k: Counts, epoch: u32, pages: usize, blocks: usize) -> Result<(), Refusal>
+    ensures { number_in result ≡ refusal (commit_tests (known_as k []) epoch pages blocks) }
 {
-    let seen = k.seen;
-    let had_pages = k.pages;
-    let had_records = k.records;
     if !is_of_epoch(k, epoch) {
-        return number::BAD_EPOCH;
+        return Err(Refusal::BadEpoch);
     }
-    if !seen {
-        return number::OUT_OF_ORDER;
+    if !k.seen {
+        return Err(Refusal::OutOfOrder);
     }
-    if pages != had_pages {
-        return number::BAD_COUNTS;
+    if pages != k.pages || blocks != k.records {
+        return Err(Refusal::BadCounts);
     }
-    if blocks != had_records {
-        return number::BAD_COUNTS;
-    }
-    0
+    Ok(())
 }
 
-// What a record that was read is refused with, by its kind: 6 for other kinds, or its own number.
-fn record_refusal(g: FileSettings, k: Counts, numbers: &[usize], r: Record) -> u64
-    requires { k.blocks ≤ length numbers.now }
-    ensures { result ≡ record_refusal g (known_of k numbers.now) r }
+// A record that was read, by its kind: 6 for an ACK, which is not for this reader.
+fn check_record(g: FileSettings, k: Counts, blocks: &[KeptBlock], r: Record) -> Result<(), Refusal>
+    ensures { number_in result ≡ record_refusal g (known_as k (numbers_of blocks.now)) (Ok r) }
 {
     match r {
-        Record::Page {
-            wide: _,
-            epoch,
-            page,
-            at: _,
-        } => page_refusal(g, k, epoch, page),
-        Record::Block {
-            epoch,
-            block,
-            at: _,
-        } => block_refusal(g, k, numbers, epoch, block),
-        Record::State { epoch, at: _ } => state_refusal(k, epoch),
+        Record::Page { epoch, page, .. } => check_page(g, k, epoch, page),
+        Record::Block { epoch, block, .. } => check_block(g, k, blocks, epoch, block),
+        Record::State { epoch, .. } => check_state(k, epoch),
         Record::Commit {
-            wide: _,
             epoch,
             pages,
             blocks,
-            at: _,
-        } => commit_refusal(k, epoch, pages, blocks),
-        _ => other_refusal(r),
+            ..
+        } => check_commit(k, epoch, pages, blocks),
+        Record::Ack { .. } => Err(Refusal::BadKind),
     }
 }
 
-// The record at the head of the rest where it is accepted, else cut short or the number.
-pub(crate) fn judged(g: FileSettings, k: Counts, numbers: &[usize], rest: &[u8]) -> Record
-    requires { k.blocks ≤ length numbers.now }
-    ensures { result ≡ judged g (known_of k numbers.now) rest.now }
+// The record at the head of the rest where it is accepted, else cut short or the number; the blocks are those so far.
+pub(crate) fn judged(
+    g: FileSettings,
+    k: Counts,
+    blocks: &[KeptBlock],
+    rest: &[u8],
+) -> Result<Record, Unread>
+    ensures { result ≡ judged g (known_as k (numbers_of blocks.now)) rest.now }
 {
-    let u = g.u;
-    let m = g.m;
-    let reader = Reader::Standby { wide: is_wide(m) };
-    let r = records::reading::read(reader, u, rest);
-    let n = record_refusal(g, k, numbers, r);
-    if n != 0 {
-        return Record::Refused { number: n };
-    }
-    r
+    let reader = Reader::Standby { wide: is_wide(g.m) };
+    let r = records::reading::read(reader, g.u, rest)?;
+    check_record(g, k, blocks, r)?;
+    Ok(r)
 }

@@ -5,8 +5,6 @@ pub mod judge;
 pub mod normal;
 pub mod scan;
 
-use records::Record;
-
 // The settings that a file is judged by.
 #[derive(Clone, Copy)]
 pub struct FileSettings {
@@ -16,12 +14,12 @@ pub struct FileSettings {
     pub b: usize,
 }
 
-// What is kept of the records read so far; the numbers of the different blocks stand in an array beside it.
-#[derive(Clone, Copy)]
+// What is kept of the records read so far. The different blocks stand in an array beside it, of which so many entries
+// count: there is no heap for a Vec.
+#[derive(Clone, Copy, Default)]
 pub struct Counts {
-    // whether a record came, and the first one's epoch
-    pub begun: bool,
-    pub epoch: u32,
+    // the first record's epoch, once one came
+    pub epoch: Option<u32>,
     // different blocks, BLOCK records and pages
     pub blocks: usize,
     pub records: usize,
@@ -32,19 +30,16 @@ pub struct Counts {
     pub seen: bool,
 }
 
-// Where going through a file ends: the last record judged, cut short or a refusal, with its end, and what was kept
-// before it.
-#[derive(Clone, Copy)]
-pub struct Scanned {
-    pub last: Record,
-    pub counts: Counts,
-    pub end: usize,
+// One of the different blocks: its number, and where its last bytes begin in the file.
+#[derive(Clone, Copy, Default)]
+pub struct KeptBlock {
+    pub number: usize,
+    pub place: usize,
 }
 
-// What writing a normal form answers.
+// A whole checkpoint: what was kept of its records before COMMIT, and where that ends in the file.
 #[derive(Clone, Copy)]
-pub enum Saved {
-    Written { length: usize },
-    Short { missing: usize },
-    Refused { number: u64 },
+pub struct Scanned {
+    pub counts: Counts,
+    pub end: usize,
 }

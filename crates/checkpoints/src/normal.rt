@@ -1,74 +1,69 @@
 // The normal form of a file, written into a destination.
-ghost use Rattle.std.specs.Prelude.{◌≡◌, true, ◌+◌, ◌≤◌, ◌<◌, length, take};
+ghost use Rattle.std.specs.Prelude.{◌≡◌, true, ◌+◌, ◌≤◌, ◌<◌, length};
 ghost use Rattle.lists.specs.Part.{put, PutDone};
-ghost use Rattle.records.specs.Kind.{BLOCK, record_length};
-ghost use Rattle.checkpoints.specs.Form.{kept_of, keeps_block, place_of_block, kept_block, kept_blocks, kept_form, pages_length, form_length, marked_all, BlocksFit, MarksKept, FormFits};
-ghost use Rattle.checkpoints.specs.Saving.{end_tests, saved, saved_destination};
 ghost use Rattle.lists.specs.Refusal.{refusal};
+ghost use Rattle.records.specs.Kind.{BLOCK, record_length};
+ghost use Rattle.records.specs.Number.{number_in};
+ghost use Rattle.checkpoints.specs.Scan.{first_of, numbers_of};
+ghost use Rattle.checkpoints.specs.Form.{keeps_block, place_of_block, kept_block, kept_blocks, kept_form, pages_length, form_length, marked_all, BlocksFit, MarksKept, FormFits, kept_in};
+ghost use Rattle.checkpoints.specs.Saving.{end_tests, saved, saved_destination};
 
 use crate::judge::place_in;
 use crate::scan::scan;
-use crate::{Counts, FileSettings, Saved};
+use crate::{Counts, FileSettings, KeptBlock};
 use records::kinds::{commit_length, is_wide, number_end};
-use records::{Record, STATE_RECORD, UNIT_RECORD, number};
+use records::refusal::Refusal;
+use records::writing::{write_block, write_commit};
+use records::{STATE_RECORD, UNIT_RECORD, Unread};
 use settings::MOST_ALLOWANCE;
 
 // The words of marks for the most blocks that there are.
 const WORDS: usize = 64;
 
-// Marks the first `count` numbers.
-fn mark_all(ws: &mut [u64], numbers: &[usize], count: usize)
-    requires { count ≤ length numbers.now }
-    ensures { ws.new ≡ marked_all ws.old (take count numbers.now) }
+// What was kept of a file that holds a whole checkpoint.
+#[derive(Clone, Copy)]
+struct Kept<'a> {
+    counts: Counts,
+    blocks: &'a [KeptBlock],
+    file: &'a [u8],
+}
+
+impl Kept<'_> {
+    // The epoch of its records: there is one at least.
+    fn epoch(self) -> u32
+        ensures { result ≡ first_of self.entry.counts }
+    {
+        self.counts.epoch.unwrap_or(0)
+    }
+}
+
+// Marks the numbers of these blocks.
+fn mark_all(ws: &mut [u64], blocks: &[KeptBlock])
+    ensures { ws.new ≡ marked_all ws.old (numbers_of blocks.now) }
 {
-    let mut i = 0;
-    while i < count {
-        marks::mark(ws, numbers[i]);
-        i += 1;
+    for block in blocks {
+        marks::mark(ws, block.number);
     }
 }
 
 // The BLOCK of block n with its last bytes into out from at on; the position behind it.
-fn write_one(
-    out: &mut [u8],
-    at: usize,
-    k: Counts,
-    numbers: &[usize],
-    places: &[usize],
-    file: &[u8],
-    u: usize,
-    n: usize,
-) -> usize
-    requires { (at + record_length u BLOCK ≤ length out.old) × (u ≤ 4096) × (n < 4096) × (k.blocks ≤ length numbers.now) × (length numbers.now ≤ length places.now) × (keeps_block (kept_of k numbers.now places.now file.now) n ≡ true) × (place_of_block (kept_of k numbers.now places.now file.now) n + u ≤ length file.now) }
-    ensures { PutDone (kept_block u (kept_of k numbers.now places.now file.now) n) out.old at out.new result }
+fn write_one(out: &mut [u8], at: usize, kept: Kept, u: usize, n: usize) -> usize
+    requires { (at + record_length u BLOCK ≤ length out.old) × (u ≤ 4096) × (n < 4096) × (kept.counts.blocks ≤ length kept.blocks.now) × (keeps_block (kept_in kept) n ≡ true) × (place_of_block (kept_in kept) n + u ≤ length kept.file.now) }
+    ensures { PutDone (kept_block u (kept_in kept.entry) n) out.old at out.new result }
 {
-    let epoch = k.epoch;
-    let slot = place_in(numbers, k.blocks, n);
-    let from = places[slot];
-    let body = lists::part_of(file, from, u);
-    let length = records::writing::write_block(&mut out[at..], epoch, n, body);
-    at + length
+    let slot = place_in(&kept.blocks[..kept.counts.blocks], n);
+    let body = lists::part_of(kept.file, kept.blocks[slot].place, u);
+    at + write_block(&mut out[at..], kept.epoch(), n, body)
 }
 
 // The BLOCKs, in rising order, each block once; the position behind them.
-fn write_blocks(
-    out: &mut [u8],
-    ws: &[u64],
-    k: Counts,
-    numbers: &[usize],
-    places: &[usize],
-    file: &[u8],
-    u: usize,
-    d: usize,
-) -> usize
-    requires { BlocksFit u d (kept_of k numbers.now places.now file.now) × MarksKept d ws.now (kept_of k numbers.now places.now file.now) × (length (kept_blocks u d (kept_of k numbers.now places.now file.now)) ≤ length out.old) }
-    ensures { PutDone (kept_blocks u d (kept_of k numbers.now places.now file.now)) out.old 0 out.new result }
+fn write_blocks(out: &mut [u8], ws: &[u64], kept: Kept, u: usize, d: usize) -> usize
+    requires { BlocksFit u d (kept_in kept) × MarksKept d ws.now (kept_in kept) × (length (kept_blocks u d (kept_in kept)) ≤ length out.old) }
+    ensures { PutDone (kept_blocks u d (kept_in kept.entry)) out.old 0 out.new result }
 {
     let mut at = 0;
-    let mut place = marks::marked_from(ws, 0, d);
-    while place.page < d {
-        at = write_one(out, at, k, numbers, places, file, u, place.page);
-        place = marks::marked_after(ws, place, d);
+    for block in marks::marked(ws, d) {
+        at = write_one(out, at, kept, u, block);
     }
     at
 }
@@ -92,71 +87,52 @@ fn form_length(k: Counts, u: usize, wide: bool) -> usize
 }
 
 // The normal form at the head of out: BLOCKs, then PAGEs and STATE as they stand in the file, then COMMIT.
-fn write_form(
-    out: &mut [u8],
-    k: Counts,
-    numbers: &[usize],
-    places: &[usize],
-    file: &[u8],
-    u: usize,
-    d: usize,
-    wide: bool,
-)
-    requires { FormFits u d wide (kept_of k numbers.now places.now file.now) × (form_length u wide k ≤ length out.old) × (k.pages ≤ 65536) × (k.records ≤ 65535) }
-    ensures { out.new ≡ put out.old 0 (kept_form u d wide (kept_of k numbers.now places.now file.now)) }
+fn write_form(out: &mut [u8], kept: Kept, u: usize, d: usize, wide: bool)
+    requires { FormFits u d wide (kept_in kept) × (form_length u wide kept.counts ≤ length out.old) × (kept.counts.pages ≤ 65536) × (kept.counts.records ≤ 65535) }
+    ensures { out.new ≡ put out.old 0 (kept_form u d wide (kept_in kept.entry)) }
 {
+    let k = kept.counts;
     let mut ws = [0u64; WORDS];
-    mark_all(&mut ws, numbers, k.blocks);
-    let at = write_blocks(out, &ws, k, numbers, places, file, u, d);
+    mark_all(&mut ws, &kept.blocks[..k.blocks]);
+    let at = write_blocks(out, &ws, kept, u, d);
     let from = k.records * (u + UNIT_RECORD);
     let n = pages_length(k, u, wide);
-    lists::copy_into(out, at, lists::part_of(file, from, n));
+    lists::copy_into(out, at, lists::part_of(kept.file, from, n));
     let end = at + n;
-    records::writing::write_commit(&mut out[end..], wide, k.epoch, k.pages, k.blocks);
+    write_commit(&mut out[end..], wide, kept.epoch(), k.pages, k.blocks);
 }
 
-// What a file that holds a whole checkpoint is refused with, so many bytes after it: 29 30.
-fn end_refusal(behind: usize, normal: usize, room: usize) -> u64
-    ensures { result ≡ refusal (end_tests behind normal room) }
+// A file that holds a whole checkpoint, and so many bytes after it: 29 30.
+fn check_end(behind: usize, normal: usize, room: usize) -> Result<(), Refusal>
+    ensures { number_in result ≡ refusal (end_tests behind normal room) }
 {
     if behind != 0 {
-        return number::BYTES_BEHIND;
+        return Err(Refusal::BytesBehind);
     }
     if room < normal {
-        return number::DESTINATION_SHORT;
+        return Err(Refusal::DestinationShort);
     }
-    0
+    Ok(())
 }
 
-// A file into its normal form, at the head of the destination; refused or cut short, the destination stays.
-pub fn normal_form(g: FileSettings, file: &[u8], destination: &mut [u8]) -> Saved
+// A file into its normal form, at the head of the destination, and the form's length; refused or cut short, the
+// destination stays.
+pub fn normal_form(g: FileSettings, file: &[u8], destination: &mut [u8]) -> Result<usize, Unread>
     ensures { (result ≡ saved g file.now (length destination.old)) × (destination.new ≡ saved_destination g file.now destination.old) }
 {
-    let u = g.u;
-    let m = g.m;
-    let d = g.d;
-    if !settings::shared_ok(u, m, d, g.b) {
-        return Saved::Refused {
-            number: number::OUT_OF_RANGE,
-        };
+    if !settings::shared_ok(g.u, g.m, g.d, g.b) {
+        return Err(Unread::from(Refusal::OutOfRange));
     }
-    let mut numbers = [0usize; MOST_ALLOWANCE];
-    let mut places = [0usize; MOST_ALLOWANCE];
-    let s = scan(g, file, &mut numbers, &mut places);
-    let last = s.last;
-    if let Record::Short { missing } = last {
-        return Saved::Short { missing };
-    }
-    if let Record::Refused { number } = last {
-        return Saved::Refused { number };
-    }
-    let k = s.counts;
-    let wide = is_wide(m);
-    let length = form_length(k, u, wide);
-    let number = end_refusal(file.len() - s.end, length, destination.len());
-    if number != 0 {
-        return Saved::Refused { number };
-    }
-    write_form(destination, k, &numbers, &places, file, u, d, wide);
-    Saved::Written { length }
+    let mut blocks = [KeptBlock::default(); MOST_ALLOWANCE];
+    let scanned = scan(g, file, &mut blocks)?;
+    let wide = is_wide(g.m);
+    let length = form_length(scanned.counts, g.u, wide);
+    check_end(file.len() - scanned.end, length, destination.len())?;
+    let kept = Kept {
+        counts: scanned.counts,
+        blocks: &blocks,
+        file,
+    };
+    write_form(destination, kept, g.u, g.d, wide);
+    Ok(length)
 }

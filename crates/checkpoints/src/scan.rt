@@ -1,25 +1,19 @@
 // Going through the records of a file, in turn, up to its COMMIT.
-ghost use Rattle.std.specs.Prelude.{◌≡◌, true, ◌+◌, ◌^◌, ◌≤◌, ◌<◌, ltb, length, set};
-ghost use Rattle.rules.specs.Blocks.{blocks_with};
-ghost use Rattle.checkpoints.specs.Scan.{epoch_with, count_page, count_block, count_state, slot_in, counts_with, numbers_with, places_with, goes_on, scan_of};
+ghost use Rattle.std.specs.Prelude.{◌≡◌, true, ◌+◌, ◌^◌, ◌≤◌, ◌<◌, ltb, length, set, Ok, Some};
+ghost use Rattle.checkpoints.specs.Scan.{numbers_of, places_of, epoch_with, count_page, count_block, count_state, slot_in, counts_with, numbers_with, places_with, scan_of, scanned_in};
 ghost use Rattle.checkpoints.specs.Saving.{file_settings_ok};
 ghost use Rattle.checkpoints.specs.ScanFits.{TurnFits};
 
 use crate::judge::{judged, place_in};
-use crate::{Counts, FileSettings, Scanned};
-use records::Record;
+use crate::{Counts, FileSettings, KeptBlock, Scanned};
 use records::reading::used_of;
+use records::{Record, Unread};
 
 // The epoch of the first record.
-fn epoch_with(k: Counts, epoch: u32) -> u32
-    ensures { result ≡ epoch_with k epoch }
+fn epoch_with(k: Counts, epoch: u32) -> Option<u32>
+    ensures { result ≡ Some (epoch_with k epoch) }
 {
-    let begun = k.begun;
-    let first = k.epoch;
-    if begun {
-        return first;
-    }
-    epoch
+    k.epoch.or(Some(epoch))
 }
 
 // One page more.
@@ -27,27 +21,12 @@ fn count_page(k: Counts, epoch: u32, page: usize) -> Counts
     requires { (k.pages + 1 < 2 ^ 64) × (page + 1 < 2 ^ 64) }
     ensures { result ≡ count_page k epoch page }
 {
-    let first = epoch_with(k, epoch);
     Counts {
-        begun: true,
-        epoch: first,
-        blocks: k.blocks,
-        records: k.records,
+        epoch: epoch_with(k, epoch),
         pages: k.pages + 1,
         next: page + 1,
-        seen: k.seen,
+        ..k
     }
-}
-
-// The different blocks with one more, unless it came before.
-fn blocks_with(again: bool, blocks: usize) -> usize
-    requires { blocks + 1 < 2 ^ 64 }
-    ensures { result ≡ blocks_with again blocks }
-{
-    if again {
-        return blocks;
-    }
-    blocks + 1
 }
 
 // One BLOCK more, of another block unless it is `again` one that came before.
@@ -55,16 +34,11 @@ fn count_block(k: Counts, again: bool, epoch: u32) -> Counts
     requires { (k.blocks + 1 < 2 ^ 64) × (k.records + 1 < 2 ^ 64) }
     ensures { result ≡ count_block k again epoch }
 {
-    let first = epoch_with(k, epoch);
-    let blocks = blocks_with(again, k.blocks);
     Counts {
-        begun: true,
-        epoch: first,
-        blocks,
+        epoch: epoch_with(k, epoch),
+        blocks: if again { k.blocks } else { k.blocks + 1 },
         records: k.records + 1,
-        pages: k.pages,
-        next: k.next,
-        seen: k.seen,
+        ..k
     }
 }
 
@@ -72,80 +46,40 @@ fn count_block(k: Counts, again: bool, epoch: u32) -> Counts
 fn count_state(k: Counts, epoch: u32) -> Counts
     ensures { result ≡ count_state k epoch }
 {
-    let first = epoch_with(k, epoch);
     Counts {
-        begun: true,
-        epoch: first,
-        blocks: k.blocks,
-        records: k.records,
-        pages: k.pages,
-        next: k.next,
+        epoch: epoch_with(k, epoch),
         seen: true,
+        ..k
     }
 }
 
 // Keeps a block's number, and where its bytes begin, in the slot of its number; whether the block came before.
-fn keep_block(
-    numbers: &mut [usize],
-    places: &mut [usize],
-    blocks: usize,
-    n: usize,
-    place: usize,
-) -> bool
-    requires { (blocks ≤ length numbers.old) × (slot_in blocks numbers.old n < length numbers.old) × (slot_in blocks numbers.old n < length places.old) }
-    ensures { (result ≡ ltb (slot_in blocks numbers.old n) blocks) × (numbers.new ≡ set numbers.old (slot_in blocks numbers.old n) n) × (places.new ≡ set places.old (slot_in blocks numbers.old n) place) }
+fn keep_block(blocks: &mut [KeptBlock], count: usize, number: usize, place: usize) -> bool
+    requires { (count ≤ length blocks.old) × (slot_in count (numbers_of blocks.old) number < length blocks.old) }
+    ensures { (result ≡ ltb (slot_in count (numbers_of blocks.old) number) count) × (numbers_of blocks.new ≡ set (numbers_of blocks.old) (slot_in count (numbers_of blocks.old) number) number) × (places_of blocks.new ≡ set (places_of blocks.old) (slot_in count (numbers_of blocks.old) number) place) }
 {
-    let slot = place_in(numbers, blocks, n);
-    numbers[slot] = n;
-    places[slot] = place;
-    slot < blocks
+    let slot = place_in(&blocks[..count], number);
+    blocks[slot] = KeptBlock { number, place };
+    slot < count
 }
 
-// What is kept with a record that goes on.
-fn kept_with(k: Counts, numbers: &mut [usize], places: &mut [usize], at: usize, r: Record) -> Counts
-    requires { TurnFits k numbers.old places.old at r }
-    ensures { (result ≡ counts_with k numbers.old r) × (numbers.new ≡ numbers_with k.blocks numbers.old r) × (places.new ≡ places_with k.blocks numbers.old places.old at r) }
+// What is kept with a record that another has to follow; a COMMIT is counted nowhere.
+fn kept_with(k: Counts, blocks: &mut [KeptBlock], at: usize, r: Record) -> Counts
+    requires { TurnFits k (numbers_of blocks.old) (places_of blocks.old) at (Ok r) }
+    ensures { (result ≡ counts_with k (numbers_of blocks.old) (Ok r)) × (numbers_of blocks.new ≡ numbers_with k.blocks (numbers_of blocks.old) (Ok r)) × (places_of blocks.new ≡ places_with k.blocks (numbers_of blocks.old) (places_of blocks.old) at (Ok r)) }
 {
-    let blocks = k.blocks;
     match r {
-        Record::Page {
-            wide: _,
-            epoch,
-            page,
-            at: _,
-        } => count_page(k, epoch, page),
+        Record::Page { epoch, page, .. } => count_page(k, epoch, page),
         Record::Block {
             epoch,
             block,
             at: field,
         } => {
-            let start = field.start;
-            let again = keep_block(numbers, places, blocks, block, at + start);
+            let again = keep_block(blocks, k.blocks, block, at + field.start);
             count_block(k, again, epoch)
         }
-        Record::State { epoch, at: _ } => count_state(k, epoch),
-        _ => k,
-    }
-}
-
-// Whether another record has to follow: a PAGE, a BLOCK or a STATE.
-fn goes_on(r: Record) -> bool
-    ensures { result ≡ goes_on r }
-{
-    match r {
-        Record::Page {
-            wide: _,
-            epoch: _,
-            page: _,
-            at: _,
-        } => true,
-        Record::Block {
-            epoch: _,
-            block: _,
-            at: _,
-        } => true,
-        Record::State { epoch: _, at: _ } => true,
-        _ => false,
+        Record::State { epoch, .. } => count_state(k, epoch),
+        Record::Commit { .. } | Record::Ack { .. } => k,
     }
 }
 
@@ -153,31 +87,20 @@ fn goes_on(r: Record) -> bool
 pub(crate) fn scan(
     g: FileSettings,
     file: &[u8],
-    numbers: &mut [usize],
-    places: &mut [usize],
-) -> Scanned
-    requires { (file_settings_ok g ≡ true) × (length numbers.old ≡ 64) × (length places.old ≡ 64) }
-    ensures { (result ≡ (scan_of g file.now numbers.old places.old).reply) × (numbers.new ≡ (scan_of g file.now numbers.old places.old).numbers) × (places.new ≡ (scan_of g file.now numbers.old places.old).places) }
+    blocks: &mut [KeptBlock],
+) -> Result<Scanned, Unread>
+    requires { (file_settings_ok g ≡ true) × (length blocks.old ≡ 64) }
+    ensures { (result ≡ scanned_in (scan_of g file.now (numbers_of blocks.old) (places_of blocks.old))) × (numbers_of blocks.new ≡ (scan_of g file.now (numbers_of blocks.old) (places_of blocks.old)).numbers) × (places_of blocks.new ≡ (scan_of g file.now (numbers_of blocks.old) (places_of blocks.old)).places) }
 {
-    let mut k = Counts {
-        begun: false,
-        epoch: 0,
-        blocks: 0,
-        records: 0,
-        pages: 0,
-        next: 0,
-        seen: false,
-    };
+    let mut k = Counts::default();
     let mut at = 0;
-    let mut r = judged(g, k, numbers, file);
-    while goes_on(r) {
-        k = kept_with(k, numbers, places, at, r);
-        at += used_of(r);
-        r = judged(g, k, numbers, &file[at..]);
-    }
-    Scanned {
-        last: r,
-        counts: k,
-        end: at + used_of(r),
+    loop {
+        let r = judged(g, k, &blocks[..k.blocks], &file[at..])?;
+        let end = at + used_of(Ok(r));
+        if let Record::Commit { .. } = r {
+            return Ok(Scanned { counts: k, end });
+        }
+        k = kept_with(k, blocks, at, r);
+        at = end;
     }
 }

@@ -3,22 +3,12 @@
 
 ghost use Rattle.std.specs.Prelude.{◌≡◌};
 ghost use Rattle.detector.specs.Range.{detector_ok};
-ghost use Rattle.detector.specs.Tick.{with_count, expired, reset, ticked};
+ghost use Rattle.detector.specs.Tick.{expired, reset, ticked};
 
 #[derive(Clone, Copy)]
 pub struct Detector {
     pub patience: u32,
     pub count: u32,
-}
-
-// The same patience with another count.
-fn with_count(d: Detector, count: u32) -> Detector
-    ensures { result ≡ with_count d count }
-{
-    Detector {
-        patience: d.patience,
-        count: count,
-    }
 }
 
 // The count has reached the patience.
@@ -29,34 +19,30 @@ pub fn expired(d: Detector) -> bool
 }
 
 // Whether a detector is in its ranges; watching is whether its ticks count.
+#[tactic(auto, unfolding(crate::specs::Range::detector_ok))]
 pub fn detector_ok(d: Detector, watching: bool) -> bool
     ensures { result ≡ detector_ok d watching }
 {
-    let patience = d.patience;
-    let count = d.count;
-    settings::patience_ok(patience) & (count <= patience) & !(watching & (patience <= count))
+    settings::patience_ok(d.patience) & (d.count <= d.patience) & !(watching & expired(d))
 }
 
 // The count returns to 0.
 pub fn reset(d: Detector) -> Detector
     ensures { result ≡ reset d }
 {
-    with_count(d, 0)
+    Detector { count: 0, ..d }
 }
 
 // A tick by value.
+#[tactic(auto, unfolding(crate::specs::Tick::ticked))]
 pub fn ticked(d: Detector, outstanding: bool) -> Detector
     ensures { result ≡ ticked d outstanding }
 {
-    let patience = d.patience;
-    let count = d.count;
-    if count >= patience {
+    if expired(d) {
         return d;
     }
-    if outstanding {
-        return with_count(d, count + 1);
-    }
-    with_count(d, 0)
+    let count = if outstanding { d.count + 1 } else { 0 };
+    Detector { count, ..d }
 }
 
 // The tick in place.

@@ -1,6 +1,7 @@
-// Start: the standby gets the primary's memory, processor state and disk, the marks and the record area are cleared, and epoch 1 opens.
-ghost use Rattle.std.specs.Prelude.{◌≡◌, true, length, replicate};
-ghost use Rattle.records.specs.Area.{area_length};
+// Start: the standby gets the primary's memory, processor state and disk, the marks and the record area are cleared,
+// and epoch 1 opens.
+ghost use Rattle.std.specs.Prelude.{◌≡◌, true};
+ghost use Rattle.records.specs.Number.{number_in};
 ghost use Rattle.settings.specs.Range.{settings_ok};
 ghost use Rattle.queue.specs.Held.{empty_queue};
 ghost use Rattle.staging.specs.Slot.{empty_slots};
@@ -9,12 +10,16 @@ ghost use Rattle.ends.specs.Lent.{start_lens};
 
 use detector::Detector;
 use queue::{Packet, Queue};
-use records::{AREA_LENGTH, number};
+use records::AREA_LENGTH;
+use records::refusal::Refusal;
 use rules::{Mode, Primary, PrimaryLent, Standby, StandbyLent, StartLent, Started};
-use settings::{MOST_PACKETS, MOST_SLOTS, PrimarySettings, Settings, StandbySettings};
+use settings::{
+    MOST_ALLOWANCE, MOST_PACKETS, MOST_SLOTS, PrimarySettings, Settings, StandbySettings,
+};
 use staging::Slots;
 
 // "Lent lengths are exact", of settings in their ranges, so that no product wraps.
+#[tactic(auto, using(crate::proofs::FitsLaws::memory_fits, crate::proofs::FitsLaws::disk_fits, crate::proofs::FitsLaws::slots_fit), unfolding(rules::specs::Start::start_lent_ok))]
 fn lent_ok(g: Settings, l: StartLent) -> bool
     requires { settings_ok g ≡ true }
     ensures { result ≡ start_lent_ok g l }
@@ -23,8 +28,7 @@ fn lent_ok(g: Settings, l: StartLent) -> bool
     let s = l.standby;
     let memory = g.m * g.u;
     let disk = g.d * g.u;
-    let words = (g.m + 63) / 64;
-    let blocks = g.s * g.u;
+    let words = g.m.div_ceil(64);
     (p.memory == memory)
         & (p.disk == disk)
         & (p.dirty == words)
@@ -34,21 +38,19 @@ fn lent_ok(g: Settings, l: StartLent) -> bool
         & (s.disk == disk)
         & (s.pages == memory)
         & (s.marks == words)
-        & (s.blocks == blocks)
+        & (s.blocks == g.s * g.u)
         & (s.area == AREA_LENGTH)
 }
 
-// The refusal of start, from the lengths of the lent buffers.
-fn start_refusal(g: Settings, l: StartLent) -> u64
-    ensures { result ≡ start_refusal g l }
+// Whether start is refused, from the lengths of the lent buffers.
+#[tactic(auto, unfolding(rules::specs::Start::start_refusal))]
+fn check_start(g: Settings, l: StartLent) -> Result<(), Refusal>
+    ensures { number_in result ≡ start_refusal g l }
 {
-    if !settings::settings_ok(g) {
-        return number::OUT_OF_RANGE;
+    if !settings::settings_ok(g) || !lent_ok(g, l) {
+        return Err(Refusal::OutOfRange);
     }
-    if !lent_ok(g, l) {
-        return number::OUT_OF_RANGE;
-    }
-    0
+    Ok(())
 }
 
 // No packet is held.
@@ -82,31 +84,20 @@ fn empty_slots() -> Slots
 fn opened_primary(g: Settings) -> Primary
     ensures { result ≡ opened_primary g }
 {
-    let t = g.t;
-    let settings = PrimarySettings {
-        u: g.u,
-        m: g.m,
-        d: g.d,
-        b: g.b,
-        q: g.q,
-        l: g.l,
-    };
-    let detector = Detector {
-        patience: t,
-        count: 0,
-    };
-    let queue = empty_queue();
     Primary {
-        settings: settings,
-        detector: detector,
+        settings: PrimarySettings::from(g),
+        detector: Detector {
+            patience: g.t,
+            count: 0,
+        },
         epoch: 1,
         acknowledged: 0,
         alone: false,
         blocks: 0,
         records: 0,
         waiting: 0,
-        queue: queue,
-        numbers: [0; 64],
+        queue: empty_queue(),
+        numbers: [0; MOST_ALLOWANCE],
     }
 }
 
@@ -114,32 +105,22 @@ fn opened_primary(g: Settings) -> Primary
 fn opened_standby(g: Settings, processor: [u8; 64]) -> Standby
     ensures { result ≡ opened_standby g processor }
 {
-    let t = g.t;
-    let settings = StandbySettings {
-        u: g.u,
-        m: g.m,
-        d: g.d,
-        b: g.b,
-        s: g.s,
-    };
-    let detector = Detector {
-        patience: t,
-        count: 0,
-    };
-    let slots = empty_slots();
     Standby {
-        settings: settings,
-        detector: detector,
+        settings: StandbySettings::from(g),
+        detector: Detector {
+            patience: g.t,
+            count: 0,
+        },
         mode: Mode::Receiving,
         received: 0,
-        slots: slots,
+        slots: empty_slots(),
         blocks: 0,
         records: 0,
         pages: 0,
         next: 0,
         seen: false,
         pending: [0; 64],
-        processor: processor,
+        processor,
     }
 }
 
@@ -163,9 +144,10 @@ fn no_settings() -> Settings
 fn no_primary() -> Primary
     ensures { result ≡ no_primary }
 {
-    let mut p = opened_primary(no_settings());
-    p.epoch = 0;
-    p
+    Primary {
+        epoch: 0,
+        ..opened_primary(no_settings())
+    }
 }
 
 // That of the standby.
@@ -175,39 +157,9 @@ fn no_standby() -> Standby
     opened_standby(no_settings(), [0; 64])
 }
 
-// Both ends' states and the number, from the lengths of the lent buffers.
-fn opened(g: Settings, l: StartLent, processor: [u8; 64]) -> Started
-    ensures { result ≡ started g l processor }
-{
-    let number = start_refusal(g, l);
-    if number != 0 {
-        let primary = no_primary();
-        let standby = no_standby();
-        return Started {
-            primary,
-            standby,
-            number,
-        };
-    }
-    let primary = opened_primary(g);
-    let standby = opened_standby(g, processor);
-    Started {
-        primary,
-        standby,
-        number: 0,
-    }
-}
-
-// Clears the record area.
-fn zero_area(area: &mut [u8])
-    requires { length area.old ≡ area_length }
-    ensures { area.new ≡ replicate area_length 0 }
-{
-    let zeros = [0u8; AREA_LENGTH];
-    lists::copy_front(area, &zeros);
-}
-
-// Start, lent every buffer of both ends; those that stay as they are are lent for their lengths or to be copied.
+// Start, lent every buffer of both ends; those that stay as they are are lent for their lengths or to be copied. Each
+// is a parameter, and not a field of a struct: a public signature stays, and C lends them one by one (`pair_start`).
+#[tactic(auto, unfolding(rules::specs::Start::started, rules::specs::Start::start_copy, rules::specs::Start::start_marks, rules::specs::Start::start_area))]
 pub fn start(
     g: Settings,
     processor: [u8; 64],
@@ -230,7 +182,6 @@ pub fn start(
     ensures staged_marks_after { staged_marks.new ≡ start_marks g (start_lens memory.now disk.now dirty.old held.now stream.now standby_memory.old standby_disk.old staged_pages.now staged_marks.old staged_blocks.now area.old) staged_marks.old }
     ensures area_after { area.new ≡ start_area g (start_lens memory.now disk.now dirty.old held.now stream.now standby_memory.old standby_disk.old staged_pages.now staged_marks.old staged_blocks.now area.old) area.old }
 {
-    let m = g.m;
     let primary = PrimaryLent {
         memory: memory.len(),
         disk: disk.len(),
@@ -247,15 +198,21 @@ pub fn start(
         area: area.len(),
     };
     let l = StartLent { primary, standby };
-    let made = opened(g, l, processor);
-    let number = made.number;
-    if number != 0 {
-        return made;
+    if let Err(refusal) = check_start(g, l) {
+        return Started {
+            primary: no_primary(),
+            standby: no_standby(),
+            number: refusal.number(),
+        };
     }
     lists::copy_front(standby_memory, memory);
     lists::copy_front(standby_disk, disk);
-    marks::clear(dirty, m);
-    marks::clear(staged_marks, m);
-    zero_area(area);
-    made
+    marks::clear(dirty, g.m);
+    marks::clear(staged_marks, g.m);
+    area.fill(0);
+    Started {
+        primary: opened_primary(g),
+        standby: opened_standby(g, processor),
+        number: 0,
+    }
 }

@@ -1,4 +1,5 @@
 -- E10: with D 0 every block gives 2. Assumes nothing.
+use Rattle.std.specs.Prelude.{Ok}
 use Prim.Native.Nat.{ℕ, ◌+◌}
 use mathlib.Core.Path.{◌≡◌, refl, sym}
 use mathlib.Core.Bool.{Bool, true, false}
@@ -37,7 +38,7 @@ whole epoch block content rest = block_record epoch block content ++ rest
 -- a whole BLOCK, with any bytes behind it, is read as one, whatever its numbers
 read-block : (wide : Bool) (u epoch block : ℕ) (content rest : List ℕ) → unit_ok u ≡ true → length content ≡ u →
     let s = whole epoch block content rest in
-    read_record (reader.Standby wide) u s ≡ Block (le_at 4 s 4) (le_at 2 s 8) (cursor 10 (record_length u BLOCK))
+    read_record (reader.Standby wide) u s ≡ Ok (Block (le_at 4 s 4) (le_at 2 s 8) (cursor 10 (record_length u BLOCK)))
 unfolding unit_record fields_of body_length
 read-block wide u epoch block content rest ok size =
     let body = le_bytes 4 epoch ++ (le_bytes 2 block ++ content) in

@@ -1,13 +1,14 @@
 -- The worked examples E1 to E10 of document 01, as one table about the definitions. Assumes nothing.
-use Rattle.std.specs.Prelude.{ℕ, ◌≡◌, true, false, List, [], ◌∷◌, ◌++◌, length}
-use Rattle.records.specs.declared.Record.TheVariants as record_of
+use Rattle.records.specs.declared.Unread.TheVariants.{Refused}
+use Rattle.rules.specs.Reply.{accepted}
+use Rattle.std.specs.Prelude.{ℕ, ◌≡◌, true, false, List, [], ◌∷◌, ◌++◌, length, Err}
+use Rattle.records.specs.declared.Unread.TheVariants as unread
 use Rattle.records.specs.Write.{block_record, commit_record, ack_record, activation_record}
 use Rattle.settings.specs.declared.Settings.{Settings}
 use Rattle.rules.specs.declared.Mode.TheVariants.{Receiving, Active}
 use Rattle.rules.specs.declared.Primary.{Primary}
 use Rattle.rules.specs.declared.Standby.{Standby}
 use Rattle.rules.specs.declared.ReadLent.{ReadLent}
-use Rattle.rules.specs.declared.Answer.TheVariants.{Accepted, Refused}
 use Rattle.rules.specs.PrimaryState.{primary_ok, disk_length as primary_disk_length}
 use Rattle.rules.specs.StandbyState.{standby_ok, disk_length}
 use Rattle.rules.specs.PrimaryWrites.{disk_write_reply}
@@ -48,7 +49,7 @@ pub record NoBlocks : Type 0 where
   -- read as a whole BLOCK, with any bytes behind it, at any standby in range that is receiving
   pub received : (s : Standby) (l : ReadLent) (epoch block : ℕ) (content rest : List ℕ) →
       s.settings.d ≡ 0 → standby_ok s ≡ true → read_lent_ok s l ≡ true → s.mode ≡ Receiving → length content ≡ s.settings.u →
-      judged s l (block_record epoch block content ++ rest) ≡ record_of.Refused 2
+      judged s l (block_record epoch block content ++ rest) ≡ Err (unread.Refused 2)
 
 pub record Examples : Type 0 where
   -- "prints, whole"
@@ -74,6 +75,6 @@ pub record Examples : Type 0 where
   pub E9 : (c : Processor) →
       let closed = (step pair_start (checkpoint c)).next.primary.state in
       let first = ack_reply closed (ack_record 1) in
-      (first.answer ≡ Accepted 1 8) × ((ack_reply first.state (ack_record 1)).answer ≡ Refused 11)
+      (first.answer ≡ accepted 1 8) × ((ack_reply first.state (ack_record 1)).answer ≡ Err (Refused 11))
   -- "D 0: every block gives 2"
   pub E10 : NoBlocks

@@ -7,22 +7,19 @@ ghost use Rattle.checkpoints.specs.Saving.{saved, saved_destination};
 ghost use Rattle.files.specs.Saved.{file_settings, saved_answer, saved_word};
 
 use capi::word::record_word;
+use checkpoints::FileSettings;
 use checkpoints::normal::normal_form;
-use checkpoints::{FileSettings, Saved};
-use rules::Answer;
+use records::Unread;
+use rules::Accepted;
 
 // What writing a normal form answers, as the calls that read a record do: no bytes are used of a link.
-fn saved_answer(s: Saved) -> Answer
+fn saved_answer(s: Result<usize, Unread>) -> Result<Accepted, Unread>
     ensures { result ≡ saved_answer s }
 {
-    match s {
-        Saved::Written { length } => Answer::Accepted {
-            value: length as u64,
-            used: 0,
-        },
-        Saved::Short { missing } => Answer::Short { missing },
-        Saved::Refused { number } => Answer::Refused { number },
-    }
+    s.map(|length| Accepted {
+        value: length as u64,
+        used: 0,
+    })
 }
 
 // A file, one checkpoint as it travelled, into its normal form at the head of the destination.

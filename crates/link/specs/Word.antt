@@ -1,17 +1,19 @@
 -- The answers of the record test and of the disk choice, each as one number. Assumes nothing.
-use Rattle.std.specs.Prelude.{ℕ, ◌+◌, ◌*◌, ◌/◌, ◌%◌, ◌≡◌, Bool, true, cond, eqb}
+use Rattle.std.specs.Prelude.{ℕ, ◌+◌, ◌*◌, ◌/◌, ◌%◌, ◌≡◌, Bool, true, cond, eqb, Result}
 use Rattle.records.specs.declared.Record.{Record}
+use Rattle.records.specs.declared.Unread.{Unread}
 use Rattle.records.specs.Cases.{on_found}
 use Rattle.records.specs.Read.{number_of, kind_of, used_of}
-use Rattle.rules.specs.declared.Choice.{Choice}
+use Rattle.records.specs.declared.refusal.Refusal.{Refusal}
+use Rattle.rules.specs.declared.Disk.{Disk}
 use Rattle.rules.specs.Choose.{choice_number, disk_of}
 
 -- the number in the low 8 bits, the kind in the next 8, the bytes used above them
-abbrev pub word_of : Record → ℕ
+abbrev pub word_of : Result Record Unread → ℕ
 word_of r = number_of r + 256 * kind_of r + 65536 * used_of r
 
 -- cut short is the bytes missing, above 16 bits that are 0; every other answer its number, kind and bytes used
-abbrev pub test_word : Record → ℕ
+abbrev pub test_word : Result Record Unread → ℕ
 test_word r = on_found r (word_of r) (λ n. 65536 * n) (λ n. word_of r)
 
 -- its parts, as the caller takes them out: the refusal's number, the kind, whether it is cut short, the bytes used and
@@ -36,5 +38,5 @@ abbrev pub SaysMissing : (word n : ℕ) → Type 0
 SaysMissing word n = (test_cut_short word ≡ true) × (test_missing word ≡ n)
 
 -- the number in the low 8 bits, the disk above them
-abbrev pub choice_word : Choice → ℕ
+abbrev pub choice_word : Result Disk Refusal → ℕ
 choice_word c = choice_number c + 256 * disk_of c

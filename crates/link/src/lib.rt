@@ -8,9 +8,9 @@ ghost use Rattle.rules.specs.Choose.{choice_of};
 ghost use Rattle.link.specs.Word.{choice_word, test_word};
 
 use ends::choice::decide;
-use records::reading::{kind_of, number_of, read, used_of};
-use records::{Reader, Record};
-use rules::Choice;
+use records::reading::{kind_of, read, used_of};
+use records::{Reader, Unread};
+use rules::Disk;
 
 // The record test: number + 256 * kind + 65,536 * used. Cut short, and nothing else, has low 16 bits of 0: it is 65,536
 // * the bytes missing.
@@ -20,8 +20,9 @@ pub extern "C" fn record_test(u: u64, bytes: &[u8]) -> u64
 {
     let answer = read(Reader::Test, u as usize, bytes);
     match answer {
-        Record::Short { missing } => 65536 * (missing as u64),
-        _ => number_of(answer) + 256 * kind_of(answer) + 65536 * (used_of(answer) as u64),
+        Ok(_) => 256 * kind_of(answer) + 65536 * (used_of(answer) as u64),
+        Err(Unread::Short { missing }) => 65536 * (missing as u64),
+        Err(Unread::Refused { number }) => number,
     }
 }
 
@@ -31,8 +32,8 @@ pub extern "C" fn disk_choice(primary: &[u8], standby: &[u8], area: &[u8]) -> u6
     ensures { result ≡ choice_word (choice_of (length primary.now) (length standby.now) area.now) }
 {
     match decide(primary.len(), standby.len(), area) {
-        Choice::PrimaryDisk => 256,
-        Choice::StandbyDisk => 512,
-        Choice::Refused { number } => number,
+        Ok(Disk::PrimaryDisk) => 256,
+        Ok(Disk::StandbyDisk) => 512,
+        Err(refusal) => refusal.number(),
     }
 }

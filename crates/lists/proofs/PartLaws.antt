@@ -57,6 +57,10 @@ module _ {A : Type 0} where
   pub take-put-front : (s bs : List A) (n : ℕ) → length bs ≡ n → take n (put s 0 bs) ≡ bs
   take-put-front s bs n e = ap (take n) (put_front s bs) ∙ take_at bs (drop (length bs) s) n e
 
+  -- the first n elements replaced, as `&mut s[..n]` comes back
+  pub put-head : (s bs ys : List A) (n : ℕ) → ys ≡ bs → n ≡ length bs → ys ++ drop n s ≡ put s 0 bs
+  put-head s bs ys n e h = rw (e, h) (sym (put_front s bs))
+
   -- all of a list replaced
   pub put_whole : (s bs : List A) → length bs ≡ length s → put s 0 bs ≡ bs
   put_whole s bs h =
@@ -134,6 +138,11 @@ module _ {A : Type 0} where
       → put_mid at (length s - at) s ys ≡ put s at bs
   part-back-front s at ys bs h e =
       part-back s at 0 ys bs (omega arith) e ∙ ap (λ (n : ℕ). put s n bs) (add-zero at)
+
+  -- `&mut s[at..at + n]`, with bs stored in it
+  pub part-stored : (s : List A) (at n : ℕ) (ys bs : List A) → ys ≡ bs → length bs ≡ n → put_mid at (at + n - at) s ys ≡ put s at bs
+  unfolding put
+  part-stored s at n ys bs e h = let k : at + n - at ≡ length bs = omega (arith, h) in rw (e, k, append_assoc, drop-drop)
 
   -- ---- removal
   pub length_removed : (at n total : ℕ) (l : List A) → at + n ≤ total → total ≤ length l → length (removed at n total l) ≡ length l

@@ -2,7 +2,7 @@
 pub mod MarkLaws
 pub mod SetLaws
 pub mod NextLaws
-pub mod PlaceLaws
+pub mod WalkLaws
 mod BitLaws
 mod SetBitLaws
 mod WordLaws

@@ -4,16 +4,20 @@ use mathlib.Core.Path.{◌≡◌, sym, ap, ◌∙◌}
 use mathlib.Core.Logic.{◌≢◌, ⊎_elim}
 use native.Mathlib.Nat.{mod-lt, lt_of_lt_of_le, suc-mul, zero-mul, one-mul, pow-suc, div-eq_of_lt, div-one, mul-one, add-zero}
 use native.Mathlib.Omega.{arith}
-use lib.Bits.{bit_and, bit_or, or_add_and, and_mask}
-use lib.Pow.{pow_pos, pow_mono, split, high, ones_lt, ones_split}
+use Rattle.std.proofs.lemmas.Nat.{and-not}
+use lib.Bits.{and_comm, bit_and, bit_or, or_add_and, and_mask}
+use lib.Pow.{pow_pos, pow-lt, pow_mono, split, high, ones_lt, ones_split}
 use Rattle.marks.specs.Mark.{bit, with_bit, without_bit, with_low_bits}
 use Rattle.marks.proofs.BitLaws.{bit-cases, bit-lt, bit-or, bit-above, bit-with-other, and_one, shifted_one}
 
 -- ---- one bit cleared
 
--- `w & (1 << k)`
-pub and-shifted-one : (w k : ℕ) → k < 64 → bit_and w ((1 * 2 ^ k) % 2 ^ 64) ≡ bit w k * 2 ^ k
-and-shifted-one w k h = rw (shifted_one k h) (and_one w k)
+-- `w & !(1 << k)`
+pub and-other-bits : (w k : ℕ) → k < 64 → w < 2 ^ 64 → bit_and w (2 ^ 64 - 1 - (1 * 2 ^ k) % 2 ^ 64) ≡ without_bit w k
+unfolding without_bit
+and-other-bits w k h f =
+    let b : 2 ^ k < 2 ^ 64 = pow-lt h in
+    rw (shifted_one k h, and_comm w) (omega (arith, and-not 64 (2 ^ k) w b f, and_comm (2 ^ k) w, and_one w k))
 
 one_less : (q x : ℕ) → 0 < q → q * x ≡ (q - 1) * x + x
 one_less zero x h = absurd (omega arith)

@@ -2,9 +2,9 @@
 use mathlib.Core.Path.{◌≡◌, sym, ap, ◌∙◌}
 use mathlib.Core.Logic.{⊎_elim}
 use mathlib.Core.Bool.{Bool, true, false}
-use mathlib.Core.List.{List, [], ◌++◌, append-nil}
+use mathlib.Core.List.{List, [], ◌∷◌, ◌++◌, append-nil}
 use Prim.Native.Nat.{ℕ, zero, suc, ◌+◌, ◌-◌, ◌*◌, ◌^◌, ◌≤◌, ◌<◌}
-use native.Mathlib.Nat.{le_refl, zero-add, zero-mul, suc-mul, mul-le-mul_right}
+use native.Mathlib.Nat.{le_refl, zero-add, zero-mul, suc-mul}
 use native.Mathlib.Numerals.{add-one}
 use native.Mathlib.Omega.{arith}
 use lib.ListN.{length, length-append}
@@ -13,7 +13,7 @@ use borrow.Rule.Slice.PartMut.{put_mid, mid_of}
 use Rattle.lists.specs.Part.{part, put, PutDone}
 use Rattle.lists.specs.Page.{page}
 use Rattle.lists.proofs.TestLaws.{by-test, eq-or-ne, join}
-use Rattle.lists.proofs.PartLaws.{length_part, put-done-none, put-done-more}
+use Rattle.lists.proofs.PartLaws.{length_part, put-done-more, put-done-length}
 use Rattle.lists.proofs.PageLaws.{page-end, gather_none, gather-more, length-page}
 use Rattle.records.specs.Kind.{page_kind, number_width, record_length}
 use Rattle.records.specs.Write.{page_record, fits_in, unit_fits, Written}
@@ -21,7 +21,10 @@ use Rattle.records.proofs.FrameLaws.{length-unit}
 use Rattle.records.proofs.KindLaws.{page-length}
 use Rattle.records.proofs.WriteLaws.{written-done}
 use Rattle.marks.specs.Mark.{marked, count_marks}
-use Rattle.marks.specs.Next.{NextMarked}
+use Rattle.marks.specs.Next.{marked_pages}
+use Rattle.std.specs.List.{flat_map}
+use Rattle.std.proofs.lemmas.Grind.{flat_map-append}
+use Rattle.marks.proofs.WalkLaws.{PageOf}
 use Rattle.marks.proofs.MarkLaws.{count-zero, count-marked, count-unmarked, count-more}
 use Rattle.pages.specs.Dirty.{dirty_record, dirty_records}
 
@@ -81,49 +84,56 @@ one_written memory out body after at n wide u epoch p room inside number size e 
     let f : unit_fits d p body ≡ true = join (fits_in d p) (fits_in 2 (length body + (4 + d))) (lt-ltb p (256 ^ d) number) (lt-ltb (length body + (4 + d)) (2 ^ 16) (omega arith)) in
     rw (← e) (written-done (unit_fits d p body) (page_record wide epoch p body) out after at n f (omega arith) w)
 
--- ---- the loop that writes them: the dirty pages below p are written, and p is the next dirty page, or m
-pub record Writing (memory dirty : List ℕ) (wide : Bool) (u epoch m : ℕ) (before after : List ℕ) (at p : ℕ) : Type 0 where
-  pub within : p ≤ m
-  pub next : p < m → marked dirty p ≡ true
-  pub done : PutDone (dirty_records memory dirty wide u epoch p) before 0 after at
+-- ---- the loop that writes them, over the marked pages
+abbrev pub records_of : List ℕ → (wide : Bool) → ℕ → ℕ → List ℕ → List ℕ
+records_of memory wide u epoch pages = flat_map (λ (p : ℕ). page_record wide epoch p (page u memory p)) pages
 
-module _ (memory dirty : List ℕ) (wide : Bool) (u epoch m : ℕ) (before : List ℕ) where
-  pub writing_start : (p : ℕ) → NextMarked dirty 0 m p → Writing memory dirty wide u epoch m before before 0 p
-  writing_start p n =
-      record {
-        within = n.within;
-        next = n.found;
-        done = rw (dirty-skip memory dirty wide u epoch 0 p (omega arith) n.none, dirty-none) (put-done-none before 0);
-      }
+module _ (memory dirty : List ℕ) (wide : Bool) (u epoch : ℕ) where
+  pub records-of-marked : (m : ℕ) → records_of memory wide u epoch (marked_pages dirty m) ≡ dirty_records memory dirty wide u epoch m
+  unfolding marked_pages
+  records-of-marked zero = sym (dirty-none memory dirty wide u epoch)
+  records-of-marked (suc m) =
+      rw (← add-one m)
+      (⊎_elim
+      (λ e. rw (dirty-marked memory dirty wide u epoch m e) (rw e (rw (flat_map-append, records-of-marked m, append-nil))))
+      (λ e. rw (dirty-unmarked memory dirty wide u epoch m e) (rw e (records-of-marked m)))
+      (by-test (marked dirty m)))
 
-  module _ (size : length memory ≡ m * u) where
-    pub writing-at : (after : List ℕ) (at p : ℕ) → Writing memory dirty wide u epoch m before after at p → at ≡ count_marks dirty p * record_length u (page_kind wide)
-    writing-at after at p w =
-        w.done.position
+module _ (memory dirty : List ℕ) (wide : Bool) (u epoch m : ℕ) (before : List ℕ) (size : length memory ≡ m * u)
+    (room : count_marks dirty m * record_length u (page_kind wide) ≤ length before) (pages after : List ℕ) (at : ℕ) where
+  -- at the next page, page p
+  module _ (p : ℕ) (page_p : PageOf dirty m pages p) (w : PutDone (records_of memory wide u epoch pages) before 0 after at) where
+    below : records_of memory wide u epoch pages ≡ dirty_records memory dirty wide u epoch p
+    below = ap (records_of memory wide u epoch) page_p.below ∙ records-of-marked memory dirty wide u epoch p
+
+    position : at ≡ count_marks dirty p * record_length u (page_kind wide)
+    position =
+        w.position
         ∙ zero-add _
-        ∙ length-dirty-part memory dirty wide u epoch p (omega (arith, mul-le-mul_right u w.within))
+        ∙ ap length below
+        ∙ length-dirty-part memory dirty wide u epoch p (omega (arith, page-end p m u page_p.within))
 
-    module _ (room : count_marks dirty m * record_length u (page_kind wide) ≤ length before) (after : List ℕ) (at p : ℕ) (w : Writing memory dirty wide u epoch m before after at p) where
-      -- the record of the next page has room
-      pub writing-room : p < m → at + record_length u (page_kind wide) ≤ length before
-      writing-room l =
-          omega (arith, writing-at after at p w, page-end (count_marks dirty p) (count_marks dirty m) (record_length u (page_kind wide)) (count-more dirty p m l (w.next l)))
+    -- its record has room
+    room-before : at + record_length u (page_kind wide) ≤ length before
+    room-before =
+        omega (arith, position, page-end (count_marks dirty p) (count_marks dirty m) (record_length u (page_kind wide)) (count-more dirty p m page_p.within page_p.found))
 
-      -- a turn: its record, and the next dirty page behind it
-      pub writing_more : (then : List ℕ) (to q : ℕ) → p < m → PutDone (page_record wide epoch p (page u memory p)) after at then to → NextMarked dirty (p + 1) m q
-          → Writing memory dirty wide u epoch m before then to q
-      writing_more then to q l d n =
-          let front : 0 + length (dirty_records memory dirty wide u epoch p) ≤ length before = omega (arith, w.done.position, writing-room l) in
-          record {
-            within = n.within;
-            next = n.found;
-            done =
-                rw (dirty-skip memory dirty wide u epoch (p + 1) q (omega (arith, n.up)) n.none, dirty-marked memory dirty wide u epoch p (w.next l))
-                (put-done-more (dirty_records memory dirty wide u epoch p) (page_record wide epoch p (page u memory p)) before after then 0 at to front w.done d);
-          }
+    written : 0 + length (records_of memory wide u epoch pages) ≤ length before
+    written = omega (arith, w.position, room-before)
 
-      -- behind the last one
-      pub writing-end : m ≤ p → (after ≡ put before 0 (dirty_records memory dirty wide u epoch m)) × (at ≡ count_marks dirty m * record_length u (page_kind wide))
-      writing-end h =
-          let e : p ≡ m = omega (arith, w.within) in
-          (w.done.bytes ∙ ap (λ (n : ℕ). put before 0 (dirty_records memory dirty wide u epoch n)) e, writing-at after at p w ∙ ap (λ (n : ℕ). count_marks dirty n * record_length u (page_kind wide)) e)
+    pub next-room : at + record_length u (page_kind wide) ≤ length after
+    next-room = omega (arith, room-before, put-done-length (records_of memory wide u epoch pages) before after 0 at written w)
+
+    -- once it is written
+    pub next-done : (then : List ℕ) (to : ℕ) → PutDone (page_record wide epoch p (page u memory p)) after at then to
+        → PutDone (records_of memory wide u epoch (pages ++ p ∷ [])) before 0 then to
+    next-done then to d =
+        rw (flat_map-append, append-nil)
+        (put-done-more (records_of memory wide u epoch pages) (page_record wide epoch p (page u memory p)) before after then 0 at to written w d)
+
+  -- behind the last page
+  pub all-done : pages ≡ marked_pages dirty m → PutDone (records_of memory wide u epoch pages) before 0 after at
+      → (after ≡ put before 0 (dirty_records memory dirty wide u epoch m)) × (at ≡ count_marks dirty m * record_length u (page_kind wide))
+  all-done e w =
+      let all = ap (records_of memory wide u epoch) e ∙ records-of-marked memory dirty wide u epoch m in
+      (w.bytes ∙ ap (put before 0) all, w.position ∙ zero-add _ ∙ ap length all ∙ length-dirty memory dirty wide u epoch m size)

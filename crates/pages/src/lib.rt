@@ -30,6 +30,7 @@ fn write_one(
 }
 
 // "every dirty page" as a PAGE record, in rising order, at the head of the part that is handed in; the length written.
+// No struct of wide, u, epoch and m: they go together here and in the one caller alone (primary/src/checkpoint.rt).
 pub fn write_dirty(
     out: &mut [u8],
     memory: &[u8],
@@ -43,15 +44,13 @@ pub fn write_dirty(
     ensures { (out.new ≡ put out.old 0 (dirty_records memory.now dirty.now wide u epoch m)) × (result ≡ count_marks dirty.now m * record_length u (page_kind wide)) }
 {
     let mut at = 0;
-    let mut place = marks::marked_from(dirty, 0, m);
-    while place.page < m {
+    for page in marks::marked(dirty, m) {
         // An arm for each width, which is then known to the compiler inside it (docs/BENCHMARKS.md).
         if wide {
-            at = write_one(out, at, memory, true, u, epoch, place.page);
+            at = write_one(out, at, memory, true, u, epoch, page);
         } else {
-            at = write_one(out, at, memory, false, u, epoch, place.page);
+            at = write_one(out, at, memory, false, u, epoch, page);
         }
-        place = marks::marked_after(dirty, place, m);
     }
     at
 }
@@ -70,10 +69,8 @@ pub fn install(memory: &mut [u8], staged: &[u8], marks: &[u64], u: usize, m: usi
     requires { (length memory.old ≡ m * u) × (length staged.now ≡ m * u) }
     ensures { memory.new ≡ installed memory.old staged.now marks.now u m }
 {
-    let mut place = marks::marked_from(marks, 0, m);
-    while place.page < m {
-        install_one(memory, staged, u, place.page);
-        place = marks::marked_after(marks, place, m);
+    for page in marks::marked(marks, m) {
+        install_one(memory, staged, u, page);
     }
 }
 
@@ -81,10 +78,7 @@ pub fn install(memory: &mut [u8], staged: &[u8], marks: &[u64], u: usize, m: usi
 pub fn inside_page(u: usize, offset: usize, n: usize) -> bool
     ensures { result ≡ inside_page u offset n }
 {
-    if u < offset {
-        return false;
-    }
-    (1 <= n) & (n <= u - offset)
+    offset <= u && 1 <= n && n <= u - offset
 }
 
 // The bytes into their page, from the offset on.

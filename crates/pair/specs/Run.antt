@@ -1,16 +1,9 @@
--- What the program keeps, as the byte-by-byte reading of text/specs/Feed.antt says it, and what its turns come to. Assumes nothing.
+-- What the turns of the program come to. Assumes nothing.
 use Rattle.std.specs.Prelude.{ℕ, ◌≡◌, true, not}
 use mathlib.Core.List.{List, [], ◌∷◌, ◌++◌, flatten}
-use Rattle.text.specs.declared.Line.{Line}
-use Rattle.text.specs.Feed.{ended_lines, Reading, reading, first_reading}
+use Rattle.text.specs.Feed.{ended_lines, first_reading}
 use Rattle.text.specs.Turns.{all_printed, all_more, ends_after, none_empty}
-use Rattle.rules.specs.World.{World}
-use Rattle.script.specs.Site.{world_of}
 use Rattle.script.specs.Output.{pair_program, output_of, any_takeover}
-use Rattle.pair.specs.declared.Run.{Run}
-
-abbrev pub reading_of : Run → Reading World Line
-reading_of r = reading (world_of r.site) r.line r.over
 
 -- what is claimed of the program over any parts of its input
 pub record RunRight (parts : List (List ℕ)) : Type 0 where

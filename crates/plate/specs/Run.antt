@@ -1,19 +1,9 @@
--- What the program keeps, as the byte-by-byte reading of text/specs/Feed.antt says it, and what its turns come to.
--- Assumes nothing.
+-- What the turns of the program come to. Assumes nothing.
 use Rattle.std.specs.Prelude.{ℕ, ◌≡◌, true, false}
 use mathlib.Core.List.{List, [], ◌∷◌, ◌++◌, flatten}
-use Rattle.text.specs.Feed.{Reading, reading, first_reading}
+use Rattle.text.specs.Feed.{first_reading}
 use Rattle.text.specs.Turns.{all_printed, all_more, ends_after, none_empty}
-use Rattle.plates.specs.declared.KeptLine.{KeptLine}
 use Rattle.plates.specs.Plate.{plate_program, plate_output}
-use Rattle.plates.specs.Read.{kept_of}
-use Rattle.plate.specs.declared.Run.{Run}
-
-abbrev pub line_reading : KeptLine → Reading (Unit {0}) (List ℕ)
-line_reading l = reading tt (kept_of l) false
-
-abbrev pub reading_of : Run → Reading (Unit {0}) (List ℕ)
-reading_of r = line_reading r.line
 
 -- what is claimed of the program over any parts of its input
 pub record RunRight (parts : List (List ℕ)) : Type 0 where

@@ -1,5 +1,6 @@
 -- Laws of whole lines of bytes: more records than there can be are never read, and what is written in hexadecimal is
 -- read back. Assumes nothing.
+use Rattle.std.specs.Prelude.{Result}
 use Prim.Native.Nat.{ℕ, zero, suc, ◌+◌, ◌*◌, ◌/◌, ◌%◌, ◌≤◌, ◌<◌}
 use mathlib.Core.Path.{◌≡◌, refl, sym, ap, ◌∙◌}
 use mathlib.Core.Logic.{◌⊎◌, inl, inr}
@@ -14,6 +15,7 @@ use Rattle.text.specs.Line.{is_empty, space}
 use Rattle.records.specs.declared.Reader.{Reader}
 use Rattle.records.specs.declared.Reader.TheVariants.{Test}
 use Rattle.records.specs.declared.Record.{Record}
+use Rattle.records.specs.declared.Unread.{Unread}
 use Rattle.records.specs.Cases.{on_found}
 use Rattle.records.specs.Read.{read_record, kind_of, used_of}
 use Rattle.records.proofs.KindLaws.{for-test, record-ge}
@@ -38,16 +40,16 @@ module _ (m n u at : ℕ) (s : List ℕ) where
   abbrev Next : Type 0
   Next = (at' : ℕ) (s' : List ℕ) → length s' < m → length s' < n → plates_from m u at' s' ≡ plates_from n u at' s'
 
-  abbrev behind : ℕ → Record → List ℕ
+  abbrev behind : ℕ → Result Record Unread → List ℕ
   behind most r = record_line at r ++ plates_from most u (at + used_of r) (drop (used_of r) s)
 
-  abbrev from : ℕ → Record → List ℕ
+  abbrev from : ℕ → Result Record Unread → List ℕ
   from most r = on_found r (behind most r) (λ n. short_line at s n) (λ n. refused_line at s n)
 
-  from_found : (most : ℕ) (r : Record) → is_found r ≡ true → from most r ≡ behind most r
+  from_found : (most : ℕ) (r : Result Record Unread) → is_found r ≡ true → from most r ≡ behind most r
   from_found most r f = on-found (behind most r) (λ n. short_line at s n) (λ n. refused_line at s n) r f
 
-  next-same : 0 < length s → length s < suc m → length s < suc n → Next → (r : Record) → (is_found r ≡ true → 8 ≤ used_of r) → from m r ≡ from n r
+  next-same : 0 < length s → length s < suc m → length s < suc n → Next → (r : Result Record Unread) → (is_found r ≡ true → 8 ≤ used_of r) → from m r ≡ from n r
   next-same z h k next =
       found-cases (λ r. (is_found r ≡ true → 8 ≤ used_of r) → from m r ≡ from n r)
       (λ r f least. from_found m r f ∙ ap (λ (l : List ℕ). record_line at r ++ l) (same (used_of r) (least f)) ∙ sym (from_found n r f))

@@ -1,4 +1,5 @@
 -- Laws of the records in turn: what stops the reading, and the loop that prints them. Assumes nothing.
+use Rattle.std.specs.Prelude.{Result, Ok, Err}
 use Prim.Native.Nat.{ℕ, suc, ◌+◌, ◌*◌, ◌-◌, ◌≤◌, ◌<◌}
 use mathlib.Core.Path.{◌≡◌, refl, sym, ap, ◌∙◌, subst}
 use mathlib.Core.Logic.{⊎_elim}
@@ -15,7 +16,9 @@ use Rattle.text.specs.Line.{is_empty}
 use Rattle.records.specs.declared.Reader.{Reader}
 use Rattle.records.specs.declared.Reader.TheVariants.{Test}
 use Rattle.records.specs.declared.Record.{Record}
-use Rattle.records.specs.declared.Record.TheVariants.{Short, Refused}
+use Rattle.records.specs.declared.Record.TheVariants.{Page, Block, State, Commit, Ack}
+use Rattle.records.specs.declared.Unread.{Unread}
+use Rattle.records.specs.declared.Unread.TheVariants.{Short, Refused}
 use Rattle.records.specs.Cases.{on_found}
 use Rattle.records.specs.Kind.{unit_ok, header_length}
 use Rattle.records.specs.Read.{read_record, used_of}
@@ -35,11 +38,11 @@ module _ (m u at : ℕ) (s : List ℕ) where
   stop-end h = rw (eq-eqb (length s) 0 h)
 
   module _ (h : length s ≡ 0 → ⊥) where
-    pub stop-short : (n : ℕ) → read_record Test u s ≡ Short n → plates_from (suc m) u at s ≡ short_line at s n
+    pub stop-short : (n : ℕ) → read_record Test u s ≡ Err (Short n) → plates_from (suc m) u at s ≡ short_line at s n
     unfolding plates_from
     stop-short n e = rw (ne_eqb (length s) 0 h, e)
 
-    pub stop-refused : (n : ℕ) → read_record Test u s ≡ Refused n → plates_from (suc m) u at s ≡ refused_line at s n
+    pub stop-refused : (n : ℕ) → read_record Test u s ≡ Err (Refused n) → plates_from (suc m) u at s ≡ refused_line at s n
     unfolding plates_from
     stop-refused n e = rw (ne_eqb (length s) 0 h, e)
 
@@ -55,33 +58,41 @@ module _ (m u at : ℕ) (s : List ℕ) where
       (on-found (record_line at r ++ plates_from m u (at + used_of r) (drop (used_of r) s)) (λ n. short_line at s n) (λ n. refused_line at s n) r f)
 
 -- only a record whose header is there is refused
-pub refused-header : (reader : Reader) (u : ℕ) (s : List ℕ) (n : ℕ) → unit_ok u ≡ true → read_record reader u s ≡ Refused n → header_length ≤ length s
+pub refused-header : (reader : Reader) (u : ℕ) (s : List ℕ) (n : ℕ) → unit_ok u ≡ true → read_record reader u s ≡ Err (Refused n) → header_length ≤ length s
 refused-header reader u s n v e =
     ⊎_elim (λ h. absurd (false≢true (ap is_refused (sym (read-no-header reader u s v h) ∙ e)))) (λ h. h) (lt-or-ge (length s) header_length)
   where
-    is_refused : Record → Bool
+    is_refused : Result Record Unread → Bool
     is_refused r = on_found r false (λ n. false) (λ n. true)
 
 -- a record uses some bytes where it is found, and none else
-pub found-used : (r : Record) → (used_of r ≡ 0 → ⊥) → is_found r ≡ true
+pub found-used : (r : Result Record Unread) → (used_of r ≡ 0 → ⊥) → is_found r ≡ true
 found-used = found-cases (λ r. (used_of r ≡ 0 → ⊥) → is_found r ≡ true) (λ r f z. f) (λ n z. absurd (z refl)) (λ n z. absurd (z refl))
 
 pub used-none : (reader : Reader) (u : ℕ) (s : List ℕ) → used_of (read_record reader u s) ≡ 0 → is_found (read_record reader u s) ≡ true → ⊥
 used-none reader u s z f = let l = used-least reader u s f in omega arith
 
 -- so that none is found where none are used
-pub found_none : (reader : Reader) (u : ℕ) (s : List ℕ) (r : Record) → r ≡ read_record reader u s → used_of (read_record reader u s) ≡ 0 → is_found r ≡ true → ⊥
+pub found_none : (reader : Reader) (u : ℕ) (s : List ℕ) (r : Result Record Unread) → r ≡ read_record reader u s → used_of (read_record reader u s) ≡ 0 → is_found r ≡ true → ⊥
 found_none reader u s r e z f = used-none reader u s z (ap is_found (sym e) ∙ f)
+
+-- a record that was read is found
+pub ok-found : (r : Record) → is_found (Ok r) ≡ true
+ok-found (Page w e p c) = refl
+ok-found (Block e n c) = refl
+ok-found (State e c) = refl
+ok-found (Commit w e p b c) = refl
+ok-found (Ack e c) = refl
 
 -- what stops the reading does so whatever the bound
 pub stop-any : (m n u at : ℕ) (s : List ℕ) → used_of (read_record Test u s) ≡ 0 → plates_from (suc m) u at s ≡ plates_from (suc n) u at s
 unfolding plates_from
 stop-any m n u at s z = ap (λ (l : List ℕ). cond (is_empty s) (end_line at) l) (same (read_record Test u s) (used-none Test u s z))
   where
-    from : ℕ → Record → List ℕ
+    from : ℕ → Result Record Unread → List ℕ
     from most r = on_found r (record_line at r ++ plates_from most u (at + used_of r) (drop (used_of r) s)) (λ n. short_line at s n) (λ n. refused_line at s n)
 
-    same : (r : Record) → (is_found r ≡ true → ⊥) → from m r ≡ from n r
+    same : (r : Result Record Unread) → (is_found r ≡ true → ⊥) → from m r ≡ from n r
     same = found-cases (λ r. (is_found r ≡ true → ⊥) → from m r ≡ from n r) (λ r f no. absurd (no f)) (λ n no. refl) (λ n no. refl)
 
 -- ---- the loop: what is printed so far, in front of what the bytes from place on give, is what all of them give. A
@@ -129,7 +140,7 @@ module _ {u : ℕ} {bytes out₀ : List ℕ} {at : ℕ} {out : List ℕ} {next p
     pub turned-room : next + 176 ≤ length out
     turned-room = let i = t.inside in let l = t.low in let e = turned-length in omega arith
 
-    pub turned-again : (r : Record) (out' : List ℕ) (next' used' : ℕ) → (used ≡ 0 → ⊥) → r ≡ read_record Test u here
+    pub turned-again : (r : Result Record Unread) (out' : List ℕ) (next' used' : ℕ) → (used ≡ 0 → ⊥) → r ≡ read_record Test u here
         → PutDone (record_line place r) out next out' next' → next' ≤ next + 176 → used' ≡ used_of (read_record Test u (drop (place + used) bytes))
         → Turned u bytes out₀ at out' next' (place + used) used'
     turned-again r out' next' used' some e put low' uses' =
@@ -151,7 +162,7 @@ module _ {u : ℕ} {bytes out₀ : List ℕ} {at : ℕ} {out : List ℕ} {next p
               ∙ ap (λ (m : ℕ). t.printed ++ plates_from m u place here) more_left
               ∙ ap (λ (l : List ℕ). t.printed ++ l) (from_found (t.most - 1) u place here f)
               ∙ sym (append_assoc t.printed (record_line place x) (plates_from (t.most - 1) u (place + used_of x) (drop (used_of x) here)))
-              ∙ ap (λ (y : Record). t.printed ++ record_line place y ++ plates_from (t.most - 1) u (place + used_of x) (drop (used_of x) here)) (sym e)
+              ∙ ap (λ (y : Result Record Unread). t.printed ++ record_line place y ++ plates_from (t.most - 1) u (place + used_of x) (drop (used_of x) here)) (sym e)
               ∙ ap (λ (k : ℕ). t.printed ++ record_line place r ++ plates_from (t.most - 1) u (place + k) (drop k here)) (sym q)
               ∙ ap (λ (l : List ℕ). t.printed ++ record_line place r ++ plates_from (t.most - 1) u (place + used) l) (drop-drop used place bytes);
           uses = uses';

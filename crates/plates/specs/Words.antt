@@ -1,47 +1,47 @@
 -- The words of `plate`: a record as its plate says, what stops the reading, the record area, a bad line. Assumes
 -- nothing.
-use Rattle.std.specs.Prelude.{ℕ, cond, List, [], ◌∷◌, ◌++◌, leb, eqb, length}
+use Rattle.std.specs.Prelude.{ℕ, cond, List, [], ◌∷◌, ◌++◌, leb, eqb, length, Result, Ok, Err}
 use Rattle.lists.specs.LittleEndian.{le_at}
 use Rattle.text.specs.Ascii.{ascii}
 use Rattle.text.specs.Line.{newline}
 use Rattle.text.specs.Decimal.{decimal}
 use Rattle.records.specs.declared.Record.{Record}
-use Rattle.records.specs.declared.Record.TheVariants.{Page, Block, State, Commit, Ack, Short, Refused}
+use Rattle.records.specs.declared.Unread.{Unread}
+use Rattle.records.specs.declared.Record.TheVariants.{Page, Block, State, Commit, Ack}
 use Rattle.records.specs.declared.Area.{Area}
 use Rattle.records.specs.declared.Area.TheVariants.{Zero, Activation, Neither}
-use Rattle.records.specs.Number.{out_of_range, bad_length}
+use Rattle.records.specs.Number.{refusal_number, out_of_range, bad_length}
 use Rattle.records.specs.Kind.{header_length}
 use Rattle.records.specs.Read.{kind_of, used_of}
-use Rattle.rules.specs.declared.Choice.{Choice}
-use Rattle.rules.specs.declared.Choice.TheVariants as choice
+use Rattle.records.specs.declared.refusal.Refusal.{Refusal}
+use Rattle.rules.specs.declared.Disk.{Disk}
+use Rattle.rules.specs.declared.Disk.TheVariants.{PrimaryDisk, StandbyDisk}
 use Rattle.plates.specs.declared.Fault.{Fault}
 use Rattle.plates.specs.declared.Fault.TheVariants.{Empty, Long, Return, NoHead, BadUnit, NotHex, Half}
 
 -- ---- a record: "kind, epoch, page or block number, counts, bytes used"
-abbrev pub name_of : Record → List ℕ
-name_of (Page w e p c) = ascii "PAGE"
-name_of (Block e n c) = ascii "BLOCK"
-name_of (State e c) = ascii "STATE"
-name_of (Commit w e p b c) = ascii "COMMIT"
-name_of (Ack e c) = ascii "ACK"
-name_of (Short n) = []
-name_of (Refused n) = []
+abbrev pub name_of : Result Record Unread → List ℕ
+name_of (Ok (Page w e p c)) = ascii "PAGE"
+name_of (Ok (Block e n c)) = ascii "BLOCK"
+name_of (Ok (State e c)) = ascii "STATE"
+name_of (Ok (Commit w e p b c)) = ascii "COMMIT"
+name_of (Ok (Ack e c)) = ascii "ACK"
+name_of (Err u) = []
 
 -- its epoch, and what else its kind has
-abbrev pub fields_of : Record → List ℕ
-fields_of (Page w e p c) = ascii ", epoch " ++ decimal e ++ ascii ", page " ++ decimal p
-fields_of (Block e n c) = ascii ", epoch " ++ decimal e ++ ascii ", block " ++ decimal n
-fields_of (State e c) = ascii ", epoch " ++ decimal e
-fields_of (Commit w e p b c) = ascii ", epoch " ++ decimal e ++ ascii ", pages " ++ decimal p ++ ascii ", blocks " ++ decimal b
-fields_of (Ack e c) = ascii ", epoch " ++ decimal e
-fields_of (Short n) = []
-fields_of (Refused n) = []
+abbrev pub fields_of : Result Record Unread → List ℕ
+fields_of (Ok (Page w e p c)) = ascii ", epoch " ++ decimal e ++ ascii ", page " ++ decimal p
+fields_of (Ok (Block e n c)) = ascii ", epoch " ++ decimal e ++ ascii ", block " ++ decimal n
+fields_of (Ok (State e c)) = ascii ", epoch " ++ decimal e
+fields_of (Ok (Commit w e p b c)) = ascii ", epoch " ++ decimal e ++ ascii ", pages " ++ decimal p ++ ascii ", blocks " ++ decimal b
+fields_of (Ok (Ack e c)) = ascii ", epoch " ++ decimal e
+fields_of (Err u) = []
 
 -- a line begins with the place of its record among the bytes, from 0
 abbrev pub placed : ℕ → List ℕ → List ℕ
 placed at s = ascii "at " ++ decimal at ++ ascii ": " ++ s ++ (newline ∷ [])
 
-unfoldable pub record_line : ℕ → Record → List ℕ
+unfoldable pub record_line : ℕ → Result Record Unread → List ℕ
 record_line at r =
     placed at (name_of r ++ ascii " (kind " ++ decimal (kind_of r) ++ ascii ")" ++ fields_of r ++ ascii ", " ++ decimal (used_of r) ++ ascii " bytes")
 
@@ -77,12 +77,12 @@ area_words Zero = ascii "all zeros"
 area_words (Activation epoch) = ascii "ACTIVATION (kind 6), epoch " ++ decimal epoch
 area_words Neither = ascii "neither zeros nor an activation"
 
-abbrev pub disk_words : Choice → List ℕ
-disk_words choice.PrimaryDisk = ascii "the primary's disk is valid"
-disk_words choice.StandbyDisk = ascii "the standby's disk is valid"
-disk_words (choice.Refused number) = ascii "refused with " ++ decimal number ++ ascii ", no disk is chosen"
+abbrev pub disk_words : Result Disk Refusal → List ℕ
+disk_words (Ok PrimaryDisk) = ascii "the primary's disk is valid"
+disk_words (Ok StandbyDisk) = ascii "the standby's disk is valid"
+disk_words (Err refusal) = ascii "refused with " ++ decimal (refusal_number refusal) ++ ascii ", no disk is chosen"
 
-unfoldable pub area_line : Area → Choice → List ℕ
+unfoldable pub area_line : Area → Result Disk Refusal → List ℕ
 area_line a c = ascii "record area: " ++ area_words a ++ ascii "; " ++ disk_words c ++ (newline ∷ [])
 
 -- another length than 8 is 1

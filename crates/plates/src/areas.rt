@@ -8,9 +8,9 @@ ghost use Rattle.plates.specs.Plate.{area_output};
 
 use ends::choice::decide;
 use records::disk_area::read_area;
-use records::number::OUT_OF_RANGE;
+use records::refusal::Refusal;
 use records::{AREA_LENGTH, Area};
-use rules::Choice;
+use rules::Disk;
 use text::printing::{put_byte, put_number, put_text};
 
 fn put_activation(out: &mut [u8], at: usize, epoch: u32) -> usize
@@ -46,19 +46,19 @@ fn put_no_disk(out: &mut [u8], at: usize, number: u64) -> usize
 }
 
 // Which disk is valid.
-fn put_disk(out: &mut [u8], at: usize, choice: Choice) -> usize
+fn put_disk(out: &mut [u8], at: usize, choice: Result<Disk, Refusal>) -> usize
     requires { at + 60 ≤ length out.old }
     ensures put_done { PutDone (disk_words choice) out.old at out.new result }
     ensures upper_bound { result ≤ at + 60 }
 {
     match choice {
-        Choice::PrimaryDisk => put_text(out, at, b"the primary's disk is valid"),
-        Choice::StandbyDisk => put_text(out, at, b"the standby's disk is valid"),
-        Choice::Refused { number } => put_no_disk(out, at, number),
+        Ok(Disk::PrimaryDisk) => put_text(out, at, b"the primary's disk is valid"),
+        Ok(Disk::StandbyDisk) => put_text(out, at, b"the standby's disk is valid"),
+        Err(refusal) => put_no_disk(out, at, refusal.number()),
     }
 }
 
-fn put_area_line(out: &mut [u8], at: usize, area: Area, choice: Choice) -> usize
+fn put_area_line(out: &mut [u8], at: usize, area: Area, choice: Result<Disk, Refusal>) -> usize
     requires { at + 176 ≤ length out.old }
     ensures put_done { PutDone (area_line area choice) out.old at out.new result }
     ensures upper_bound { result ≤ at + 176 }
@@ -79,7 +79,7 @@ fn put_area_length(out: &mut [u8], at: usize, n: usize) -> usize
     let a = put_text(out, at, b"record area: not 8 bytes but ");
     let b = put_number(out, a, n as u64);
     let c = put_text(out, b, b"; refused with ");
-    let d = put_number(out, c, OUT_OF_RANGE);
+    let d = put_number(out, c, Refusal::OutOfRange.number());
     put_byte(out, d, b'\n')
 }
 

@@ -2,35 +2,13 @@
 ghost use Rattle.std.specs.Prelude.{◌≡◌, ◌&&◌};
 ghost use Rattle.text.specs.Kept.{kept_all, no_number, number_is, number_with};
 ghost use Rattle.records.specs.Kind.{most_unit, unit_ok};
-ghost use Rattle.plates.specs.Plate.{is_area};
 ghost use Rattle.plates.specs.Read.{head_of};
 
-use crate::PlateHead;
+use crate::{Fault, PlateHead};
+use records::MOST_UNIT;
 use records::reading::unit_ok;
 use text::Number;
 use text::kept::{number_is, number_with};
-
-// The word area.
-fn is_area(word: &[u8]) -> bool
-    ensures { result ≡ is_area word.now }
-{
-    if word.len() != 4 {
-        return false;
-    }
-    if word[0] != 97 {
-        return false;
-    }
-    if word[1] != 114 {
-        return false;
-    }
-    if word[2] != 101 {
-        return false;
-    }
-    if word[3] != 97 {
-        return false;
-    }
-    true
-}
 
 // What is kept of the word as a number.
 fn number_of(word: &[u8]) -> Number
@@ -41,10 +19,8 @@ fn number_of(word: &[u8]) -> Number
         digits: true,
         value: 0,
     };
-    let mut i: usize = 0;
-    while i < word.len() {
-        number = number_with(number, word[i]);
-        i += 1;
+    for byte in word {
+        number = number_with(number, *byte);
     }
     number
 }
@@ -53,32 +29,24 @@ fn number_of(word: &[u8]) -> Number
 fn is_unit(n: Number) -> bool
     ensures { result ≡ (number_is most_unit n && unit_ok n.value) }
 {
-    let value = n.value;
-    if !number_is(4096, n) {
-        return false;
-    }
-    unit_ok(value as usize)
+    number_is(MOST_UNIT as u64, n) && unit_ok(n.value as usize)
 }
 
-// What the first word of a line is.
-pub fn head_of(word: &[u8]) -> PlateHead
+// What the first word of a line is; a number that is no U is another fault than a word that is none.
+pub fn head_of(word: &[u8]) -> Result<PlateHead, Fault>
     ensures { result ≡ head_of word.now }
 {
-    if is_area(word) {
-        return PlateHead::Area;
+    if word == b"area".as_slice() {
+        return Ok(PlateHead::Area);
     }
     let n = number_of(word);
-    let some = n.some;
-    let digits = n.digits;
-    let value = n.value;
     if is_unit(n) {
-        return PlateHead::Unit { u: value as usize };
+        return Ok(PlateHead::Unit {
+            u: n.value as usize,
+        });
     }
-    if !some {
-        return PlateHead::None;
+    if n.some && n.digits {
+        return Err(Fault::BadUnit);
     }
-    if !digits {
-        return PlateHead::None;
-    }
-    PlateHead::NotUnit
+    Err(Fault::NoHead)
 }

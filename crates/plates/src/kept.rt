@@ -1,5 +1,5 @@
 // What is kept of a line under way: its first bytes, up to one more than the longest line has.
-ghost use Rattle.std.specs.Prelude.{◌≡◌, [], ◌≤◌, min, length};
+ghost use Rattle.std.specs.Prelude.{◌≡◌, [], ◌≤◌, length};
 ghost use Rattle.text.specs.Kept.{kept_all};
 ghost use Rattle.text.specs.Line.{is_empty};
 ghost use Rattle.plates.specs.Plate.{kept_with};
@@ -21,25 +21,14 @@ pub fn no_kept() -> KeptLine
 pub fn kept_length(l: KeptLine) -> usize
     ensures { (result ≡ length (kept_of l)) × (result ≤ 65537) }
 {
-    let length = l.length;
-    if MOST_LINE < length {
-        return MOST_LINE + 1;
-    }
-    length
+    l.length.min(MOST_LINE + 1)
 }
 
 // Whether no byte of the line has come.
 pub fn is_empty_kept(l: KeptLine) -> bool
     ensures { result ≡ is_empty (kept_of l) }
 {
-    let length = kept_length(l);
-    length == 0
-}
-
-fn least(a: usize, b: usize) -> usize
-    ensures { result ≡ min a b }
-{
-    if a < b { a } else { b }
+    kept_length(l) == 0
 }
 
 // The bytes of a part, as far as there is room.
@@ -47,7 +36,7 @@ pub fn kept_with_all(l: KeptLine, bytes: &[u8]) -> KeptLine
     ensures { kept_of result ≡ kept_all kept_with (kept_of l) bytes.now }
 {
     let length = kept_length(l);
-    let n = least(bytes.len(), MOST_LINE + 1 - length);
+    let n = bytes.len().min(MOST_LINE + 1 - length);
     let mut line = l.bytes;
     lists::copy_into(&mut line, length, lists::part_of(bytes, 0, n));
     KeptLine {

@@ -28,39 +28,33 @@ pub enum Fault {
     Half,
 }
 
-// What bytes in hexadecimal are read as: whole bytes, at the head of the array, or a fault and its place, from 1.
+// A bad line: its first fault, and the place of it in the line, from 1.
 #[derive(Clone, Copy)]
-pub struct HexRead {
-    pub bytes: [u8; MOST_BYTES],
-    pub count: usize,
-    pub bad: bool,
+pub struct BadLine {
     pub fault: Fault,
     pub place: usize,
 }
 
-// A line under way: its bytes, at the head of the array, up to one more than the longest line has.
+// A line under way: its bytes, at the head of the array, up to one more than the longest line has. An array with its
+// length, and no Vec: a program's memory is fixed (docs/DECISIONS.md).
 #[derive(Clone, Copy)]
 pub struct KeptLine {
     pub bytes: [u8; MOST_LINE + 1],
     pub length: usize,
 }
 
-// What one character of bytes in hexadecimal gives: the first digit of the byte under way, or 16; the byte that is
-// whole with it, where more is 1; or a fault.
+// What one character of bytes in hexadecimal is: a space between two bytes, the first digit of a byte, or the second,
+// with which the byte is whole.
 #[derive(Clone, Copy)]
-pub struct HexStep {
-    pub half: u8,
-    pub more: usize,
-    pub byte: u8,
-    pub bad: bool,
-    pub fault: Fault,
+pub enum HexStep {
+    Between,
+    First { digit: u8 },
+    Whole { byte: u8 },
 }
 
-// The first word of a line: the word area, U in its range, a number that is no U, or none of these.
+// The first word of a line: the word area, or U in its range.
 #[derive(Clone, Copy)]
 pub enum PlateHead {
     Area,
     Unit { u: usize },
-    NotUnit,
-    None,
 }

@@ -6,8 +6,8 @@ ghost use Rattle.text.specs.Decimal.{decimal};
 ghost use Rattle.records.specs.Read.{kind_of};
 ghost use Rattle.plates.specs.Words.{name_of, fields_of, record_line};
 
-use records::Record;
 use records::reading::{kind_of, used_of};
+use records::{Record, Unread};
 use text::printing::{put_byte, put_number, put_text};
 
 // The place that each line of some bytes begins with.
@@ -21,34 +21,18 @@ pub(crate) fn put_place(out: &mut [u8], at: usize, place: usize) -> usize
     put_text(out, b, b": ")
 }
 
-fn put_name(out: &mut [u8], at: usize, r: Record) -> usize
+fn put_name(out: &mut [u8], at: usize, r: Result<Record, Unread>) -> usize
     requires { at + 6 ≤ length out.old }
     ensures put_done { PutDone (name_of r) out.old at out.new result }
     ensures upper_bound { result ≤ at + 6 }
 {
     match r {
-        Record::Page {
-            wide: _,
-            epoch: _,
-            page: _,
-            at: _,
-        } => put_text(out, at, b"PAGE"),
-        Record::Block {
-            epoch: _,
-            block: _,
-            at: _,
-        } => put_text(out, at, b"BLOCK"),
-        Record::State { epoch: _, at: _ } => put_text(out, at, b"STATE"),
-        Record::Commit {
-            wide: _,
-            epoch: _,
-            pages: _,
-            blocks: _,
-            at: _,
-        } => put_text(out, at, b"COMMIT"),
-        Record::Ack { epoch: _, at: _ } => put_text(out, at, b"ACK"),
-        Record::Short { missing: _ } => at,
-        Record::Refused { number: _ } => at,
+        Ok(Record::Page { .. }) => put_text(out, at, b"PAGE"),
+        Ok(Record::Block { .. }) => put_text(out, at, b"BLOCK"),
+        Ok(Record::State { .. }) => put_text(out, at, b"STATE"),
+        Ok(Record::Commit { .. }) => put_text(out, at, b"COMMIT"),
+        Ok(Record::Ack { .. }) => put_text(out, at, b"ACK"),
+        Err(_) => at,
     }
 }
 
@@ -84,39 +68,30 @@ fn put_commit(out: &mut [u8], at: usize, epoch: u32, pages: usize, blocks: usize
     put_number(out, d, blocks as u64)
 }
 
-fn put_fields(out: &mut [u8], at: usize, r: Record) -> usize
+fn put_fields(out: &mut [u8], at: usize, r: Result<Record, Unread>) -> usize
     requires { at + 85 ≤ length out.old }
     ensures put_done { PutDone (fields_of r) out.old at out.new result }
     ensures upper_bound { result ≤ at + 85 }
 {
     match r {
-        Record::Page {
-            wide: _,
-            epoch,
-            page,
-            at: _,
-        } => put_numbered(out, at, epoch, b", page ", page),
-        Record::Block {
-            epoch,
-            block,
-            at: _,
-        } => put_numbered(out, at, epoch, b", block ", block),
-        Record::State { epoch, at: _ } => put_epoch(out, at, epoch),
-        Record::Commit {
-            wide: _,
-            epoch,
-            pages,
-            blocks,
-            at: _,
-        } => put_commit(out, at, epoch, pages, blocks),
-        Record::Ack { epoch, at: _ } => put_epoch(out, at, epoch),
-        Record::Short { missing: _ } => at,
-        Record::Refused { number: _ } => at,
+        Ok(Record::Page { epoch, page, .. }) => put_numbered(out, at, epoch, b", page ", page),
+        Ok(Record::Block { epoch, block, .. }) => put_numbered(out, at, epoch, b", block ", block),
+        Ok(Record::State { epoch, .. }) => put_epoch(out, at, epoch),
+        Ok(
+            Record::Commit {
+                epoch,
+                pages,
+                blocks,
+                ..
+            },
+        ) => put_commit(out, at, epoch, pages, blocks),
+        Ok(Record::Ack { epoch, .. }) => put_epoch(out, at, epoch),
+        Err(_) => at,
     }
 }
 
 // Its name and kind.
-fn put_kind(out: &mut [u8], at: usize, r: Record) -> usize
+fn put_kind(out: &mut [u8], at: usize, r: Result<Record, Unread>) -> usize
     requires { at + 34 ≤ length out.old }
     ensures put_done { PutDone (name_of r ++ ascii " (kind " ++ decimal (kind_of r) ++ ascii ")") out.old at out.new result }
     ensures upper_bound { result ≤ at + 34 }
@@ -129,7 +104,12 @@ fn put_kind(out: &mut [u8], at: usize, r: Record) -> usize
 }
 
 // The line of a record at a place, at most 173 bytes.
-pub(crate) fn put_record(out: &mut [u8], at: usize, place: usize, r: Record) -> usize
+pub(crate) fn put_record(
+    out: &mut [u8],
+    at: usize,
+    place: usize,
+    r: Result<Record, Unread>,
+) -> usize
     requires { at + 176 ≤ length out.old }
     ensures put_done { PutDone (record_line place r) out.old at out.new result }
     ensures upper_bound { result ≤ at + 176 }

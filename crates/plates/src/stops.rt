@@ -10,10 +10,10 @@ ghost use Rattle.plates.specs.Words.{end_line, short_line, refused_line};
 ghost use Rattle.plates.specs.Plate.{plates_from};
 
 use crate::lines::put_place;
-use lists::field::get2;
-use records::number::BAD_LENGTH;
+use lists::field::get;
 use records::reading::read;
-use records::{HEADER_LENGTH, Reader, Record};
+use records::refusal::Refusal;
+use records::{HEADER_LENGTH, Reader, Unread};
 use text::printing::{put_byte, put_number, put_text};
 
 // No bytes are left.
@@ -28,15 +28,15 @@ fn put_end(out: &mut [u8], at: usize, place: usize) -> usize
 }
 
 // Of what bytes are missing, where so many are there.
-fn put_missing(out: &mut [u8], at: usize, there: usize) -> usize
-    requires { at + 46 ≤ length out.old }
-    ensures put_done { PutDone (cond (leb header_length there) (ascii "cut short (256), bytes of its body missing: ") (ascii "cut short (256), bytes of its header missing: ")) out.old at out.new result }
-    ensures upper_bound { result ≤ at + 46 }
+fn missing_words(there: usize) -> &'static [u8]
+    ensures value { result.now ≡ cond (leb header_length there) (ascii "cut short (256), bytes of its body missing: ") (ascii "cut short (256), bytes of its header missing: ") }
+    ensures bound { length result.now ≤ 46 }
 {
     if there < HEADER_LENGTH {
-        return put_text(out, at, b"cut short (256), bytes of its header missing: ");
+        b"cut short (256), bytes of its header missing: "
+    } else {
+        b"cut short (256), bytes of its body missing: "
     }
-    put_text(out, at, b"cut short (256), bytes of its body missing: ")
 }
 
 // The record is cut short by n bytes.
@@ -45,9 +45,8 @@ fn put_short(out: &mut [u8], at: usize, place: usize, bytes: &[u8], n: usize) ->
     ensures put_done { PutDone (short_line place bytes.now n) out.old at out.new result }
     ensures upper_bound { result ≤ at + 176 }
 {
-    let there = bytes.len();
     let a = put_place(out, at, place);
-    let b = put_missing(out, a, there);
+    let b = put_text(out, a, missing_words(bytes.len()));
     let c = put_number(out, b, n as u64);
     put_byte(out, c, b'\n')
 }
@@ -80,7 +79,7 @@ fn put_why(out: &mut [u8], at: usize, number: u64, said: u32, kind: u32) -> usiz
     ensures put_done { PutDone (cond (eqb number bad_length) (ascii ", length " ++ decimal said ++ ascii " is not that of kind " ++ decimal kind) (ascii ", kind " ++ decimal kind ++ ascii " is not known on the link")) out.old at out.new result }
     ensures upper_bound { result ≤ at + 98 }
 {
-    if number == BAD_LENGTH {
+    if number == Refusal::BadLength.number() {
         return put_bad_length(out, at, said, kind);
     }
     put_bad_kind(out, at, kind)
@@ -92,8 +91,8 @@ fn put_refused(out: &mut [u8], at: usize, place: usize, bytes: &[u8], number: u6
     ensures put_done { PutDone (refused_line place bytes.now number) out.old at out.new result }
     ensures upper_bound { result ≤ at + 176 }
 {
-    let said = get2(bytes, 0);
-    let kind = get2(bytes, 2);
+    let said = get::<2>(bytes, 0);
+    let kind = get::<2>(bytes, 2);
     let a = put_place(out, at, place);
     let b = put_text(out, a, b"refused with ");
     let c = put_number(out, b, number);
@@ -110,10 +109,9 @@ pub(crate) fn put_stop(out: &mut [u8], at: usize, u: usize, place: usize, bytes:
     if bytes.len() == 0 {
         return put_end(out, at, place);
     }
-    let r = read(Reader::Test, u, bytes);
-    match r {
-        Record::Short { missing } => put_short(out, at, place, bytes, missing),
-        Record::Refused { number } => put_refused(out, at, place, bytes, number),
-        _ => at,
+    match read(Reader::Test, u, bytes) {
+        Err(Unread::Short { missing }) => put_short(out, at, place, bytes, missing),
+        Err(Unread::Refused { number }) => put_refused(out, at, place, bytes, number),
+        Ok(_) => at,
     }
 }

@@ -8,10 +8,10 @@ ghost use Rattle.plates.specs.Plate.{plates_from, plates_of};
 use crate::lines::put_record;
 use crate::stops::put_stop;
 use records::reading::{read, used_of};
-use records::{Reader, Record};
+use records::{Reader, Record, Unread};
 
 // What stands at a place.
-fn record_at(u: usize, bytes: &[u8], place: usize) -> Record
+fn record_at(u: usize, bytes: &[u8], place: usize) -> Result<Record, Unread>
     requires { place ≤ length bytes.now }
     ensures { result ≡ read_record Reader.Test u (drop place bytes.now) }
 {

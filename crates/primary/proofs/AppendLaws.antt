@@ -33,8 +33,8 @@ pages-done memory dirty s after wide u epoch m at r e h w =
     }
 
 -- the bytes of a checkpoint, far below 2 ^ 64
-pub checkpoint-length-le : (u : ℕ) (wide : Bool) (pages : ℕ) → u ≤ 4096 → pages ≤ 65536 → checkpoint_length u wide pages ≤ 65536 * 4108 + 88
-checkpoint-length-le u wide pages h k =
+pub checkpoint_length_le : (u : ℕ) (wide : Bool) (pages : ℕ) → u ≤ 4096 → pages ≤ 65536 → checkpoint_length u wide pages ≤ 65536 * 4108 + 88
+checkpoint_length_le u wide pages h k =
     let w = width-range wide in
     let r : u + number_end wide ≤ 4108 = omega arith in
     omega (arith, checkpoint-length u wide pages, mul-le-mul k r)

@@ -3,6 +3,7 @@ ghost use Rattle.std.specs.Prelude.{◌≡◌, ◌+◌, ◌*◌, ◌^◌, ◌≤
 ghost use Rattle.lists.specs.Part.{PutDone};
 ghost use Rattle.records.specs.Kind.{page_kind, number_width, record_length, counts_end};
 ghost use Rattle.records.specs.Write.{state_record, commit_record};
+ghost use Rattle.records.specs.Number.{number_in};
 ghost use Rattle.marks.specs.Mark.{count_marks};
 ghost use Rattle.pages.specs.Dirty.{dirty_records};
 ghost use Rattle.rules.specs.PrimaryState.{with_epoch_waiting};
@@ -10,8 +11,8 @@ ghost use Rattle.rules.specs.Checkpoint.{dirty_count, checkpoint_length, checkpo
 
 use crate::ranges::memory_ok;
 use records::kinds::{is_wide, number_end};
-use records::number;
-use rules::{Primary, PrimaryReply};
+use records::refusal::Refusal;
+use rules::{Primary, Reply};
 use settings::{MOST_EPOCH, checkpoint_end};
 
 // The bytes of a checkpoint of this many dirty pages.
@@ -22,34 +23,32 @@ fn checkpoint_length(u: usize, wide: bool, pages: usize) -> usize
     pages * (u + number_end(wide)) + checkpoint_end(wide)
 }
 
-// What a checkpoint of this many dirty pages is refused with: 1 13 15 19.
-fn checkpoint_refusal(p: Primary, memory: usize, dirty: usize, stream: usize, pages: usize) -> u64
+// Whether a checkpoint of this many dirty pages is refused: 1 13 15 19.
+#[tactic(auto, using(crate::proofs::RangeLaws::unit_high, crate::proofs::RangeLaws::pages_high, crate::proofs::RangeLaws::waiting_high, crate::proofs::AppendLaws::checkpoint_length_le), unfolding(rules::specs::Checkpoint::checkpoint_refusal))]
+fn check_checkpoint(
+    p: Primary,
+    memory: usize,
+    dirty: usize,
+    stream: usize,
+    pages: usize,
+) -> Result<(), Refusal>
     requires { pages ≤ p.settings.m }
-    ensures { result ≡ checkpoint_refusal p memory dirty stream pages }
+    ensures { number_in result ≡ checkpoint_refusal p memory dirty stream pages }
 {
     let g = p.settings;
-    let epoch = p.epoch;
-    let alone = p.alone;
-    let waiting = p.waiting;
-    let u = g.u;
-    let m = g.m;
-    let l = g.l;
-    if !memory_ok(p, memory, dirty) {
-        return number::OUT_OF_RANGE;
+    if !memory_ok(p, memory, dirty) || stream != g.l {
+        return Err(Refusal::OutOfRange);
     }
-    if stream != l {
-        return number::OUT_OF_RANGE;
+    if p.alone {
+        return Err(Refusal::WrongMode);
     }
-    if alone {
-        return number::WRONG_MODE;
+    if g.l < p.waiting + checkpoint_length(g.u, is_wide(g.m), pages) {
+        return Err(Refusal::StreamFull);
     }
-    if l < waiting + checkpoint_length(u, is_wide(m), pages) {
-        return number::STREAM_FULL;
+    if MOST_EPOCH <= p.epoch {
+        return Err(Refusal::LastEpoch);
     }
-    if MOST_EPOCH <= epoch {
-        return number::LAST_EPOCH;
-    }
-    0
+    Ok(())
 }
 
 // The dirty pages into the free end of the outgoing buffer, from at on; the position behind them.
@@ -108,27 +107,23 @@ fn append_checkpoint(
     ensures { PutDone (checkpoint_bytes p memory.now dirty.now processor) stream.old p.waiting stream.new result }
 {
     let g = p.settings;
-    let epoch = p.epoch;
-    let records = p.records;
-    let waiting = p.waiting;
-    let u = g.u;
-    let m = g.m;
-    let wide = is_wide(m);
-    let state = append_pages(stream, waiting, memory, dirty, wide, u, epoch, m);
-    let commit = append_state(stream, state, epoch, processor);
-    append_commit(stream, commit, wide, epoch, pages, records)
+    let wide = is_wide(g.m);
+    let state = append_pages(stream, p.waiting, memory, dirty, wide, g.u, p.epoch, g.m);
+    let commit = append_state(stream, state, p.epoch, processor);
+    append_commit(stream, commit, wide, p.epoch, pages, p.records)
 }
 
 // Another open epoch, of which no block is written yet: of the numbers, which stay, none counts.
 fn with_epoch_waiting(p: Primary, epoch: u32, waiting: usize) -> Primary
     ensures { result ≡ with_epoch_waiting p epoch waiting }
 {
-    let mut next = p;
-    next.epoch = epoch;
-    next.blocks = 0;
-    next.records = 0;
-    next.waiting = waiting;
-    next
+    Primary {
+        epoch,
+        blocks: 0,
+        records: 0,
+        waiting,
+        ..p
+    }
 }
 
 // Appends every dirty page, STATE and COMMIT, clears the marks and opens the next epoch.
@@ -138,30 +133,17 @@ pub fn checkpoint(
     dirty: &mut [u64],
     stream: &mut [u8],
     processor: [u8; 64],
-) -> PrimaryReply
+) -> Reply<Primary>
     ensures value { result ≡ checkpoint_reply p (length memory.now) (length dirty.old) (length stream.old) (dirty_count p dirty.old) }
     ensures dirty_after { dirty.new ≡ checkpoint_dirty p memory.now dirty.old stream.old }
     ensures stream_after { stream.new ≡ checkpoint_stream p memory.now dirty.old stream.old processor }
 {
-    let g = p.settings;
-    let epoch = p.epoch;
-    let m = g.m;
-    let value = epoch as u64;
+    let m = p.settings.m;
     let pages = marks::count(dirty, m);
-    let number = checkpoint_refusal(p, memory.len(), dirty.len(), stream.len(), pages);
-    if number != 0 {
-        return PrimaryReply {
-            state: p,
-            number: number,
-            value: 0,
-        };
+    if let Err(refusal) = check_checkpoint(p, memory.len(), dirty.len(), stream.len(), pages) {
+        return replies::refused(p, refusal);
     }
     let waiting = append_checkpoint(p, memory, dirty, stream, pages, processor);
     marks::clear(dirty, m);
-    let state = with_epoch_waiting(p, epoch + 1, waiting);
-    PrimaryReply {
-        state: state,
-        number: 0,
-        value: value,
-    }
+    replies::accepted(with_epoch_waiting(p, p.epoch + 1, waiting), p.epoch as u64)
 }

@@ -1,68 +1,33 @@
 // What leaves the primary on the link, and what comes back: drain and ACK.
-ghost use Rattle.std.specs.Prelude.{◌≡◌, ◌≤◌, min, length, take};
+ghost use Rattle.std.specs.Prelude.{◌≡◌, ◌≤◌, min, length, take, Ok};
 ghost use Rattle.lists.specs.Part.{put, removed};
 ghost use Rattle.lists.specs.Refusal.{refusal, pick};
-ghost use Rattle.rules.specs.PrimaryState.{with_waiting, with_acknowledged_detector};
-ghost use Rattle.rules.specs.Reply.{answer_of, Answered};
+ghost use Rattle.records.specs.Number.{number_in};
+ghost use Rattle.rules.specs.PrimaryState.{with_waiting};
+ghost use Rattle.rules.specs.Reply.{Answered};
 ghost use Rattle.rules.specs.Stream.{drain_refusal, drain_reply, drain_stream, drain_destination, ack_tests, ack_refusal, ack_judged, ack_state, ack_reply};
 
 use crate::ranges::{numbers_ok, primary_ok};
-use detector::Detector;
-use records::reading::{other_refusal, used_of, value_of};
-use records::{Reader, Record, number};
-use rules::{Answer, Primary, PrimaryAnswer, PrimaryReply};
+use records::refusal::{Refusal, number_in};
+use records::{Reader, Record, Unread};
+use rules::{Primary, ReadReply, Reply};
 
 fn with_waiting(p: Primary, waiting: usize) -> Primary
     ensures { result ≡ with_waiting p waiting }
 {
-    let mut next = p;
-    next.waiting = waiting;
-    next
+    Primary { waiting, ..p }
 }
 
-// What a drain is refused with: 1.
-fn drain_refusal(p: Primary, stream: usize) -> u64
-    ensures { result ≡ drain_refusal p stream }
+// Whether a drain is refused: 1.
+#[tactic(auto, using(crate::proofs::RangeLaws::parts), unfolding(rules::specs::Stream::drain_refusal))]
+fn check_drain(p: Primary, stream: usize) -> Result<(), Refusal>
+    ensures { number_in result ≡ drain_refusal p stream }
 {
     let g = p.settings;
-    let d = p.detector;
-    let epoch = p.epoch;
-    let k = p.queue;
-    let q = g.q;
-    let l = g.l;
-    if !numbers_ok(
-        g,
-        d,
-        epoch,
-        p.acknowledged,
-        p.alone,
-        p.blocks,
-        p.records,
-        p.waiting,
-    ) {
-        return number::OUT_OF_RANGE;
+    if !numbers_ok(&p) || !queue::queue_ok(p.queue, p.epoch, g.q) || stream != g.l {
+        return Err(Refusal::OutOfRange);
     }
-    if !queue::queue_ok(k, epoch, q) {
-        return number::OUT_OF_RANGE;
-    }
-    if stream != l {
-        return number::OUT_OF_RANGE;
-    }
-    0
-}
-
-// The bytes that leave: the least of the three.
-fn drain_count(n: usize, waiting: usize, room: usize) -> usize
-    ensures { result ≡ min n (min waiting room) }
-{
-    let mut least = n;
-    if waiting < least {
-        least = waiting;
-    }
-    if room < least {
-        least = room;
-    }
-    least
+    Ok(())
 }
 
 // Copies the first count bytes of the stream to the destination, and moves the rest of those waiting to the front.
@@ -85,120 +50,89 @@ fn moved(stream: &mut [u8], number: u64, n: usize, waiting: usize, destination: 
     if number != 0 {
         return 0;
     }
-    let count = drain_count(n, waiting, destination.len());
+    let count = n.min(waiting.min(destination.len()));
     move_out(stream, count, waiting, destination);
     count
 }
 
 // Moves the first min(n, waiting, destination length) bytes out and reports how many. It returns at one place, accepted
 // or refused: so the compiler sees that the packets stay where they are (docs/BENCHMARKS.md).
-pub fn drain(p: Primary, stream: &mut [u8], n: usize, destination: &mut [u8]) -> PrimaryReply
+pub fn drain(p: Primary, stream: &mut [u8], n: usize, destination: &mut [u8]) -> Reply<Primary>
     ensures value { result ≡ drain_reply p (length stream.old) n (length destination.old) }
     ensures stream_after { stream.new ≡ drain_stream p stream.old n (length destination.old) }
     ensures destination_after { destination.new ≡ drain_destination p stream.old n destination.old }
 {
-    let waiting = p.waiting;
-    let number = drain_refusal(p, stream.len());
-    let count = moved(stream, number, n, waiting, destination);
-    let state = with_waiting(p, waiting - count);
-    PrimaryReply {
-        state: state,
-        number: number,
+    let number = number_in(check_drain(p, stream.len()));
+    let count = moved(stream, number, n, p.waiting, destination);
+    Reply {
+        state: with_waiting(p, p.waiting - count),
+        number,
         value: count as u64,
     }
 }
 
-// What an ACK of this epoch is refused with: 11.
-fn epoch_refusal(p: Primary, epoch: u32) -> u64
-    ensures { result ≡ refusal (ack_tests p epoch) }
+// Whether an ACK of this epoch is refused: 11.
+fn check_epoch(p: Primary, epoch: u32) -> Result<(), Refusal>
+    ensures { number_in result ≡ refusal (ack_tests p epoch) }
 {
-    let acknowledged = p.acknowledged;
-    let last = p.epoch;
-    if epoch <= acknowledged {
-        return number::BAD_ACK;
+    if epoch <= p.acknowledged || p.epoch <= epoch {
+        return Err(Refusal::BadAck);
     }
-    if last <= epoch {
-        return number::BAD_ACK;
-    }
-    0
+    Ok(())
 }
 
-// What a record that was read is refused with: 6 for other kinds, 11, or its own number.
-fn ack_refusal(p: Primary, r: Record) -> u64
-    ensures { result ≡ ack_refusal p r }
+// Whether a record that was read is refused: 6 for other kinds than an ACK, 11.
+fn check_ack(p: Primary, r: Record) -> Result<(), Refusal>
+    ensures { number_in result ≡ ack_refusal p (Ok r) }
 {
     match r {
-        Record::Ack { epoch, at: _ } => epoch_refusal(p, epoch),
-        _ => other_refusal(r),
+        Record::Ack { epoch, .. } => check_epoch(p, epoch),
+        Record::Page { .. } | Record::Block { .. } | Record::State { .. } | Record::Commit { .. } =>
+            Err(Refusal::BadKind),
     }
 }
 
 // The record at the head of the bytes where it is accepted, else cut short or the number.
-fn ack_judged(p: Primary, bytes: &[u8]) -> Record
+fn ack_judged(p: Primary, bytes: &[u8]) -> Result<Record, Unread>
     ensures { result ≡ ack_judged p bytes.now }
 {
-    let g = p.settings;
-    let u = g.u;
-    let alone = p.alone;
     if !primary_ok(p) {
-        return Record::Refused {
-            number: number::OUT_OF_RANGE,
-        };
+        return Err(Refusal::OutOfRange.into());
     }
-    if alone {
-        return Record::Refused {
-            number: number::WRONG_MODE,
-        };
+    if p.alone {
+        return Err(Refusal::WrongMode.into());
     }
-    let r = records::reading::read(Reader::Primary, u, bytes);
-    let n = ack_refusal(p, r);
-    if n != 0 {
-        return Record::Refused { number: n };
-    }
-    r
-}
-
-fn with_acknowledged_detector(p: Primary, acknowledged: u32, d: Detector) -> Primary
-    ensures { result ≡ with_acknowledged_detector p acknowledged d }
-{
-    let mut next = p;
-    next.acknowledged = acknowledged;
-    next.detector = d;
-    next
+    let r = records::reading::read(Reader::Primary, p.settings.u, bytes)?;
+    check_ack(p, r)?;
+    Ok(r)
 }
 
 // The state after a judged record: an ACK acknowledges all epochs up to its own, and the count returns to 0.
-fn ack_state(p: Primary, r: Record) -> Primary
+fn ack_state(p: Primary, r: Result<Record, Unread>) -> Primary
     ensures { result ≡ ack_state p r }
 {
-    let d = detector::reset(p.detector);
     match r {
-        Record::Ack { epoch, at: _ } => with_acknowledged_detector(p, epoch, d),
-        _ => p,
-    }
-}
-
-// What the judged record answers.
-fn answer_of(r: Record) -> Answer
-    ensures { result ≡ answer_of r }
-{
-    match r {
-        Record::Short { missing } => Answer::Short { missing },
-        Record::Refused { number } => Answer::Refused { number },
-        _ => Answer::Accepted {
-            value: value_of(r),
-            used: used_of(r),
+        Ok(Record::Ack { epoch, .. }) => Primary {
+            acknowledged: epoch,
+            detector: detector::reset(p.detector),
+            ..p
         },
+        Ok(Record::Page { .. })
+        | Ok(Record::Block { .. })
+        | Ok(Record::State { .. })
+        | Ok(Record::Commit { .. })
+        | Err(_) => p,
     }
 }
 
 // Reads an ACK: it acknowledges all epochs up to its own.
-pub fn acknowledge(p: Primary, bytes: &[u8]) -> PrimaryAnswer
+pub fn acknowledge(p: Primary, bytes: &[u8]) -> ReadReply<Primary>
     ensures value { result ≡ ack_reply p bytes.now }
     ensures answered { Answered (ack_judged p bytes.now) result.answer }
 {
     let r = ack_judged(p, bytes);
-    let state = ack_state(p, r);
-    let answer = answer_of(r);
-    PrimaryAnswer { state, answer }
+    ReadReply {
+        state: ack_state(p, r),
+        answer: replies::answer_of(r),
+    }
 }

@@ -1,46 +1,30 @@
 // The sum of the primary's memory (document 02, Job 11).
 ghost use Rattle.std.specs.Prelude.{◌≡◌};
+ghost use Rattle.records.specs.Number.{number_in};
 ghost use Rattle.rules.specs.Sums.{primary_sum_refusal, primary_sum_reply};
 
 use crate::ranges::primary_ok;
-use records::number;
-use rules::{Primary, PrimaryReply};
+use records::refusal::Refusal;
+use rules::{Primary, Reply};
 
-// What a sum is refused with: 1.
-fn sum_refusal(p: Primary, memory: usize) -> u64
-    ensures { result ≡ primary_sum_refusal p memory }
+// Whether a sum is refused: 1.
+#[tactic(auto, using(crate::proofs::RangeLaws::memory_fits), unfolding(rules::specs::Sums::primary_sum_refusal))]
+fn check_sum(p: Primary, memory: usize) -> Result<(), Refusal>
+    ensures { number_in result ≡ primary_sum_refusal p memory }
 {
-    let g = p.settings;
-    let u = g.u;
-    let m = g.m;
-    if !primary_ok(p) {
-        return number::OUT_OF_RANGE;
+    if !primary_ok(p) || memory != p.settings.m * p.settings.u {
+        return Err(Refusal::OutOfRange);
     }
-    if memory != m * u {
-        return number::OUT_OF_RANGE;
-    }
-    0
+    Ok(())
 }
 
 // The pages added in rising order; in any mode, and the state stays.
-pub fn sum(p: Primary, memory: &[u8]) -> PrimaryReply
+pub fn sum(p: Primary, memory: &[u8]) -> Reply<Primary>
     ensures { result ≡ primary_sum_reply p memory.now }
 {
+    if let Err(refusal) = check_sum(p, memory.len()) {
+        return replies::refused(p, refusal);
+    }
     let g = p.settings;
-    let u = g.u;
-    let m = g.m;
-    let number = sum_refusal(p, memory.len());
-    if number != 0 {
-        return PrimaryReply {
-            state: p,
-            number: number,
-            value: 0,
-        };
-    }
-    let value = sums::rising_sum(memory, u, m);
-    PrimaryReply {
-        state: p,
-        number: 0,
-        value: value,
-    }
+    replies::accepted(p, sums::rising_sum(memory, g.u, g.m))
 }

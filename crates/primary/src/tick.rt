@@ -1,83 +1,61 @@
 // The primary's tick.
 ghost use Rattle.std.specs.Prelude.{◌≡◌};
-ghost use Rattle.rules.specs.PrimaryState.{with_detector_alone_waiting};
+ghost use Rattle.records.specs.Number.{number_in};
 ghost use Rattle.rules.specs.PrimaryTick.{primary_tick_refusal, outstanding, alone_at, primary_tick_state, primary_tick_reply};
 
 use crate::ranges::primary_ok;
 use detector::Detector;
-use records::number;
-use rules::{Primary, PrimaryReply};
+use records::refusal::Refusal;
+use rules::{Primary, Reply};
 
-// What a tick is refused with: 1.
-fn tick_refusal(p: Primary) -> u64
-    ensures { result ≡ primary_tick_refusal p }
+// Whether a tick is refused: 1.
+#[tactic(auto, unfolding(rules::specs::PrimaryTick::primary_tick_refusal))]
+fn check_tick(p: Primary) -> Result<(), Refusal>
+    ensures { number_in result ≡ primary_tick_refusal p }
 {
     if !primary_ok(p) {
-        return number::OUT_OF_RANGE;
+        return Err(Refusal::OutOfRange);
     }
-    0
+    Ok(())
 }
 
 // Whether a closed epoch is unacknowledged.
 fn outstanding(p: Primary) -> bool
     ensures { result ≡ outstanding p }
 {
-    let acknowledged = p.acknowledged as u64;
-    let epoch = p.epoch as u64;
-    acknowledged + 1 < epoch
-}
-
-fn with_detector_alone_waiting(p: Primary, d: Detector, alone: bool, waiting: usize) -> Primary
-    ensures { result ≡ with_detector_alone_waiting p d alone waiting }
-{
-    let mut next = p;
-    next.detector = d;
-    next.alone = alone;
-    next.waiting = waiting;
-    next
+    (p.acknowledged as u64) + 1 < p.epoch as u64
 }
 
 // The state once the detector has ticked: at T the primary is alone, and the waiting stream is dropped.
-fn alone_at(p: Primary, d: Detector) -> Primary
-    ensures { result ≡ alone_at p d }
+fn alone_at(p: Primary, detector: Detector) -> Primary
+    ensures { result ≡ alone_at p detector }
 {
-    let waiting = p.waiting;
-    if detector::expired(d) {
-        return with_detector_alone_waiting(p, d, true, 0);
+    let alone = detector::expired(detector);
+    Primary {
+        detector,
+        alone,
+        waiting: if alone { 0 } else { p.waiting },
+        ..p
     }
-    with_detector_alone_waiting(p, d, false, waiting)
 }
 
 // Once alone, a tick changes nothing.
 fn tick_state(p: Primary) -> Primary
     ensures { result ≡ primary_tick_state p }
 {
-    let alone = p.alone;
-    let d = p.detector;
-    if alone {
+    if p.alone {
         return p;
     }
-    let counts = outstanding(p);
-    let next = detector::ticked_in_place(d, counts);
+    let next = detector::ticked_in_place(p.detector, outstanding(p));
     alone_at(p, next)
 }
 
 // Counts while a closed epoch is unacknowledged; at T the primary is alone.
-pub fn tick(p: Primary) -> PrimaryReply
+pub fn tick(p: Primary) -> Reply<Primary>
     ensures { result ≡ primary_tick_reply p }
 {
-    let number = tick_refusal(p);
-    if number != 0 {
-        return PrimaryReply {
-            state: p,
-            number: number,
-            value: 0,
-        };
+    if let Err(refusal) = check_tick(p) {
+        return replies::refused(p, refusal);
     }
-    let state = tick_state(p);
-    PrimaryReply {
-        state: state,
-        number: 0,
-        value: 0,
-    }
+    replies::accepted(tick_state(p), 0)
 }

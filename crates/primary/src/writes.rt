@@ -4,40 +4,40 @@ ghost use Rattle.lists.specs.Part.{put};
 ghost use Rattle.lists.specs.Select.{is_in};
 ghost use Rattle.lists.specs.Page.{with_page};
 ghost use Rattle.records.specs.Write.{block_record};
+ghost use Rattle.records.specs.Number.{number_in};
 ghost use Rattle.settings.specs.Range.{most_allowance};
 ghost use Rattle.rules.specs.Blocks.{block_allowed};
 ghost use Rattle.rules.specs.PrimaryState.{primary_ok, is_written};
 ghost use Rattle.rules.specs.PrimaryWrites.{memory_write_refusal, memory_write_reply, memory_write_memory, memory_write_dirty, disk_write_refusal, with_block_appended, disk_write_state, disk_write_reply, disk_write_disk, disk_write_stream};
 
 use crate::ranges::{memory_ok, primary_ok};
-use records::{UNIT_RECORD, number};
-use rules::{Primary, PrimaryReply};
+use records::UNIT_RECORD;
+use records::refusal::Refusal;
+use rules::{Primary, Reply};
 use settings::{MOST_ALLOWANCE, MOST_RECORDS};
 
-// What a memory write is refused with: 1 2 3.
-fn memory_write_refusal(
+// Whether a memory write is refused: 1 2 3.
+#[tactic(auto, unfolding(rules::specs::PrimaryWrites::memory_write_refusal))]
+fn check_memory_write(
     p: Primary,
     memory: usize,
     dirty: usize,
     page: usize,
     offset: usize,
     n: usize,
-) -> u64
-    ensures { result ≡ memory_write_refusal p memory dirty page offset n }
+) -> Result<(), Refusal>
+    ensures { number_in result ≡ memory_write_refusal p memory dirty page offset n }
 {
-    let g = p.settings;
-    let u = g.u;
-    let m = g.m;
     if !memory_ok(p, memory, dirty) {
-        return number::OUT_OF_RANGE;
+        return Err(Refusal::OutOfRange);
     }
-    if m <= page {
-        return number::NO_SUCH_UNIT;
+    if p.settings.m <= page {
+        return Err(Refusal::NoSuchUnit);
     }
-    if !pages::inside_page(u, offset, n) {
-        return number::BAD_SIZE;
+    if !pages::inside_page(p.settings.u, offset, n) {
+        return Err(Refusal::BadSize);
     }
-    0
+    Ok(())
 }
 
 // Writes 1 to U bytes inside one page, which becomes dirty even if its bytes are equal.
@@ -48,29 +48,24 @@ pub fn memory_write(
     page: usize,
     offset: usize,
     bytes: &[u8],
-) -> PrimaryReply
+) -> Reply<Primary>
     ensures value { result ≡ memory_write_reply p (length memory.old) (length dirty.old) page offset (length bytes.now) }
     ensures memory_after { memory.new ≡ memory_write_memory p memory.old dirty.old page offset bytes.now }
     ensures dirty_after { dirty.new ≡ memory_write_dirty p memory.old dirty.old page offset bytes.now }
 {
-    let g = p.settings;
-    let u = g.u;
-    let epoch = p.epoch;
-    let number = memory_write_refusal(p, memory.len(), dirty.len(), page, offset, bytes.len());
-    if number != 0 {
-        return PrimaryReply {
-            state: p,
-            number: number,
-            value: 0,
-        };
+    if let Err(refusal) = check_memory_write(
+        p,
+        memory.len(),
+        dirty.len(),
+        page,
+        offset,
+        bytes.len(),
+    ) {
+        return replies::refused(p, refusal);
     }
-    pages::write(memory, u, page, offset, bytes);
+    pages::write(memory, p.settings.u, page, offset, bytes);
     marks::mark(dirty, page);
-    PrimaryReply {
-        state: p,
-        number: 0,
-        value: epoch as u64,
-    }
+    replies::accepted(p, p.epoch as u64)
 }
 
 // Whether a block is among the first n of these numbers.
@@ -78,71 +73,55 @@ fn is_in(numbers: [u16; MOST_ALLOWANCE], n: usize, block: usize) -> bool
     requires { n ≤ most_allowance }
     ensures { result ≡ is_in block (take n numbers) }
 {
-    let mut i = 0;
-    while i < n {
-        if numbers[i] as usize == block {
+    for number in &numbers[..n] {
+        if *number as usize == block {
             return true;
         }
-        i += 1;
     }
     false
 }
 
 // Whether the open epoch may have this block: not where it has 65,535 BLOCK records, nor where it has B different
 // blocks and this is another one.
+#[tactic(auto, using(crate::proofs::RangeLaws::blocks_within))]
 fn block_allowed(p: Primary, block: usize) -> bool
     requires { primary_ok p ≡ true }
     ensures { result ≡ block_allowed (is_written p block) p.settings.b p.blocks p.records }
 {
-    let g = p.settings;
-    let b = g.b;
-    let blocks = p.blocks;
-    let records = p.records;
-    let numbers = p.numbers;
-    if MOST_RECORDS <= records {
-        return false;
-    }
-    if blocks < b {
-        return true;
-    }
-    is_in(numbers, blocks, block)
+    p.records < MOST_RECORDS && (p.blocks < p.settings.b || is_in(p.numbers, p.blocks, block))
 }
 
-// What a disk write is refused with: 1 2 3 14 15; alone neither 14 nor 15.
-fn disk_write_refusal(p: Primary, disk: usize, stream: usize, block: usize, n: usize) -> u64
-    ensures { result ≡ disk_write_refusal p disk stream block n }
+// Whether a disk write is refused: 1 2 3 14 15; alone neither 14 nor 15.
+#[tactic(auto, using(crate::proofs::RangeLaws::disk_fits, crate::proofs::RangeLaws::unit_high, crate::proofs::RangeLaws::waiting_high), unfolding(rules::specs::PrimaryWrites::disk_write_refusal, records::specs::Kind::record_length, records::specs::Kind::body_length))]
+fn check_disk_write(
+    p: Primary,
+    disk: usize,
+    stream: usize,
+    block: usize,
+    n: usize,
+) -> Result<(), Refusal>
+    ensures { number_in result ≡ disk_write_refusal p disk stream block n }
 {
     let g = p.settings;
-    let alone = p.alone;
-    let waiting = p.waiting;
-    let u = g.u;
-    let d = g.d;
-    let l = g.l;
-    if !primary_ok(p) {
-        return number::OUT_OF_RANGE;
+    if !primary_ok(p) || disk != g.d * g.u || stream != g.l {
+        return Err(Refusal::OutOfRange);
     }
-    if disk != d * u {
-        return number::OUT_OF_RANGE;
+    if g.d <= block {
+        return Err(Refusal::NoSuchUnit);
     }
-    if stream != l {
-        return number::OUT_OF_RANGE;
+    if n != g.u {
+        return Err(Refusal::BadSize);
     }
-    if d <= block {
-        return number::NO_SUCH_UNIT;
-    }
-    if n != u {
-        return number::BAD_SIZE;
-    }
-    if alone {
-        return 0;
+    if p.alone {
+        return Ok(());
     }
     if !block_allowed(p, block) {
-        return number::ALLOWANCE_USED;
+        return Err(Refusal::AllowanceUsed);
     }
-    if l < waiting + (u + UNIT_RECORD) {
-        return number::STREAM_FULL;
+    if g.l < p.waiting + (g.u + UNIT_RECORD) {
+        return Err(Refusal::StreamFull);
     }
-    0
+    Ok(())
 }
 
 // The bytes as the block of this number.
@@ -150,8 +129,7 @@ fn write_disk(disk: &mut [u8], u: usize, block: usize, bytes: &[u8])
     requires { block * u + length bytes.now ≤ length disk.old }
     ensures { disk.new ≡ with_page u disk.old block bytes.now }
 {
-    let at = block * u;
-    lists::copy_into(disk, at, bytes);
+    lists::copy_into(disk, block * u, bytes);
 }
 
 // A BLOCK into the free end of the outgoing buffer; alone nothing.
@@ -178,21 +156,14 @@ fn with_block_appended(p: Primary, block: usize) -> Primary
     requires { (primary_ok p ≡ true) × (block < 2 ^ 16) × (block_allowed (is_written p block) p.settings.b p.blocks p.records ≡ true) }
     ensures { result ≡ with_block_appended p block }
 {
-    let g = p.settings;
-    let u = g.u;
-    let blocks = p.blocks;
-    let records = p.records;
-    let waiting = p.waiting;
-    let numbers = p.numbers;
-    let again = is_in(numbers, blocks, block);
     let mut next = p;
-    next.records = records + 1;
-    next.waiting = waiting + (u + UNIT_RECORD);
-    if again {
+    next.records += 1;
+    next.waiting += p.settings.u + UNIT_RECORD;
+    if is_in(p.numbers, p.blocks, block) {
         return next;
     }
-    next.numbers[blocks] = block as u16;
-    next.blocks = blocks + 1;
+    next.numbers[p.blocks] = block as u16;
+    next.blocks += 1;
     next
 }
 
@@ -201,8 +172,7 @@ fn disk_write_state(p: Primary, block: usize) -> Primary
     requires { (primary_ok p ≡ true) × (block < 2 ^ 16) × (p.alone ≡ false → block_allowed (is_written p block) p.settings.b p.blocks p.records ≡ true) }
     ensures { result ≡ disk_write_state p block }
 {
-    let alone = p.alone;
-    if alone {
+    if p.alone {
         return p;
     }
     with_block_appended(p, block)
@@ -215,30 +185,15 @@ pub fn disk_write(
     stream: &mut [u8],
     block: usize,
     bytes: &[u8],
-) -> PrimaryReply
+) -> Reply<Primary>
     ensures value { result ≡ disk_write_reply p (length disk.old) (length stream.old) block (length bytes.now) }
     ensures disk_after { disk.new ≡ disk_write_disk p disk.old stream.old block bytes.now }
     ensures stream_after { stream.new ≡ disk_write_stream p disk.old stream.old block bytes.now }
 {
-    let g = p.settings;
-    let epoch = p.epoch;
-    let alone = p.alone;
-    let waiting = p.waiting;
-    let u = g.u;
-    let number = disk_write_refusal(p, disk.len(), stream.len(), block, bytes.len());
-    if number != 0 {
-        return PrimaryReply {
-            state: p,
-            number: number,
-            value: 0,
-        };
+    if let Err(refusal) = check_disk_write(p, disk.len(), stream.len(), block, bytes.len()) {
+        return replies::refused(p, refusal);
     }
-    write_disk(disk, u, block, bytes);
-    append_block(stream, alone, waiting, epoch, block, bytes);
-    let state = disk_write_state(p, block);
-    PrimaryReply {
-        state: state,
-        number: 0,
-        value: epoch as u64,
-    }
+    write_disk(disk, p.settings.u, block, bytes);
+    append_block(stream, p.alone, p.waiting, p.epoch, block, bytes);
+    replies::accepted(disk_write_state(p, block), p.epoch as u64)
 }

@@ -1,109 +1,63 @@
--- The search for a port's oldest packet, one packet after the other: what was found among those passed, and what among
--- all. Assumes nothing.
-use mathlib.Core.Path.{◌≡◌, refl, sym, ap, ap₂, ◌∙◌}
-use mathlib.Core.Bool.{Bool, true, false, true≢false, cond, ◌||◌, not}
-use mathlib.Core.Logic.{⊎_elim}
-use mathlib.Core.List.{List, [], ◌∷◌, ◌++◌}
-use Prim.Native.Nat.{ℕ, ◌+◌, ◌≤◌, ◌<◌, min}
-use native.Mathlib.Numerals.{add-one}
-use native.Mathlib.Omega.{arith}
-use lib.Dec.{eqb}
-use lib.ListN.{length, take, get_or}
-use lib.Seq.{take-suc, length-take-le}
+-- The search for a port's oldest packet: a packet that is passed, the one that is found, and what it is among those of
+-- a queue. Assumes nothing.
+use Rattle.std.proofs.Common.{◌≡◌, ℕ, ◌+◌, ◌<◌, ◌≤◌, min, true, false, Option, Some, None, is_some, List, ◌∷◌, length, take, drop, get_or, sym, ap, ◌∙◌, arith, add-one}
+use lib.ListN.{drop_of_length-le}
+use lib.Seq.{take-suc, drop-cons, take-take, length-take-le}
 use borrow.Author.Tests.{lt-ltb, le-ltb}
 use Rattle.lists.specs.Select.{place_of}
-use Rattle.lists.proofs.TestLaws.{by-test}
-use Rattle.lists.proofs.SelectLaws.{place-yes, place-no, place_none, place_kept, place-behind}
+use Rattle.lists.proofs.SelectLaws.{place-yes, place-no, place_none}
 use Rattle.settings.specs.Range.{most_packets}
 use Rattle.queue.specs.declared.Packet.{Packet}
 use Rattle.queue.specs.declared.Queue.{Queue}
 use Rattle.queue.specs.declared.Place.{Place}
 use Rattle.queue.specs.Held.{no_packet, is_of_port, oldest_at, has_packet, sum_lengths, bytes_before}
-use Rattle.queue.specs.Seen.{no_place, place_with}
+use Rattle.queue.specs.Seen.{IsFirstOf}
+use Rattle.queue.proofs.PacketLaws.{sum_more}
 
--- a packet more: what was found stays, another port's is passed, the first of the port is found
-module _ (s : Place) (wanted port at before : ℕ) where
-  abbrev new : Place
-  new = record { at = at; before = before; found = true }
-
-  pub place_found : s.found ≡ true → place_with s wanted port at before ≡ s
-  unfolding place_with
-  place_found f = ap (λ (b : Bool). cond (b || not (eqb port wanted)) s new) f
-
-  pub place-passed : s.found ≡ false → eqb port wanted ≡ false → place_with s wanted port at before ≡ s
-  unfolding place_with
-  place-passed f e = ap₂ (λ (b c : Bool). cond (b || not c) s new) f e
-
-  pub place-new : s.found ≡ false → eqb port wanted ≡ true → place_with s wanted port at before ≡ record { at = at; before = before; found = true }
-  unfolding place_with
-  place-new f e = ap₂ (λ (b c : Bool). cond (b || not c) s new) f e
-
--- what was found among the first i packets
-pub record Placed (port : ℕ) (ps : List Packet) (s : Place) (i : ℕ) : Type 0 where
-  pub none : s.found ≡ false → (s.at ≡ 0) × (place_of (is_of_port port) (take i ps) ≡ i)
-  pub some : s.found ≡ true → (s.at < i) × (s.at ≡ place_of (is_of_port port) (take i ps)) × (s.before ≡ sum_lengths (take s.at ps))
-
-pub placed-none : (port : ℕ) (ps : List Packet) (s : Place) → s ≡ no_place → Placed port ps s 0
-unfolding place_of
-placed-none port ps s e = rw e (record { none = λ f. (refl, refl); some = λ f. absurd (true≢false (sym f)) })
-
--- one packet more
-module _ (port : ℕ) (ps : List Packet) (s : Place) (i : ℕ) (w : Placed port ps s i) (h : i < length ps) where
-  abbrev next : Packet
+module _ (port : ℕ) (ps : List Packet) (i : ℕ) where
+  abbrev pub next : Packet
   next = get_or ps i no_packet
 
-  more : take (i + 1) ps ≡ take i ps ++ (next ∷ [])
-  more = ap (λ (n : ℕ). take n ps) (add-one i) ∙ take-suc ps i no_packet h
+  abbrev place : ℕ → ℕ
+  place at = at + place_of (is_of_port port) (drop at ps)
 
-  many : length (take i ps) ≡ i
-  many = length-take-le i ps (omega arith)
+  cons : i < length ps → drop i ps ≡ next ∷ drop (i + 1) ps
+  cons h = rw (drop-cons ps i no_packet h, ← add-one i)
 
-  stays : s.found ≡ true → Placed port ps s (i + 1)
-  stays f =
-      let g = w.some f in
-      record {
-        none = λ x. absurd (true≢false (sym f ∙ x));
-        some = λ x. (omega arith, g.1 ∙ sym (ap (place_of (is_of_port port)) more ∙ place_kept (is_of_port port) (take i ps) (next ∷ []) (omega (arith, many))), g.2);
-      }
+  pub first-passed : i < length ps → is_of_port port next ≡ false → place i ≡ place (i + 1)
+  first-passed h e = ap (λ (r : List Packet). i + place_of (is_of_port port) r) (cons h) ∙ omega (arith, place-no (is_of_port port) next (drop (i + 1) ps) e)
 
-  behind : s.found ≡ false → place_of (is_of_port port) (take (i + 1) ps) ≡ i + place_of (is_of_port port) (next ∷ [])
-  behind f = ap (place_of (is_of_port port)) more ∙ place-behind (is_of_port port) (take i ps) (next ∷ []) ((w.none f).1 ∙ sym many) ∙ ap (λ (n : ℕ). n + place_of (is_of_port port) (next ∷ [])) many
+  pub first-found : i < length ps → is_of_port port next ≡ true → place i ≡ i
+  first-found h e = ap (λ (r : List Packet). i + place_of (is_of_port port) r) (cons h) ∙ omega (arith, place-yes (is_of_port port) next (drop (i + 1) ps) e)
 
-  pub placed-next : (bytes : ℕ) → bytes ≡ sum_lengths (take i ps) → (r : Place) → r ≡ place_with s port next.port i bytes → Placed port ps r (i + 1)
-  placed-next bytes sum r e =
-      ⊎_elim
-      (λ (f : s.found ≡ true). rw (e ∙ place_found s port next.port i bytes f) (stays f))
-      (λ (f : s.found ≡ false).
-      ⊎_elim
-      (λ (y : is_of_port port next ≡ true).
-      rw (e ∙ place-new s port next.port i bytes f y)
-      (record { none = λ x. absurd (true≢false x); some = λ x. (omega arith, sym (behind f ∙ omega (arith, place-yes (is_of_port port) next [] y)), sum) }))
-      (λ (y : is_of_port port next ≡ false).
-      rw (e ∙ place-passed s port next.port i bytes f y)
-      (record { none = λ x. ((w.none f).0, behind f ∙ omega (arith, place-no (is_of_port port) next [] y, place_none (is_of_port port))); some = λ x. absurd (true≢false (sym x ∙ f)) }))
-      (by-test (is_of_port port next)))
-      (by-test s.found)
+  pub first-none : length ps ≤ i → place i ≡ i
+  first-none h = ap (λ (r : List Packet). i + place_of (is_of_port port) r) (drop_of_length-le ps h) ∙ omega (arith, place_none (is_of_port port))
 
--- the entry is one of the array, found or not
-pub placed-low : (port : ℕ) (ps : List Packet) (s : Place) (i n : ℕ) → Placed port ps s i → i ≤ n → 0 < n → s.at < n
-placed-low port ps s i n w h l = ⊎_elim (λ f. omega (arith, (w.some f).0)) (λ f. omega (arith, (w.none f).0)) (by-test s.found)
+  pub bytes-more : i < length ps → sum_lengths (take (i + 1) ps) ≡ sum_lengths (take i ps) + next.length
+  bytes-more h = ap (λ (n : ℕ). sum_lengths (take n ps)) (add-one i) ∙ ap sum_lengths (take-suc ps i no_packet h) ∙ sum_more (take i ps) next
 
 -- ---- among all packets of a queue in range
-pub record Found (k : Queue) (port : ℕ) (s : Place) : Type 0 where
-  pub found-is : s.found ≡ has_packet k port
-  pub at-is : s.found ≡ true → s.at ≡ oldest_at k port
-  pub before-is : s.found ≡ true → s.before ≡ bytes_before k (oldest_at k port)
+pub record Found (k : Queue) (port : ℕ) (s : Option Place) : Type 0 where
+  pub found-is : is_some s ≡ has_packet k port
+  pub at-is : (x : Place) → s ≡ Some x → x.at ≡ oldest_at k port
+  pub before-is : (x : Place) → s ≡ Some x → x.before ≡ bytes_before k (oldest_at k port)
 
-pub placed-all : (k : Queue) (port n : ℕ) (s : Place) (i : ℕ) → n ≡ min k.count most_packets → k.count ≤ most_packets → i ≤ n → (i < n → ⊥)
-    → Placed port k.packets s i → Found k port s
-placed-all k port n s i e few passed last w =
-    let is : i ≡ k.count = omega arith in
-    let f : (s.found ≡ true) → s.at ≡ oldest_at k port = λ y. (w.some y).1 ∙ ap (λ (m : ℕ). place_of (is_of_port port) (take m k.packets)) is in
+pub first-all : (k : Queue) (port n : ℕ) (s : Option Place) → n ≡ min k.count most_packets → length k.packets ≡ most_packets → IsFirstOf port (take n k.packets) s → k.count ≤ most_packets → Found k port s
+first-all k port n None e array w few =
+    let is : n ≡ k.count = omega arith in
+    let none : oldest_at k port ≡ k.count = ap (λ (m : ℕ). place_of (is_of_port port) (take m k.packets)) (sym is) ∙ w ∙ length-take-le n k.packets (omega arith) ∙ is in
     record {
-      found-is = ⊎_elim
-          (λ y. y ∙ sym (lt-ltb (oldest_at k port) k.count (omega (arith, (w.some y).0, f y))))
-          (λ y. y ∙ sym (le-ltb (oldest_at k port) k.count (omega (arith, (w.none y).1, ap (λ (m : ℕ). place_of (is_of_port port) (take m k.packets)) is))))
-          (by-test s.found);
-      at-is = f;
-      before-is = λ y. (w.some y).2 ∙ ap (λ (m : ℕ). sum_lengths (take m k.packets)) (f y);
+      found-is = sym (le-ltb (oldest_at k port) k.count (omega arith));
+      at-is = λ x y. cc;
+      before-is = λ x y. cc;
+    }
+first-all k port n (Some s) e array w few =
+    let is : n ≡ k.count = omega arith in
+    let low : s.at < n = omega (arith, w.0, length-take-le n k.packets (omega arith)) in
+    let there : s.at ≡ oldest_at k port = w.1 ∙ ap (λ (m : ℕ). place_of (is_of_port port) (take m k.packets)) is in
+    let before : s.before ≡ bytes_before k (oldest_at k port) = w.2 ∙ ap sum_lengths (take-take s.at n k.packets (omega arith)) ∙ ap (bytes_before k) there in
+    record {
+      found-is = sym (lt-ltb (oldest_at k port) k.count (omega arith));
+      at-is = λ x y. cc;
+      before-is = λ x y. cc;
     }

@@ -1,11 +1,11 @@
 // The held packets.
 #![tactic(auto)]
 
-ghost use Rattle.std.specs.Prelude.{◌≡◌, ◌&&◌, ◌+◌, ◌^◌, ◌≤◌, ◌<◌, min, leb, length};
+ghost use Rattle.std.specs.Prelude.{◌≡◌, ◌+◌, ◌≤◌, length};
 ghost use Rattle.lists.specs.Part.{part, put, removed};
 ghost use Rattle.settings.specs.Range.{most_packets};
 ghost use Rattle.queue.specs.Held.{packet_ok, queue_ok, has_space};
-ghost use Rattle.queue.specs.Seen.{none_seen, seen_with, seen_ok, no_place, place_with};
+ghost use Rattle.queue.specs.Seen.{seen_of, seen_ok, IsFirstOf};
 
 use settings::{MOST_PACKET_BYTES, MOST_PACKETS, MOST_PORT};
 
@@ -22,7 +22,9 @@ pub struct Packet {
     pub port: u16,
 }
 
-// The packets in the order in which they came: how many, their bytes together, and each of them. Their bytes stand in the lent buffer, one after the other.
+// The packets in the order in which they came: how many, their bytes together, and each of them. Their bytes stand in
+// the lent buffer, one after the other.
+// A count beside the array, not a vector: one above 64 can be handed over in words, and is refused (`queue_ok`).
 #[derive(Clone, Copy)]
 pub struct Queue {
     pub count: usize,
@@ -30,175 +32,93 @@ pub struct Queue {
     pub packets: [Packet; MOST_PACKETS],
 }
 
-// A packet's length, in the width of the other counts of bytes.
-pub fn size(n: u16) -> usize
-    ensures { result ≡ n }
-{
-    n as usize
-}
-
-// What was seen of the first packets: the epoch of the last of them, their bytes together, and whether their lengths
-// and ports were in range and no epoch fell.
-#[derive(Clone, Copy)]
+// What was seen of the first packets, all in range: the epoch of the last of them, and their bytes together. Of none
+// seen both are 0.
+#[derive(Clone, Copy, Default)]
 pub struct Seen {
     pub epoch: u32,
     pub bytes: usize,
-    pub ok: bool,
 }
 
-pub fn none_seen() -> Seen
-    ensures { result ≡ none_seen }
+// Whether a packet's own numbers are in their ranges.
+fn packet_ok(p: Packet) -> bool
+    ensures { result ≡ packet_ok p.length p.port }
 {
-    Seen {
-        epoch: 0,
-        bytes: 0,
-        ok: true,
-    }
+    (1 <= p.length) & (p.length <= MOST_LENGTH) & (p.port <= LAST_PORT)
 }
 
-// Whether the packets before were in their ranges and the next one is: its length, its port, and its epoch, which must
-// not be below that of the one before.
-fn follows(s: Seen, epoch: u32, n: u16, port: u16) -> bool
-    ensures { result ≡ (s.ok && packet_ok n port && leb s.epoch epoch) }
+// What is seen of these packets: nothing where one is out of its ranges, or its epoch below that of the one before.
+// All are looked at, whatever the first ones say: so the compiler takes several at once.
+pub fn seen_of(packets: &[Packet]) -> Option<Seen>
+    requires { length packets.now ≤ most_packets }
+    ensures { result ≡ seen_of packets.now }
 {
-    let low = s.epoch;
-    let ok = s.ok;
-    if !ok {
-        return false;
+    let mut ok = true;
+    let mut epoch = 0;
+    let mut bytes = 0;
+    for packet in packets {
+        ok &= packet_ok(*packet) & (epoch <= packet.epoch);
+        epoch = packet.epoch;
+        bytes += usize::from(packet.length);
     }
-    if n < 1 {
-        return false;
+    if ok {
+        Some(Seen { epoch, bytes })
+    } else {
+        None
     }
-    if MOST_LENGTH < n {
-        return false;
-    }
-    if LAST_PORT < port {
-        return false;
-    }
-    if epoch < low {
-        return false;
-    }
-    true
 }
 
-// One packet more.
-pub fn seen_with(s: Seen, epoch: u32, n: u16, port: u16) -> Seen
-    requires { s.bytes < 2 ^ 63 }
-    ensures value { result ≡ seen_with s epoch n port }
-    ensures bytes_bound { result.bytes < s.bytes + 2 ^ 32 }
+// Whether a queue of this count and these bytes is in its ranges, by what was seen of its packets, with this epoch open
+// and room for q bytes (document 01, number 1).
+#[tactic(auto, unfolding(crate::specs::Seen::seen_ok))]
+pub fn seen_ok(seen: Option<Seen>, count: usize, bytes: usize, epoch: u32, q: usize) -> bool
+    ensures { result ≡ seen_ok seen count bytes epoch q }
 {
-    let bytes = s.bytes;
-    let ok = follows(s, epoch, n, port);
-    Seen {
-        epoch: epoch,
-        bytes: bytes + n as usize,
-        ok: ok,
+    match seen {
+        None => false,
+        Some(s) => {
+            (count <= MOST_PACKETS) & (s.bytes == bytes) & (bytes <= q) & (s.epoch <= epoch)
+        }
     }
 }
 
-// How many packets are looked at: none past the last entry.
-pub fn looked_at(count: usize) -> usize
-    ensures { result ≡ min count most_packets }
-{
-    if MOST_PACKETS < count {
-        return MOST_PACKETS;
-    }
-    count
-}
-
-// Whether a queue of this count and these bytes is in its ranges, by what was seen of its packets, with this epoch open and room for q bytes (document 01, number 1).
-pub fn seen_ok(s: Seen, count: usize, bytes: usize, epoch: u32, q: usize) -> bool
-    ensures { result ≡ seen_ok s count bytes epoch q }
-{
-    let seen = s.bytes;
-    let last = s.epoch;
-    let ok = s.ok;
-    if MOST_PACKETS < count {
-        return false;
-    }
-    if !ok {
-        return false;
-    }
-    if seen != bytes {
-        return false;
-    }
-    if q < bytes {
-        return false;
-    }
-    if epoch < last {
-        return false;
-    }
-    true
-}
-
-// Whether the queue is in its ranges. A call that goes on to change the queue has this loop itself, over the array that it changes: handed on by value, the array is copied.
+// Whether the queue is in its ranges. A call that goes on to change the queue looks at its packets itself, in the array
+// that it changes: handed on by value, the array is copied.
 pub fn queue_ok(k: Queue, epoch: u32, q: usize) -> bool
     ensures { result ≡ queue_ok k epoch q }
 {
-    let count = k.count;
-    let bytes = k.bytes;
-    let packets = k.packets;
-    let looked = looked_at(count);
-    let mut seen = none_seen();
-    let mut i = 0;
-    while i < looked {
-        seen = seen_with(seen, packets[i].epoch, packets[i].length, packets[i].port);
-        i += 1;
-    }
-    seen_ok(seen, count, bytes, epoch, q)
+    let seen = seen_of(&k.packets[..k.count.min(MOST_PACKETS)]);
+    seen_ok(seen, k.count, k.bytes, epoch, q)
 }
 
-// Where the first packet of a port stands among those looked at, and how many bytes are before its own; 0 and 0 where
-// there is none.
-#[derive(Clone, Copy)]
+// Where the first packet of a port stands among those looked at, and how many bytes are before its own; by default both
+// are 0.
+#[derive(Clone, Copy, Default)]
 pub struct Place {
     pub at: usize,
     pub before: usize,
-    pub found: bool,
 }
 
-pub fn no_place() -> Place
-    ensures { result ≡ no_place }
+// The place of the first of these packets that is of a port.
+pub fn first_of(packets: &[Packet], port: usize) -> Option<Place>
+    requires { length packets.now ≤ most_packets }
+    ensures { IsFirstOf port packets.now result }
 {
-    Place {
-        at: 0,
-        before: 0,
-        found: false,
+    let mut before = 0;
+    for (at, packet) in packets.iter().enumerate() {
+        if usize::from(packet.port) == port {
+            return Some(Place { at, before });
+        }
+        before += usize::from(packet.length);
     }
-}
-
-// One packet more, which stands at a place behind some bytes.
-pub fn place_with(s: Place, wanted: usize, port: u16, at: usize, before: usize) -> Place
-    ensures { result ≡ place_with s wanted port at before }
-{
-    // one test and no branch on the port alone: with none or one held a packet and a take are faster by a third
-    let passed = s.found | (port as usize != wanted);
-    if passed {
-        return s;
-    }
-    Place {
-        at: at,
-        before: before,
-        found: true,
-    }
+    None
 }
 
 // Whether a packet of n bytes can be held: no sum is made, so none can wrap.
 pub fn has_space(k: Queue, q: usize, n: usize) -> bool
     ensures { result ≡ has_space k q n }
 {
-    let count = k.count;
-    let bytes = k.bytes;
-    if MOST_PACKETS <= count {
-        return false;
-    }
-    if q < bytes {
-        return false;
-    }
-    if q - bytes < n {
-        return false;
-    }
-    true
+    k.count < MOST_PACKETS && k.bytes <= q && n <= q - k.bytes
 }
 
 // Of the bytes held, copies the n from at on to the head of the destination, and closes up those behind them.

@@ -1,6 +1,7 @@
 -- Laws of the record area: what it reads as, and what all zero means. Assumes nothing.
 use mathlib.Core.Path.{◌≡◌, refl, sym, ap, ◌∙◌}
-use mathlib.Core.Bool.{true, false}
+use mathlib.Core.Bool.{Bool, true, false, ◌&&◌}
+use Rattle.std.specs.List.{list_all}
 use mathlib.Core.List.{List, [], ◌∷◌}
 use Prim.Native.Nat.{ℕ, zero, suc, ◌^◌, ◌<◌}
 use native.Mathlib.Omega.{arith}
@@ -22,6 +23,12 @@ unfolding all_zero
 all-zero-at [] e i = refl
 all-zero-at (b ∷ s) e zero = eqb-true b 0 (both (eqb b 0) (all_zero s) e).0
 all-zero-at (b ∷ s) e (suc i) = all-zero-at s (both (eqb b 0) (all_zero s) e).1 i
+
+-- by std's word for a test of each element
+pub all_zero-list : (s : List ℕ) → all_zero s ≡ list_all (λ (b : ℕ). eqb b 0) s
+unfolding all_zero
+all_zero-list [] = refl
+all_zero-list (b ∷ s) = ap (λ (rest : Bool). eqb b 0 && rest) (all_zero-list s)
 
 pub all-zero-replicate : (n : ℕ) → all_zero (replicate n 0) ≡ true
 unfolding all_zero

@@ -1,4 +1,5 @@
 -- Laws of framed records: what is framed is read back, a first part of it is cut short, and its fields. Assumes nothing.
+use Rattle.std.specs.Prelude.{Err}
 use mathlib.Core.Path.{◌≡◌, sym, ap, ◌∙◌}
 use mathlib.Core.Bool.{true}
 use mathlib.Core.Logic.{⊎_elim}
@@ -12,7 +13,7 @@ use Rattle.lists.specs.LittleEndian.{le_bytes, le_at}
 use Rattle.lists.proofs.TestLaws.{lt-or-ge}
 use Rattle.lists.proofs.LittleEndianLaws.{le_at-le_bytes, le_at-append, le_at-skip, le_at-take}
 use Rattle.records.specs.declared.Reader.{Reader}
-use Rattle.records.specs.declared.Record.TheVariants.{Short}
+use Rattle.records.specs.declared.Unread.TheVariants.{Short}
 use Rattle.records.specs.Kind.{unit_ok, body_length, record_length, is_for}
 use Rattle.records.specs.Read.{fields_of, read_record}
 use Rattle.records.specs.Missing.{missing_from}
@@ -55,7 +56,7 @@ module _ (reader : Reader) (u kind : ℕ) (body : List ℕ) (f : Framed reader u
       ∙ ap (λ (k : ℕ). fields_of u k s) (kind_at rest)
 
   -- any first part of it is cut short, by what is missing of its header or its body
-  pub frame-short : (n : ℕ) (rest : List ℕ) → n < length (frame kind body) → read_record reader u (take n (frame kind body ++ rest)) ≡ Short (missing_from (length (frame kind body)) n)
+  pub frame-short : (n : ℕ) (rest : List ℕ) → n < length (frame kind body) → read_record reader u (take n (frame kind body ++ rest)) ≡ Err (Short (missing_from (length (frame kind body)) n))
   unfolding record_length
   frame-short n rest h =
       let s = frame kind body ++ rest in
@@ -63,15 +64,15 @@ module _ (reader : Reader) (u kind : ℕ) (body : List ℕ) (f : Framed reader u
       let whole : length s ≡ 4 + length body + length rest = simp (length-append, length-frame) in
       let len : length (take n s) ≡ n = length-take-le n s (omega arith) in
       ⊎_elim
-      (λ (c : n < 4). read-no-header reader u (take n s) f.unit (omega arith) ∙ ap (λ (m : ℕ). Short (4 - m)) len ∙ sym (ap Short (rw (lt-leb 4 n c))))
+      (λ (c : n < 4). read-no-header reader u (take n s) f.unit (omega arith) ∙ ap (λ (m : ℕ). Err (Short (4 - m))) len ∙ sym (ap (λ (n : ℕ). Err (Short n)) (rw (lt-leb 4 n c))))
       (λ (c : 4 ≤ n).
       let l0 : le_at 2 (take n s) 0 ≡ length body = le_at-take 2 0 n s (omega arith) ∙ length_at rest in
       let l2 : le_at 2 (take n s) 2 ≡ kind = le_at-take 2 2 n s (omega arith) ∙ kind_at rest in
       let b : length (take n s) < record_length u kind = omega (arith, f.size) in
       let m : record_length u kind - length (take n s) ≡ length (frame kind body) - n = omega (arith, f.size, length-frame kind body) in
       read-no-body reader u (take n s) (record { unit = f.unit; header = omega arith; kind = rw l2 f.for-reader; size = rw (l0, l2) (sym f.size); body = rw l2 b })
-      ∙ ap (λ (k : ℕ). Short (record_length u k - length (take n s))) l2
-      ∙ ap Short (m ∙ sym (rw (le-leb 4 n c))))
+      ∙ ap (λ (k : ℕ). Err (Short (record_length u k - length (take n s)))) l2
+      ∙ ap (λ (n : ℕ). Err (Short n)) (m ∙ sym (rw (le-leb 4 n c))))
       (lt-or-ge n 4)
 
 -- the fields of a frame: the epoch, and what follows it

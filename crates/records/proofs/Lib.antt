@@ -7,3 +7,4 @@ pub mod MessageLaws
 pub mod MissingLaws
 pub mod WriteLaws
 pub mod AreaLaws
+pub mod RefusalLaws

@@ -1,4 +1,5 @@
 -- Laws of messages and streams of them: a message is read back, a first part of it is cut short, and its bytes stand at the cursor. Assumes nothing.
+use Rattle.std.specs.Prelude.{Err}
 use mathlib.Core.Path.{◌≡◌, refl, sym, ap, ◌∙◌}
 use mathlib.Core.Bool.{Bool, true, false, cond}
 use mathlib.Core.Logic.{⊎_elim}
@@ -14,7 +15,7 @@ use Rattle.lists.specs.LittleEndian.{le_bytes, le_at}
 use Rattle.lists.proofs.TestLaws.{lt-or-ge}
 use Rattle.lists.proofs.LittleEndianLaws.{length-le_bytes, le_at-le_bytes, le_at-skip}
 use Rattle.records.specs.declared.Reader.{Reader}
-use Rattle.records.specs.declared.Record.TheVariants.{Short}
+use Rattle.records.specs.declared.Unread.TheVariants.{Short}
 use Rattle.records.specs.Kind.{unit_ok, BLOCK, STATE, ACK, page_kind, commit_kind, number_width, body_length, header_length, record_length, is_for}
 use Rattle.records.specs.Read.{page_at, commit_at, fields_of, read_record, cursor_of, used_of}
 use Rattle.records.specs.Write.{frame, unit_record, state_record, commit_record, epoch_record}
@@ -133,7 +134,7 @@ message-bytes u wide (ack e) f rest = refl
 -- ---- reading
 module _ (reader : Reader) (u : ℕ) (v : unit_ok u ≡ true) where
   -- where no byte is
-  pub read_none : read_record reader u [] ≡ Short header_length
+  pub read_none : read_record reader u [] ≡ Err (Short header_length)
   read_none = read-no-header reader u [] v (omega arith)
 
   module _ (wide : Bool) (m : Message) (f : Fits u wide m) (k : is_for reader (message_kind wide m) ≡ true) where
@@ -150,7 +151,7 @@ module _ (reader : Reader) (u : ℕ) (v : unit_ok u ≡ true) where
 
     -- any first part of it is cut short, by what is missing of its header or its body
     pub short-message : (n : ℕ) (rest : List ℕ) → n < length (encode wide m)
-        → read_record reader u (take n (encode wide m ++ rest)) ≡ Short (missing_from (length (encode wide m)) n)
+        → read_record reader u (take n (encode wide m ++ rest)) ≡ Err (Short (missing_from (length (encode wide m)) n))
     short-message n rest h =
         rw (encode-frame wide m) (frame-short reader u (message_kind wide m) (body_of wide m) framed n rest (rw (encode-frame wide m) at h))
 
@@ -161,7 +162,7 @@ module _ (reader : Reader) (u : ℕ) (v : unit_ok u ≡ true) where
 
     -- any first part of a stream that starts with it is cut short or the message, by where the cut is
     pub cut-message : (n : ℕ) (rest : List ℕ)
-        → read_record reader u (take n (encode wide m ++ rest)) ≡ cond (leb (length (encode wide m)) n) (read_as u wide m) (Short (missing_from (length (encode wide m)) n))
+        → read_record reader u (take n (encode wide m ++ rest)) ≡ cond (leb (length (encode wide m)) n) (read_as u wide m) (Err (Short (missing_from (length (encode wide m)) n)))
     cut-message n rest =
         ⊎_elim
         (λ h. rw (lt-leb (length bytes) n h) (short-message n rest h))
@@ -169,7 +170,7 @@ module _ (reader : Reader) (u : ℕ) (v : unit_ok u ≡ true) where
         (lt-or-ge n (length bytes))
 
     pub stream-cut : (ms : List Message) (n : ℕ) (rest : List ℕ)
-        → read_record reader u (take n (encode_all wide (m ∷ ms) ++ rest)) ≡ cond (leb (length (encode wide m)) n) (read_as u wide m) (Short (missing_from (length (encode wide m)) n))
+        → read_record reader u (take n (encode_all wide (m ∷ ms) ++ rest)) ≡ cond (leb (length (encode wide m)) n) (read_as u wide m) (Err (Short (missing_from (length (encode wide m)) n)))
     stream-cut ms n rest = rw (append_assoc bytes (encode_all wide ms) rest) (cut-message n (encode_all wide ms ++ rest))
 
 -- the bytes of two lists of messages, one after the other

@@ -1,4 +1,5 @@
 -- Laws of the bytes missing where a record is cut short (document 02, Job 2). Assumes nothing.
+use Rattle.std.specs.Prelude.{Result, Err}
 use mathlib.Core.Path.{◌≡◌, refl, sym, ap, ◌∙◌}
 use mathlib.Core.Bool.{true, false≢true}
 use mathlib.Core.Logic.{⊎_elim}
@@ -11,7 +12,8 @@ use Rattle.lists.specs.LittleEndian.{le_at}
 use Rattle.lists.proofs.LittleEndianLaws.{le_at-take}
 use Rattle.records.specs.declared.Reader.{Reader}
 use Rattle.records.specs.declared.Record.{Record}
-use Rattle.records.specs.declared.Record.TheVariants.{Short}
+use Rattle.records.specs.declared.Unread.{Unread}
+use Rattle.records.specs.declared.Unread.TheVariants.{Short}
 use Rattle.records.specs.Kind.{unit_ok, body_length, header_length, record_length, is_for}
 use Rattle.records.specs.Read.{fields_of, read_record, used_of}
 use Rattle.records.specs.Missing.{MissingRight}
@@ -19,7 +21,7 @@ use Rattle.records.proofs.KindLaws.{for-test}
 use Rattle.records.proofs.ReadLaws.{Whole, BodyCut, read_whole, read-no-header, read-no-body, fields-cases, is_found, ShortFacts, read-facts}
 
 module _ (reader : Reader) (u : ℕ) where
-  module _ (s : List ℕ) (n : ℕ) (e : read_record reader u s ≡ Short n) where
+  module _ (s : List ℕ) (n : ℕ) (e : read_record reader u s ≡ Err (Short n)) where
     short-facts : ShortFacts reader u s n
     short-facts = rw e at (read-facts reader u s)
 
@@ -59,17 +61,17 @@ module _ (reader : Reader) (u : ℕ) where
         let w : Whole reader u (s ++ t) = record { unit = c.unit; kind = kind-passes; size = size-passes; body = rw kind-same h } in
         let e = read_whole reader u (s ++ t) w ∙ ap (λ (k : ℕ). fields_of u k (s ++ t)) kind-same in
         rw e
-        (fields-cases (λ (r : Record). (is_found r ≡ true) × (used_of r ≡ record_length u (le_at 2 s 2))) u (le_at 2 s 2) (s ++ t) (for-test reader (le_at 2 s 2) c.kind)
+        (fields-cases (λ (r : Result Record Unread). (is_found r ≡ true) × (used_of r ≡ record_length u (le_at 2 s 2))) u (le_at 2 s 2) (s ++ t) (for-test reader (le_at 2 s 2) c.kind)
         (λ wide k. (refl, ap (record_length u) (sym k))) (λ k. (refl, ap (record_length u) (sym k))) (λ k. (refl, ap (record_length u) (sym k))) (λ wide k. (refl, ap (record_length u) (sym k))) (λ k. (refl, ap (record_length u) (sym k))))
 
     -- with fewer it is short of the rest
-    body-short : length (s ++ t) < record_length u (le_at 2 s 2) → read_record reader u (s ++ t) ≡ Short (record_length u (le_at 2 s 2) - length (s ++ t))
+    body-short : length (s ++ t) < record_length u (le_at 2 s 2) → read_record reader u (s ++ t) ≡ Err (Short (record_length u (le_at 2 s 2) - length (s ++ t)))
     body-short h =
         read-no-body reader u (s ++ t)
         (record { unit = c.unit; header = omega (arith, c.header, length-append s t); kind = kind-passes; size = size-passes; body = rw kind-same h })
-        ∙ ap (λ (k : ℕ). Short (record_length u k - length (s ++ t))) kind-same
+        ∙ ap (λ (k : ℕ). Err (Short (record_length u k - length (s ++ t)))) kind-same
 
-  module _ (s t : List ℕ) (n : ℕ) (e : read_record reader u s ≡ Short n) where
+  module _ (s t : List ℕ) (n : ℕ) (e : read_record reader u s ≡ Err (Short n)) where
     -- "how many more bytes would complete it": once the header has come, a whole record of exactly these bytes
     pub missing-completes : header_length ≤ length s → n ≤ length t → (is_found (read_record reader u (s ++ t)) ≡ true) × (used_of (read_record reader u (s ++ t)) ≡ length s + n)
     missing-completes h long =
@@ -78,23 +80,23 @@ module _ (reader : Reader) (u : ℕ) where
         (λ c. let w = body-completes s t c.0 (omega arith) in (w.0, omega (arith, w.1, c.0.body)))
         (short-facts s n e).1
 
-    pub missing-enough : (m : ℕ) → n ≤ length t → read_record reader u (s ++ t) ≡ Short m → (length s < header_length) × (header_length ≤ length (s ++ t))
+    pub missing-enough : (m : ℕ) → n ≤ length t → read_record reader u (s ++ t) ≡ Err (Short m) → (length s < header_length) × (header_length ≤ length (s ++ t))
     missing-enough m long again =
         let len = length-append s t in
         ⊎_elim (λ a. (a.0, omega arith))
         (λ c. absurd (false≢true (ap is_found (sym again) ∙ (missing-completes c.0.header long).0)))
         (short-facts s n e).1
 
-    pub missing-exact : length t < n → read_record reader u (s ++ t) ≡ Short (n - length t)
+    pub missing-exact : length t < n → read_record reader u (s ++ t) ≡ Err (Short (n - length t))
     missing-exact few =
         let len = length-append s t in
         ⊎_elim
-        (λ a. read-no-header reader u (s ++ t) (short-facts s n e).0 (omega arith) ∙ ap Short (omega arith))
-        (λ c. body-short s t c.0 (omega (arith, c.0.body)) ∙ ap Short (omega (arith, c.0.body)))
+        (λ a. read-no-header reader u (s ++ t) (short-facts s n e).0 (omega arith) ∙ ap (λ (n : ℕ). Err (Short n)) (omega arith))
+        (λ c. body-short s t c.0 (omega (arith, c.0.body)) ∙ ap (λ (n : ℕ). Err (Short n)) (omega (arith, c.0.body)))
         (short-facts s n e).1
 
 -- of the record test, and of each reader
-pub record-missing : (reader : Reader) (u : ℕ) → MissingRight reader u (λ s n. read_record reader u s ≡ Short n)
+pub record-missing : (reader : Reader) (u : ℕ) → MissingRight reader u (λ s n. read_record reader u s ≡ Err (Short n))
 record-missing reader u =
     record {
       range = missing-range reader u;

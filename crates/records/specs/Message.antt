@@ -1,7 +1,8 @@
 -- A record as it is meant, with its bytes: for statements about whole streams. It has no width: what is sent has one,
 -- that which M calls for (document 02, Job 7). Assumes nothing.
-use Rattle.std.specs.Prelude.{ℕ, ◌<◌, ◌^◌, ◌≡◌, Bool, List, [], ◌∷◌, ◌++◌, length}
+use Rattle.std.specs.Prelude.{ℕ, ◌<◌, ◌^◌, ◌≡◌, Bool, List, [], ◌∷◌, ◌++◌, length, Result, Ok}
 use Rattle.records.specs.declared.Record.{Record}
+use Rattle.records.specs.declared.Unread.{Unread}
 use Rattle.records.specs.declared.Record.TheVariants.{Page, Block, State, Commit, Ack}
 use Rattle.records.specs.Kind.{BLOCK, STATE, ACK, page_kind, commit_kind, number_width, number_end, processor_bytes, record_length}
 use Rattle.records.specs.Read.{cursor}
@@ -43,12 +44,12 @@ encode_all wide [] = []
 encode_all wide (m ∷ ms) = encode wide m ++ encode_all wide ms
 
 -- what reading it answers
-abbrev pub read_as : ℕ → (wide : Bool) → Message → Record
-read_as u wide (page e p bs) = Page wide e p (cursor (number_end wide) (record_length u (page_kind wide)))
-read_as u wide (block e n bs) = Block e n (cursor 10 (record_length u BLOCK))
-read_as u wide (state e bs) = State e (cursor 8 (record_length u STATE))
-read_as u wide (commit e p b) = let end = record_length u (commit_kind wide) in Commit wide e p b (cursor end end)
-read_as u wide (ack e) = Ack e (cursor 8 (record_length u ACK))
+abbrev pub read_as : ℕ → (wide : Bool) → Message → Result Record Unread
+read_as u wide (page e p bs) = Ok (Page wide e p (cursor (number_end wide) (record_length u (page_kind wide))))
+read_as u wide (block e n bs) = Ok (Block e n (cursor 10 (record_length u BLOCK)))
+read_as u wide (state e bs) = Ok (State e (cursor 8 (record_length u STATE)))
+read_as u wide (commit e p b) = let end = record_length u (commit_kind wide) in Ok (Commit wide e p b (cursor end end))
+read_as u wide (ack e) = Ok (Ack e (cursor 8 (record_length u ACK)))
 
 -- its numbers fit their fields, and its bytes are as many as they should be
 abbrev pub Fits : ℕ → (wide : Bool) → Message → Type 0

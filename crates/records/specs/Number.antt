@@ -1,6 +1,8 @@
 -- The numbers of document 01, "Numbers from the input" and "Numbers from the state", and of document 02, by name.
 -- Assumes nothing.
-use Rattle.std.specs.Prelude.{ℕ}
+use Rattle.std.specs.Prelude.{ℕ, Result, Ok, Err}
+use Rattle.records.specs.declared.refusal.Refusal.{Refusal}
+use Rattle.records.specs.declared.refusal.Refusal.TheVariants.{OutOfRange, NoSuchUnit, BadSize, BadPacket, NoRoom, BadKind, BadLength, BadEpoch, OutOfOrder, BadCounts, BadAck, BadArea, WrongMode, AllowanceUsed, StreamFull, QueueFull, SlotsFull, NothingFree, LastEpoch, BlocksDue, NoSuchPort, NoPlan, BytesBehind, DestinationShort}
 
 -- a setting, a lent length, or a state outside its ranges
 abbrev pub out_of_range : ℕ
@@ -98,3 +100,35 @@ bytes_behind = 29
 -- the destination is too short for the normal form (document 02, Job 14)
 abbrev pub destination_short : ℕ
 destination_short = 30
+
+-- ---- the number of each refusal of the code
+abbrev pub refusal_number : Refusal → ℕ
+refusal_number OutOfRange = out_of_range
+refusal_number NoSuchUnit = no_such_unit
+refusal_number BadSize = bad_size
+refusal_number BadPacket = bad_packet
+refusal_number NoRoom = no_room
+refusal_number BadKind = bad_kind
+refusal_number BadLength = bad_length
+refusal_number BadEpoch = bad_epoch
+refusal_number OutOfOrder = out_of_order
+refusal_number BadCounts = bad_counts
+refusal_number BadAck = bad_ack
+refusal_number BadArea = bad_area
+refusal_number WrongMode = wrong_mode
+refusal_number AllowanceUsed = allowance_used
+refusal_number StreamFull = stream_full
+refusal_number QueueFull = queue_full
+refusal_number SlotsFull = slots_full
+refusal_number NothingFree = nothing_free
+refusal_number LastEpoch = last_epoch
+refusal_number BlocksDue = blocks_due
+refusal_number NoSuchPort = no_such_port
+refusal_number NoPlan = no_plan
+refusal_number BytesBehind = bytes_behind
+refusal_number DestinationShort = destination_short
+
+-- the number of what a test gives: 0 where it passed
+abbrev pub number_in : {A : Type 0} → Result A Refusal → ℕ
+number_in (Ok a) = 0
+number_in (Err refusal) = refusal_number refusal

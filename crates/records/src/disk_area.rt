@@ -3,20 +3,13 @@ ghost use Rattle.std.specs.Prelude.{◌≡◌};
 ghost use Rattle.records.specs.Area.{all_zero, area_of};
 
 use crate::{ACTIVATION, AREA_LENGTH, Area, EPOCH_FIELD};
-use lists::field::{get2, get4};
+use lists::field::get;
 
 // Whether each byte is 0.
 fn all_zero(s: &[u8]) -> bool
     ensures { result ≡ all_zero s.now }
 {
-    let mut i = 0;
-    while i < s.len() {
-        if s[i] != 0 {
-            return false;
-        }
-        i += 1;
-    }
-    true
+    s.iter().all(|byte| *byte == 0)
 }
 
 // What the record area holds: all zero, an activation with its epoch, or neither, which is also what another length than 8 is.
@@ -29,11 +22,13 @@ pub fn read_area(s: &[u8]) -> Area
     if all_zero(s) {
         return Area::Zero;
     }
-    if get2(s, 0) != EPOCH_FIELD {
+    if get::<2>(s, 0) != EPOCH_FIELD {
         return Area::Neither;
     }
-    if get2(s, 2) != ACTIVATION {
+    if get::<2>(s, 2) != ACTIVATION {
         return Area::Neither;
     }
-    Area::Activation { epoch: get4(s, 4) }
+    Area::Activation {
+        epoch: get::<4>(s, 4),
+    }
 }

@@ -1,6 +1,5 @@
 // The two widths of PAGE and COMMIT (document 02, Job 7), and which kinds go to which reader.
 ghost use Rattle.std.specs.Prelude.{◌≡◌, ◌+◌, ◌^◌, ◌<◌};
-ghost use Rattle.lists.specs.Refusal.{within};
 ghost use Rattle.records.specs.Kind.{is_wide, page_kind, commit_kind, number_width, number_end, is_for, counts_end};
 
 use crate::{
@@ -52,30 +51,14 @@ pub(crate) fn most_number(wide: bool) -> usize
     if wide { MOST_FOUR } else { MOST_TWO }
 }
 
-// Whether a kind is one of low to high.
-fn between(low: u32, high: u32, kind: u32) -> bool
-    ensures { result ≡ within low high kind }
-{
-    if kind < low {
-        return false;
-    }
-    if high < kind {
-        return false;
-    }
-    true
-}
-
 // Whether records of a kind go to a reader.
 pub fn is_for(reader: Reader, kind: u32) -> bool
     ensures { result ≡ is_for reader kind }
 {
     match reader {
-        Reader::Test => between(PAGE, ACK, kind) | between(WIDE_PAGE, WIDE_COMMIT, kind),
+        Reader::Test => matches!(kind, PAGE..=ACK | WIDE_PAGE..=WIDE_COMMIT),
         Reader::Standby { wide } => {
-            (kind == page_kind(wide))
-                | (kind == BLOCK)
-                | (kind == STATE)
-                | (kind == commit_kind(wide))
+            (kind == page_kind(wide)) | matches!(kind, BLOCK | STATE) | (kind == commit_kind(wide))
         }
         Reader::Primary => kind == ACK,
     }

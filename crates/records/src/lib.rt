@@ -3,8 +3,8 @@
 
 pub mod disk_area;
 pub mod kinds;
-pub mod number;
 pub mod reading;
+pub mod refusal;
 pub mod writing;
 
 // Where a record's field of bytes stands: from start to end, which is where the record ends. A kind with no such field has start = end.
@@ -23,7 +23,7 @@ pub enum Reader {
     Primary,
 }
 
-// What stands at the head of some bytes. A PAGE or a COMMIT is wide where it is of kind 8 or 9.
+// A record. A PAGE or a COMMIT is wide where it is of kind 8 or 9.
 #[derive(Clone, Copy)]
 pub enum Record {
     Page {
@@ -52,12 +52,14 @@ pub enum Record {
         epoch: u32,
         at: Cursor,
     },
-    Short {
-        missing: usize,
-    },
-    Refused {
-        number: u64,
-    },
+}
+
+// Why no record stands at the head of some bytes: it is cut short, so many bytes of it missing, or refused with a number.
+// The number is the documents', and no Refusal: `unless_refused` (rules/specs/Reply.antt) makes it of a list of tests.
+#[derive(Clone, Copy)]
+pub enum Unread {
+    Short { missing: usize },
+    Refused { number: u64 },
 }
 
 // What the record area of the standby's disk holds.
@@ -68,7 +70,8 @@ pub enum Area {
     Neither,
 }
 
-// The kinds of the table of document 01, "Records".
+// The kinds of the table of document 01, "Records": numbers and no enum, since the record test is handed any number, and
+// `is_for` (specs/Kind.antt) speaks of each.
 pub const PAGE: u32 = 1;
 
 pub const BLOCK: u32 = 2;

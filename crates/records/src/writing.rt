@@ -1,5 +1,6 @@
 // Writing a record into the part of the outgoing slice that the writer is handed, at its head.
-// A part too short, or a number that does not fit its field, writes nothing and reports 0; otherwise the length written is reported.
+// A part too short, or a number that does not fit its field, writes nothing and reports 0; otherwise the length written is
+// reported. 0 and no Option: `Written` (specs/Write.antt), which each writer promises, says 0.
 ghost use Rattle.std.specs.Prelude.{◌≡◌, ◌+◌, ◌≤◌, ◌<◌, ◌^◌, true, ◌++◌, length};
 ghost use Rattle.lists.specs.LittleEndian.{le_bytes};
 ghost use Rattle.lists.specs.Part.{put};
@@ -11,7 +12,7 @@ use crate::{
     ACK, ACTIVATION, BLOCK, EPOCH_FIELD, EPOCH_RECORD, HEADER_LENGTH, MOST_TWO, STATE, STATE_BODY,
     STATE_RECORD,
 };
-use lists::field::{bytes2, bytes4};
+use lists::field::bytes;
 
 // The length of a STATE's body in the width of its field, and the most bytes of a record whose length fits it.
 const STATE_FIELD: u32 = STATE_BODY as u32;
@@ -23,12 +24,9 @@ fn put_head(out: &mut [u8], n: u32, kind: u32, epoch: u32)
     requires { 8 ≤ length out.old }
     ensures { out.new ≡ put out.old 0 (le_bytes 2 n ++ le_bytes 2 kind ++ le_bytes 4 epoch) }
 {
-    let length = bytes2(n);
-    let name = bytes2(kind);
-    let e = bytes4(epoch);
-    lists::copy_front(out, &length);
-    lists::copy_into(out, 2, &name);
-    lists::copy_into(out, 4, &e);
+    lists::copy_front(out, &bytes::<2>(n));
+    lists::copy_into(out, 2, &bytes::<2>(kind));
+    lists::copy_into(out, 4, &bytes::<4>(epoch));
 }
 
 // A page or block number, or a count.
@@ -37,12 +35,10 @@ fn put_number(out: &mut [u8], at: usize, wide: bool, number: u32)
     ensures { out.new ≡ put out.old at (le_bytes (number_width wide) number) }
 {
     if wide {
-        let four = bytes4(number);
-        lists::copy_into(out, at, &four);
-        return;
+        lists::copy_into(out, at, &bytes::<4>(number));
+    } else {
+        lists::copy_into(out, at, &bytes::<2>(number));
     }
-    let two = bytes2(number);
-    lists::copy_into(out, at, &two);
 }
 
 fn put_unit(out: &mut [u8], kind: u32, wide: bool, epoch: u32, number: u32, body: &[u8])
@@ -68,13 +64,7 @@ fn write_unit(
 {
     let n = body.len();
     let head = number_end(wide);
-    if most_number(wide) < number {
-        return 0;
-    }
-    if MOST_RECORD - head < n {
-        return 0;
-    }
-    if out.len() < n + head {
+    if most_number(wide) < number || MOST_RECORD - head < n || out.len() < n + head {
         return 0;
     }
     put_unit(out, kind, wide, epoch, number as u32, body);
@@ -114,13 +104,7 @@ pub fn write_commit(out: &mut [u8], wide: bool, epoch: u32, pages: usize, blocks
     ensures { Written (counts_fit wide pages blocks) (commit_record wide epoch pages blocks) out.old out.new result }
 {
     let n = commit_length(wide);
-    if most_number(wide) < pages {
-        return 0;
-    }
-    if most_number(wide) < blocks {
-        return 0;
-    }
-    if out.len() < n {
+    if most_number(wide) < pages || most_number(wide) < blocks || out.len() < n {
         return 0;
     }
     put_head(out, (n - HEADER_LENGTH) as u32, commit_kind(wide), epoch);

@@ -1,4 +1,5 @@
 -- What the record that a read judged has, by its kind: everything that its effects ask. Assumes nothing.
+use Rattle.std.specs.Prelude.{Result, Ok, Err}
 use mathlib.Core.Path.{◌≡◌, refl, ap}
 use mathlib.Core.Bool.{Bool, true, false, cond, ◌&&◌, ◌||◌, not}
 use mathlib.Core.List.{List, [], ◌∷◌}
@@ -14,7 +15,9 @@ use Rattle.records.specs.Cases.{by_kind, on_found}
 use Rattle.records.specs.Read.{read_record, kind_of}
 use Rattle.records.specs.declared.Cursor.{Cursor}
 use Rattle.records.specs.declared.Record.{Record}
-use Rattle.records.specs.declared.Record.TheVariants.{Page, Block, State, Commit, Ack, Short, Refused}
+use Rattle.records.specs.declared.Unread.{Unread}
+use Rattle.records.specs.declared.Record.TheVariants.{Page, Block, State, Commit, Ack}
+use Rattle.records.specs.declared.Unread.TheVariants.{Short, Refused}
 use Rattle.records.proofs.ReadLaws.{RecordFacts, ReadFacts, refused-number, read-facts}
 use Rattle.staging.specs.Slot.{is_staged}
 use Rattle.rules.specs.declared.Standby.{Standby}
@@ -188,7 +191,7 @@ pub record Accepted (s : Standby) (l : ReadLent) (bytes : List ℕ) (kind size :
   pub field : RecordFacts (reader_of s) s.settings.u bytes kind size c
 
 -- what is judged is such a record, or cut short, or refused with a number
-abbrev pub JudgedFacts : Standby → ReadLent → List ℕ → Record → Type 0
+abbrev pub JudgedFacts : Standby → ReadLent → List ℕ → Result Record Unread → Type 0
 JudgedFacts s l bytes r =
     by_kind r
     (λ e p c. Accepted s l bytes (kind_of r) s.settings.u c (PageTests s e p))
@@ -198,36 +201,36 @@ JudgedFacts s l bytes r =
     (on_found r ⊥ (λ n. ReadReady s l) (λ n. 0 < n))
 
 module _ (s : Standby) (l : ReadLent) (bytes : List ℕ) where
-  record-facts : ReadReady s l → (r : Record) → ReadFacts (reader_of s) s.settings.u bytes r → record_refusal s l.reply r ≡ 0 → JudgedFacts s l bytes r
-  record-facts ready (Page w e p c) f z = record { ready = ready; tests = page-accepted s e p z; field = f }
-  record-facts ready (Block e n c) f z = record { ready = ready; tests = block-accepted s e n z; field = f }
-  record-facts ready (State e c) f z = record { ready = ready; tests = state-accepted s e z; field = f }
-  record-facts ready (Commit w e p b c) f z = record { ready = ready; tests = commit-accepted s l.reply e p b z; field = f }
-  record-facts ready (Ack e c) f z = absurd (omega arith)
-  record-facts ready (Short n) f z = ready
-  record-facts ready (Refused n) f z = (refused-number s.settings.u n f).0
+  record-facts : ReadReady s l → (r : Result Record Unread) → ReadFacts (reader_of s) s.settings.u bytes r → record_refusal s l.reply r ≡ 0 → JudgedFacts s l bytes r
+  record-facts ready (Ok (Page w e p c)) f z = record { ready = ready; tests = page-accepted s e p z; field = f }
+  record-facts ready (Ok (Block e n c)) f z = record { ready = ready; tests = block-accepted s e n z; field = f }
+  record-facts ready (Ok (State e c)) f z = record { ready = ready; tests = state-accepted s e z; field = f }
+  record-facts ready (Ok (Commit w e p b c)) f z = record { ready = ready; tests = commit-accepted s l.reply e p b z; field = f }
+  record-facts ready (Ok (Ack e c)) f z = absurd (omega arith)
+  record-facts ready (Err (Short n)) f z = ready
+  record-facts ready (Err (Refused n)) f z = (refused-number s.settings.u n f).0
 
   -- each answer in its order
-  pub judged-range : standby_ok s ≡ false → judged s l bytes ≡ Refused out_of_range
+  pub judged-range : standby_ok s ≡ false → judged s l bytes ≡ Err (Refused out_of_range)
   unfolding judged
   judged-range a = rw a
 
-  pub judged-lent : read_lent_ok s l ≡ false → judged s l bytes ≡ Refused out_of_range
+  pub judged-lent : read_lent_ok s l ≡ false → judged s l bytes ≡ Err (Refused out_of_range)
   unfolding judged
   judged-lent b = rw (b, and-false (standby_ok s))
 
   module _ (ok : standby_ok s ≡ true) (lent : read_lent_ok s l ≡ true) where
-    pub judged-mode : is_receiving s.mode ≡ false → judged s l bytes ≡ Refused wrong_mode
+    pub judged-mode : is_receiving s.mode ≡ false → judged s l bytes ≡ Err (Refused wrong_mode)
     unfolding judged
     judged-mode k = rw (ok, lent, k)
 
-    pub judged-number : is_receiving s.mode ≡ true → (r : Record) → r ≡ read_record (reader_of s) s.settings.u bytes
+    pub judged-number : is_receiving s.mode ≡ true → (r : Result Record Unread) → r ≡ read_record (reader_of s) s.settings.u bytes
         → (n : ℕ) → n ≡ record_refusal s l.reply r → judged s l bytes ≡ unless_refused n r
     unfolding judged
     judged-number k r e n h = rw (ok, lent, k, ← e, ← h)
 
   -- a fact of what is judged holds of refusals, and of the record found where that is accepted
-  pub judged-cases : (P : Record → Type 0) → ((n : ℕ) → 0 < n → P (Refused n))
+  pub judged-cases : (P : Result Record Unread → Type 0) → ((n : ℕ) → 0 < n → P (Err (Refused n)))
       → (ReadReady s l → record_refusal s l.reply (read_record (reader_of s) s.settings.u bytes) ≡ 0 → P (read_record (reader_of s) s.settings.u bytes))
       → P (judged s l bytes)
   unfolding judged
@@ -237,7 +240,7 @@ module _ (s : Standby) (l : ReadLent) (bytes : List ℕ) where
       go (standby_ok s) (read_lent_ok s l) (is_receiving s.mode)
       (λ a b k. unless-cases n r P (taken (record { ok = a; lent = read-lent-facts s l b; receiving = k })) (λ z. refusals n (omega arith)))
     where
-      go : (a b k : Bool) {r : Record} → (a ≡ true → b ≡ true → k ≡ true → P r) → P (cond (a && b) (cond k r (Refused wrong_mode)) (Refused out_of_range))
+      go : (a b k : Bool) {r : Result Record Unread} → (a ≡ true → b ≡ true → k ≡ true → P r) → P (cond (a && b) (cond k r (Err (Refused wrong_mode))) (Err (Refused out_of_range)))
       go false b k f = refusals out_of_range (omega arith)
       go true false k f = refusals out_of_range (omega arith)
       go true true false f = refusals wrong_mode (omega arith)

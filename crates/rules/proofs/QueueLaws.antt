@@ -1,5 +1,6 @@
 -- Which calls of the primary leave the held packets as they are, and what an accepted packet and an accepted take do to
 -- their count. Assumes nothing.
+use Rattle.std.specs.Prelude.{Result}
 use mathlib.Core.Path.{◌≡◌, refl}
 use mathlib.Core.List.{List}
 use mathlib.Core.Logic.{⊎_elim}
@@ -9,6 +10,7 @@ use lib.ListN.{length}
 use Rattle.lists.specs.Refusal.{pick}
 use Rattle.lists.proofs.TestLaws.{by-test}
 use Rattle.records.specs.declared.Record.{Record}
+use Rattle.records.specs.declared.Unread.{Unread}
 use Rattle.records.proofs.ReadLaws.{on-ack}
 use Rattle.settings.specs.Range.{most_packets}
 use Rattle.detector.specs.Tick.{expired, ticked}
@@ -51,7 +53,7 @@ module _ (p : Primary) where
       kept (primary_tick_refusal p) p (primary_tick_state p)
       (⊎_elim (λ e. rw e (refl, refl)) (λ e. rw e (⊎_elim (λ x. rw x (refl, refl)) (λ x. rw x (refl, refl)) (by-test (expired d)))) (by-test p.alone))
 
-  on-ack-kept : (r : Record) → Kept p (ack_state p r)
+  on-ack-kept : (r : Result Record Unread) → Kept p (ack_state p r)
   on-ack-kept r = on-ack (Kept p) _ p r (λ e c q. (refl, refl)) (refl, refl)
 
   pub ack-kept : (bytes : List ℕ) → Kept p (ack_reply p bytes).state

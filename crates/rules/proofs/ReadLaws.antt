@@ -1,5 +1,6 @@
 -- What a read keeps: a state stays in range, and reached, whatever record is judged, and what is cut short or refused
 -- changes nothing. Assumes nothing.
+use Rattle.std.specs.Prelude.{Result, Ok, Err}
 use mathlib.Core.Path.{◌≡◌, refl, sym, ap, ◌∙◌, subst}
 use mathlib.Core.Bool.{true}
 use mathlib.Core.Logic.{⊎_elim}
@@ -14,7 +15,9 @@ use Rattle.lists.proofs.PartLaws.{length_part}
 use Rattle.records.specs.Kind.{processor_bytes}
 use Rattle.records.specs.declared.Cursor.{Cursor}
 use Rattle.records.specs.declared.Record.{Record}
-use Rattle.records.specs.declared.Record.TheVariants.{Page, Block, State, Commit, Ack, Short, Refused}
+use Rattle.records.specs.declared.Unread.{Unread}
+use Rattle.records.specs.declared.Record.TheVariants.{Page, Block, State, Commit, Ack}
+use Rattle.records.specs.declared.Unread.TheVariants.{Short, Refused}
 use Rattle.records.proofs.ReadLaws.{found-cases, FieldsFit, read_fits}
 use Rattle.settings.specs.Range.{most_epoch}
 use Rattle.staging.specs.declared.Slots.{Slots}
@@ -161,14 +164,14 @@ module _ (P : Standby → Type 0) (resets : (s : Standby) → P s → P (with_no
     (state : (processor : List ℕ) → length processor ≡ processor_bytes → P (with_pending_seen s processor))
     (commit : (epoch : ℕ) → P (installed_state (sealed_state s) epoch))
     (l : ReadLent) (bytes : List ℕ) where
-  record-kept : (r : Record) → JudgedFacts s l bytes r → P (read_state s bytes r)
-  record-kept (Page w e p c) f = resets _ (page e p f.tests)
-  record-kept (Block e n c) f = resets _ (block e n f.tests)
-  record-kept (State e c) f = resets _ (state (bytes_at c bytes) (bytes-length c bytes processor_bytes f.field.span f.field.inside))
-  record-kept (Commit w e p b c) f = resets _ (commit e)
-  record-kept (Ack e c) f = absurd f
-  record-kept (Short n) f = h
-  record-kept (Refused n) f = h
+  record-kept : (r : Result Record Unread) → JudgedFacts s l bytes r → P (read_state s bytes r)
+  record-kept (Ok (Page w e p c)) f = resets _ (page e p f.tests)
+  record-kept (Ok (Block e n c)) f = resets _ (block e n f.tests)
+  record-kept (Ok (State e c)) f = resets _ (state (bytes_at c bytes) (bytes-length c bytes processor_bytes f.field.span f.field.inside))
+  record-kept (Ok (Commit w e p b c)) f = resets _ (commit e)
+  record-kept (Ok (Ack e c)) f = absurd f
+  record-kept (Err (Short n)) f = h
+  record-kept (Err (Refused n)) f = h
 
   read_kept : P (read_reply s l bytes).state
   unfolding read_reply
@@ -190,20 +193,20 @@ module _ (s : Standby) (l : ReadLent) (bytes : List ℕ) where
   unfolding read_reply
   record-resets = go (judged s l bytes) (judged-facts s l bytes)
     where
-      go : (r : Record) → JudgedFacts s l bytes r → number_of (answer_of r) ≡ 0 → (read_state s bytes r).detector ≡ reset s.detector
-      go (Page w e p c) f z = refl
-      go (Block e n c) f z = refl
-      go (State e c) f z = refl
-      go (Commit w e p b c) f z = refl
-      go (Ack e c) f z = absurd f
-      go (Short n) f z = absurd (omega arith)
-      go (Refused n) f z = absurd (omega arith)
+      go : (r : Result Record Unread) → JudgedFacts s l bytes r → number_of (answer_of r) ≡ 0 → (read_state s bytes r).detector ≡ reset s.detector
+      go (Ok (Page w e p c)) f z = refl
+      go (Ok (Block e n c)) f z = refl
+      go (Ok (State e c)) f z = refl
+      go (Ok (Commit w e p b c)) f z = refl
+      go (Ok (Ack e c)) f z = absurd f
+      go (Err (Short n)) f z = absurd (omega arith)
+      go (Err (Refused n)) f z = absurd (omega arith)
 
   -- and only a standby that receives accepts one
   pub read-receives : number_of (read_reply s l bytes).answer ≡ 0 → is_receiving s.mode ≡ true
   unfolding read_reply
   read-receives =
-      judged-cases s l bytes (λ (r : Record). number_of (answer_of r) ≡ 0 → is_receiving s.mode ≡ true) (λ n h z. absurd (omega arith)) (λ ready z _. ready.receiving)
+      judged-cases s l bytes (λ (r : Result Record Unread). number_of (answer_of r) ≡ 0 → is_receiving s.mode ≡ true) (λ n h z. absurd (omega arith)) (λ ready z _. ready.receiving)
 
 -- ---- after the last epoch there is no next one: no record is accepted
 module _ (s : Standby) (l : ReadLent) (bytes : List ℕ) (low : (j : ℕ) → get_or bytes j 0 < 256) where
@@ -213,17 +216,17 @@ module _ (s : Standby) (l : ReadLent) (bytes : List ℕ) (low : (j : ℕ) → ge
   pub last-epoch : s.received ≡ most_epoch → number_of (answer_of (judged s l bytes)) ≡ 0 → ⊥
   last-epoch e z = go (judged s l bytes) (judged-facts s l bytes) fields_fit z
     where
-      go : (r : Record) → JudgedFacts s l bytes r → FieldsFit r → number_of (answer_of r) ≡ 0 → ⊥
-      go (Page w n p c) f k z = let h = f.tests.epoch-next in omega arith
-      go (Block n b c) f k z = let h = f.tests.epoch-next in omega arith
-      go (State n c) f k z = let h = f.tests.epoch-next in omega arith
-      go (Commit w n p b c) f k z = let h = f.tests.epoch-next in omega arith
-      go (Ack n c) f k z = f
-      go (Short n) f k z = omega arith
-      go (Refused n) f k z = omega arith
+      go : (r : Result Record Unread) → JudgedFacts s l bytes r → FieldsFit r → number_of (answer_of r) ≡ 0 → ⊥
+      go (Ok (Page w n p c)) f k z = let h = f.tests.epoch-next in omega arith
+      go (Ok (Block n b c)) f k z = let h = f.tests.epoch-next in omega arith
+      go (Ok (State n c)) f k z = let h = f.tests.epoch-next in omega arith
+      go (Ok (Commit w n p b c)) f k z = let h = f.tests.epoch-next in omega arith
+      go (Ok (Ack n c)) f k z = f
+      go (Err (Short n)) f k z = omega arith
+      go (Err (Refused n)) f k z = omega arith
 
 -- ---- "A record cut short or refused uses 0 and changes nothing"
-pub record NothingRead (s : Standby) (bytes memory pages marks blocks reply : List ℕ) (r : Record) : Type 0 where
+pub record NothingRead (s : Standby) (bytes memory pages marks blocks reply : List ℕ) (r : Result Record Unread) : Type 0 where
   pub state-same : read_state s bytes r ≡ s
   pub memory-same : memory_after s memory pages marks r ≡ memory
   pub pages-same : staged_pages_after s bytes pages r ≡ pages
@@ -234,14 +237,14 @@ pub record NothingRead (s : Standby) (bytes memory pages marks blocks reply : Li
   pub used-zero : used_of (answer_of r) ≡ 0
 
 module _ (s : Standby) (bytes memory pages marks blocks reply : List ℕ) where
-  nothing-short : (n : ℕ) → NothingRead s bytes memory pages marks blocks reply (Short n)
+  nothing-short : (n : ℕ) → NothingRead s bytes memory pages marks blocks reply (Err (Short n))
   nothing-short n = record { state-same = refl; memory-same = refl; pages-same = refl; marks-same = refl; blocks_same = refl; reply-same = refl; value-zero = refl; used-zero = refl }
 
-  nothing-refused : (n : ℕ) → NothingRead s bytes memory pages marks blocks reply (Refused n)
+  nothing-refused : (n : ℕ) → NothingRead s bytes memory pages marks blocks reply (Err (Refused n))
   nothing-refused n = record { state-same = refl; memory-same = refl; pages-same = refl; marks-same = refl; blocks_same = refl; reply-same = refl; value-zero = refl; used-zero = refl }
 
   -- whatever has another number than 0
-  pub nothing_read : (r : Record) → (number_of (answer_of r) ≡ 0 → ⊥) → NothingRead s bytes memory pages marks blocks reply r
+  pub nothing_read : (r : Result Record Unread) → (number_of (answer_of r) ≡ 0 → ⊥) → NothingRead s bytes memory pages marks blocks reply r
   nothing_read =
       found-cases (λ r. (number_of (answer_of r) ≡ 0 → ⊥) → NothingRead s bytes memory pages marks blocks reply r)
       (λ r h z. absurd (z (ap number_of (answer-found r h)))) (λ n z. nothing-short n) (λ n z. nothing-refused n)

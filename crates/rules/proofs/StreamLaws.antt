@@ -1,4 +1,5 @@
 -- Laws of drain and ACK: what acceptance says, each answer of the judged ACK, and that the ranges are kept. Assumes nothing.
+use Rattle.std.specs.Prelude.{Result, Ok, Err}
 use mathlib.Core.Path.{◌≡◌, refl, subst}
 use mathlib.Core.Bool.{Bool, true, false, cond}
 use mathlib.Core.List.{List}
@@ -9,7 +10,9 @@ use borrow.Author.Tests.{ltb-true, eqb-true}
 use Rattle.lists.proofs.TestLaws.{both, accepted}
 use Rattle.records.specs.declared.Cursor.{Cursor}
 use Rattle.records.specs.declared.Record.{Record}
-use Rattle.records.specs.declared.Record.TheVariants.{Page, Block, State, Commit, Ack, Short, Refused}
+use Rattle.records.specs.declared.Unread.{Unread}
+use Rattle.records.specs.declared.Record.TheVariants.{Page, Block, State, Commit, Ack}
+use Rattle.records.specs.declared.Unread.TheVariants.{Short, Refused}
 use Rattle.records.specs.declared.Reader.TheVariants as reader
 use Rattle.records.specs.Cases.{on_ack, on_found}
 use Rattle.records.specs.Read.{read_record}
@@ -48,43 +51,43 @@ pub record AckFacts (p : Primary) (e : ℕ) : Type 0 where
   pub below : e < p.epoch
 
 -- a record that is judged is refused, cut short, or an ACK with these facts
-abbrev pub AckJudgedFacts : Primary → Record → Type 0
+abbrev pub AckJudgedFacts : Primary → Result Record Unread → Type 0
 AckJudgedFacts p r = on_ack r (λ e c. AckFacts p e) (on_found r ⊥ (λ n. Unit {0}) (λ n. Unit {0}))
 
 module _ (p : Primary) where
   -- an ACK's own refusal
-  pub ack-epochs : (e : ℕ) (c : Cursor) → ack_refusal p (Ack e c) ≡ 0 → (p.acknowledged < e) × (e < p.epoch)
+  pub ack-epochs : (e : ℕ) (c : Cursor) → ack_refusal p (Ok (Ack e c)) ≡ 0 → (p.acknowledged < e) × (e < p.epoch)
   ack-epochs e c z =
       let h = accepted (ack_tests p e) refl z in
       let b = both (ltb p.acknowledged e) (ltb e p.epoch) h.0 in
       (ltb-true p.acknowledged e b.0, ltb-true e p.epoch b.1)
 
-  record-facts : primary_ok p ≡ true → protected p ≡ true → (r : Record) → ack_refusal p r ≡ 0 → AckJudgedFacts p r
-  record-facts ok on (Page w e n c) z = absurd (omega arith)
-  record-facts ok on (Block e n c) z = absurd (omega arith)
-  record-facts ok on (State e c) z = absurd (omega arith)
-  record-facts ok on (Commit w e n b c) z = absurd (omega arith)
-  record-facts ok on (Ack e c) z = let f = ack-epochs e c z in record { ok = ok; protects = on; above = f.0; below = f.1 }
-  record-facts ok on (Short n) z = tt
-  record-facts ok on (Refused n) z = tt
+  record-facts : primary_ok p ≡ true → protected p ≡ true → (r : Result Record Unread) → ack_refusal p r ≡ 0 → AckJudgedFacts p r
+  record-facts ok on (Ok (Page w e n c)) z = absurd (omega arith)
+  record-facts ok on (Ok (Block e n c)) z = absurd (omega arith)
+  record-facts ok on (Ok (State e c)) z = absurd (omega arith)
+  record-facts ok on (Ok (Commit w e n b c)) z = absurd (omega arith)
+  record-facts ok on (Ok (Ack e c)) z = let f = ack-epochs e c z in record { ok = ok; protects = on; above = f.0; below = f.1 }
+  record-facts ok on (Err (Short n)) z = tt
+  record-facts ok on (Err (Refused n)) z = tt
 
   module _ (bytes : List ℕ) where
     -- each answer in its order
-    pub ack-range : primary_ok p ≡ false → ack_judged p bytes ≡ Refused out_of_range
+    pub ack-range : primary_ok p ≡ false → ack_judged p bytes ≡ Err (Refused out_of_range)
     unfolding ack_judged
     ack-range a = rw a
 
-    pub ack-mode : primary_ok p ≡ true → protected p ≡ false → ack_judged p bytes ≡ Refused wrong_mode
+    pub ack-mode : primary_ok p ≡ true → protected p ≡ false → ack_judged p bytes ≡ Err (Refused wrong_mode)
     unfolding ack_judged
     ack-mode a b = rw (a, b)
 
-    pub ack-number : primary_ok p ≡ true → protected p ≡ true → (r : Record) → r ≡ read_record reader.Primary p.settings.u bytes
+    pub ack-number : primary_ok p ≡ true → protected p ≡ true → (r : Result Record Unread) → r ≡ read_record reader.Primary p.settings.u bytes
         → (n : ℕ) → n ≡ ack_refusal p r → ack_judged p bytes ≡ unless_refused n r
     unfolding ack_judged
     ack-number a b r e n h = rw (a, b, ← e, ← h)
 
     -- a fact of what is judged holds of refusals, and of the record found where that is accepted
-    pub ack-cases : (P : Record → Type 0) → ((n : ℕ) → P (Refused n))
+    pub ack-cases : (P : Result Record Unread → Type 0) → ((n : ℕ) → P (Err (Refused n)))
         → (primary_ok p ≡ true → protected p ≡ true → ack_refusal p (read_record reader.Primary p.settings.u bytes) ≡ 0 → P (read_record reader.Primary p.settings.u bytes))
         → P (ack_judged p bytes)
     unfolding ack_judged
@@ -92,7 +95,7 @@ module _ (p : Primary) where
         let r = read_record reader.Primary p.settings.u bytes in
         go (primary_ok p) (protected p) (λ a b. unless-cases (ack_refusal p r) r P (taken a b) (λ _. refusals (ack_refusal p r)))
       where
-        go : (a b : Bool) {r : Record} → (a ≡ true → b ≡ true → P r) → P (cond a (cond b r (Refused wrong_mode)) (Refused out_of_range))
+        go : (a b : Bool) {r : Result Record Unread} → (a ≡ true → b ≡ true → P r) → P (cond a (cond b r (Err (Refused wrong_mode))) (Err (Refused out_of_range)))
         go false b f = refusals out_of_range
         go true false f = refusals wrong_mode
         go true true f = f refl refl

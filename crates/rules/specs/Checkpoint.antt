@@ -1,4 +1,5 @@
 -- The primary's checkpoint. Assumes nothing.
+use Rattle.rules.specs.declared.Reply.{Reply}
 use Rattle.std.specs.Prelude.{ℕ, ◌+◌, ◌*◌, Bool, ◌&&◌, List, [], ◌∷◌, ◌++◌, leb, ltb, eqb, length}
 use Rattle.lists.specs.Refusal.{Test, test, refusal, pick}
 use Rattle.lists.specs.Part.{put}
@@ -9,9 +10,8 @@ use Rattle.settings.specs.Range.{most_epoch, checkpoint_end}
 use Rattle.marks.specs.Mark.{count_marks, cleared}
 use Rattle.pages.specs.Dirty.{dirty_records}
 use Rattle.rules.specs.declared.Primary.{Primary}
-use Rattle.rules.specs.declared.PrimaryReply.{PrimaryReply}
 use Rattle.rules.specs.PrimaryState.{primary_ok, protected, memory_length, marks_length, with_epoch_waiting}
-use Rattle.rules.specs.Reply.{primary_reply}
+use Rattle.rules.specs.Reply.{reply_of}
 
 -- the dirty pages of the memory
 abbrev pub dirty_count : Primary → List ℕ → ℕ
@@ -43,9 +43,9 @@ checkpoint_refusal p memory dirty stream pages = refusal (checkpoint_tests p mem
 unfoldable pub checkpoint_state : Primary → ℕ → Primary
 checkpoint_state p pages = with_epoch_waiting p (p.epoch + 1) (p.waiting + checkpoint_length p.settings.u (is_wide p.settings.m) pages)
 
-unfoldable pub checkpoint_reply : Primary → ℕ → ℕ → ℕ → ℕ → PrimaryReply
+unfoldable pub checkpoint_reply : Primary → ℕ → ℕ → ℕ → ℕ → Reply Primary
 checkpoint_reply p memory dirty stream pages =
-    primary_reply (checkpoint_refusal p memory dirty stream pages) p (checkpoint_state p pages) p.epoch
+    reply_of (checkpoint_refusal p memory dirty stream pages) p (checkpoint_state p pages) p.epoch
 
 abbrev pub checkpoint_number : Primary → List ℕ → List ℕ → List ℕ → ℕ
 checkpoint_number p memory dirty stream = checkpoint_refusal p (length memory) (length dirty) (length stream) (dirty_count p dirty)

@@ -1,12 +1,12 @@
 -- Flush at the standby. Assumes nothing.
+use Rattle.rules.specs.declared.Reply.{Reply}
 use Rattle.std.specs.Prelude.{ℕ, ◌&&◌, List, [], ◌∷◌, eqb, length}
 use Rattle.lists.specs.Refusal.{Test, test, refusal, pick}
 use Rattle.records.specs.Number.{out_of_range}
 use Rattle.staging.specs.Slot.{flush_count, flushed, flushed_bytes, stored}
 use Rattle.rules.specs.declared.Standby.{Standby}
-use Rattle.rules.specs.declared.StandbyReply.{StandbyReply}
 use Rattle.rules.specs.StandbyState.{standby_ok, disk_length, slots_length, with_slots_blocks}
-use Rattle.rules.specs.Reply.{standby_reply}
+use Rattle.rules.specs.Reply.{reply_of}
 
 -- 1
 abbrev pub flush_tests : Standby → ℕ → ℕ → List Test
@@ -15,10 +15,10 @@ flush_tests s slots disk = test out_of_range (standby_ok s && eqb slots (slots_l
 unfoldable pub flush_refusal : Standby → ℕ → ℕ → ℕ
 flush_refusal s slots disk = refusal (flush_tests s slots disk)
 
-unfoldable pub flush_reply : Standby → ℕ → ℕ → ℕ → StandbyReply
+unfoldable pub flush_reply : Standby → ℕ → ℕ → ℕ → Reply Standby
 flush_reply s slots disk n =
     let count = flush_count s.slots n in
-    standby_reply (flush_refusal s slots disk) s (with_slots_blocks s (flushed s.slots count) s.blocks s.records) count
+    reply_of (flush_refusal s slots disk) s (with_slots_blocks s (flushed s.slots count) s.blocks s.records) count
 
 unfoldable pub flush_staged_blocks : Standby → List ℕ → List ℕ → ℕ → List ℕ
 flush_staged_blocks s slots disk n =

@@ -1,8 +1,9 @@
 -- What a read at the standby is refused with, and the record that an accepted one finds. Assumes nothing.
-use Rattle.std.specs.Prelude.{ℕ, ◌+◌, Bool, cond, ◌&&◌, ◌||◌, not, List, [], ◌∷◌, leb, ltb, eqb}
+use Rattle.std.specs.Prelude.{ℕ, ◌+◌, Bool, cond, ◌&&◌, ◌||◌, not, List, [], ◌∷◌, leb, ltb, eqb, Result, Err}
 use Rattle.lists.specs.Refusal.{Test, test, refusal}
 use Rattle.records.specs.declared.Record.{Record}
-use Rattle.records.specs.declared.Record.TheVariants.{Refused}
+use Rattle.records.specs.declared.Unread.{Unread}
+use Rattle.records.specs.declared.Unread.TheVariants.{Refused}
 use Rattle.records.specs.declared.Reader.{Reader}
 use Rattle.records.specs.declared.Reader.TheVariants as reader
 use Rattle.records.specs.Kind.{ACK, is_wide, record_length}
@@ -78,7 +79,7 @@ commit_refusal s reply epoch pages blocks = refusal (commit_tests s reply epoch 
 abbrev pub free_for : Standby → ℕ
 free_for s = free_slots s.slots s.settings.s
 
-abbrev pub record_refusal : Standby → ℕ → Record → ℕ
+abbrev pub record_refusal : Standby → ℕ → Result Record Unread → ℕ
 record_refusal s reply r =
     by_kind r (λ e p c. page_refusal s e p) (λ e n c. block_refusal s (free_for s) e n) (λ e c. state_refusal s e) (λ e p b c. commit_refusal s reply e p b) (other_refusal r)
 
@@ -87,9 +88,9 @@ abbrev pub reader_of : Standby → Reader
 reader_of s = reader.Standby (is_wide s.settings.m)
 
 -- the record at the head of the bytes where it is accepted, else cut short or the number
-unfoldable pub judged : Standby → ReadLent → List ℕ → Record
+unfoldable pub judged : Standby → ReadLent → List ℕ → Result Record Unread
 judged s l bytes =
     let r = read_record (reader_of s) s.settings.u bytes in
     cond (standby_ok s && read_lent_ok s l)
-    (cond (is_receiving s.mode) (unless_refused (record_refusal s l.reply r) r) (Refused wrong_mode))
-    (Refused out_of_range)
+    (cond (is_receiving s.mode) (unless_refused (record_refusal s l.reply r) r) (Err (Refused wrong_mode)))
+    (Err (Refused out_of_range))

@@ -1,5 +1,6 @@
 -- Packets: held with the open epoch and a port, and handed out, a port's oldest, once their epoch is acknowledged
 -- (ports: document 02, Job 6). Assumes nothing.
+use Rattle.rules.specs.declared.Reply.{Reply}
 use Rattle.std.specs.Prelude.{ℕ, ◌+◌, Bool, ◌&&◌, ◌||◌, List, [], ◌∷◌, leb, eqb, length}
 use Rattle.lists.specs.Refusal.{Test, test, refusal, pick}
 use Rattle.lists.specs.Part.{put}
@@ -7,9 +8,8 @@ use Rattle.records.specs.Number.{out_of_range, bad_packet, no_room, queue_full, 
 use Rattle.settings.specs.Range.{packet_length_ok, port_ok}
 use Rattle.queue.specs.Held.{oldest_at, has_packet, oldest, has_space, added, added_bytes, packet_bytes, without_packet, without_packet_bytes}
 use Rattle.rules.specs.declared.Primary.{Primary}
-use Rattle.rules.specs.declared.PrimaryReply.{PrimaryReply}
 use Rattle.rules.specs.PrimaryState.{primary_ok, with_queue}
-use Rattle.rules.specs.Reply.{primary_reply}
+use Rattle.rules.specs.Reply.{reply_of}
 
 -- ---- packet: 1 4 23 16
 abbrev pub packet_tests : Primary → ℕ → ℕ → ℕ → List Test
@@ -23,9 +23,9 @@ packet_tests p held port n =
 unfoldable pub packet_refusal : Primary → ℕ → ℕ → ℕ → ℕ
 packet_refusal p held port n = refusal (packet_tests p held port n)
 
-unfoldable pub packet_reply : Primary → ℕ → ℕ → ℕ → PrimaryReply
+unfoldable pub packet_reply : Primary → ℕ → ℕ → ℕ → Reply Primary
 packet_reply p held port n =
-    primary_reply (packet_refusal p held port n) p (with_queue p (added p.queue p.epoch port n)) (p.queue.count + 1)
+    reply_of (packet_refusal p held port n) p (with_queue p (added p.queue p.epoch port n)) (p.queue.count + 1)
 
 -- "copied and held with the open epoch"
 unfoldable pub packet_held : Primary → List ℕ → ℕ → List ℕ → List ℕ
@@ -53,9 +53,9 @@ unfoldable pub take_refusal : Primary → ℕ → ℕ → ℕ → ℕ
 take_refusal p held port destination = refusal (take_tests p held port destination)
 
 -- "That port's oldest packet goes out"
-unfoldable pub take_reply : Primary → ℕ → ℕ → ℕ → PrimaryReply
+unfoldable pub take_reply : Primary → ℕ → ℕ → ℕ → Reply Primary
 take_reply p held port destination =
-    primary_reply (take_refusal p held port destination) p (with_queue p (without_packet p.queue (oldest_at p.queue port)))
+    reply_of (take_refusal p held port destination) p (with_queue p (without_packet p.queue (oldest_at p.queue port)))
     (oldest p.queue port).length
 
 unfoldable pub take_held : Primary → List ℕ → ℕ → List ℕ → List ℕ

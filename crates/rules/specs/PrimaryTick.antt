@@ -1,13 +1,13 @@
 -- The primary's tick. Assumes nothing.
+use Rattle.rules.specs.declared.Reply.{Reply}
 use Rattle.std.specs.Prelude.{ℕ, ◌+◌, Bool, true, false, cond, List, [], ◌∷◌, ltb}
 use Rattle.lists.specs.Refusal.{Test, test, refusal}
 use Rattle.records.specs.Number.{out_of_range}
 use Rattle.detector.specs.declared.Detector.{Detector}
 use Rattle.detector.specs.Tick.{ticked, expired}
 use Rattle.rules.specs.declared.Primary.{Primary}
-use Rattle.rules.specs.declared.PrimaryReply.{PrimaryReply}
 use Rattle.rules.specs.PrimaryState.{primary_ok, with_detector_alone_waiting}
-use Rattle.rules.specs.Reply.{primary_reply}
+use Rattle.rules.specs.Reply.{reply_of}
 
 -- 1
 abbrev pub primary_tick_tests : Primary → List Test
@@ -28,5 +28,5 @@ alone_at p d = cond (expired d) (with_detector_alone_waiting p d true 0) (with_d
 unfoldable pub primary_tick_state : Primary → Primary
 primary_tick_state p = cond p.alone p (alone_at p (ticked p.detector (outstanding p)))
 
-unfoldable pub primary_tick_reply : Primary → PrimaryReply
-primary_tick_reply p = primary_reply (primary_tick_refusal p) p (primary_tick_state p) 0
+unfoldable pub primary_tick_reply : Primary → Reply Primary
+primary_tick_reply p = reply_of (primary_tick_refusal p) p (primary_tick_state p) 0

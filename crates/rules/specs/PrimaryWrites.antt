@@ -1,4 +1,5 @@
 -- The guest's writes at the primary. Assumes nothing.
+use Rattle.rules.specs.declared.Reply.{Reply}
 use Rattle.std.specs.Prelude.{ℕ, ◌+◌, cond, ◌&&◌, ◌||◌, List, [], ◌∷◌, leb, ltb, eqb, length, set}
 use Rattle.lists.specs.Refusal.{Test, test, refusal, pick}
 use Rattle.lists.specs.Part.{put}
@@ -8,11 +9,10 @@ use Rattle.records.specs.Write.{block_record}
 use Rattle.records.specs.Number.{out_of_range, no_such_unit, bad_size, allowance_used, stream_full}
 use Rattle.marks.specs.Mark.{with_mark}
 use Rattle.rules.specs.declared.Primary.{Primary}
-use Rattle.rules.specs.declared.PrimaryReply.{PrimaryReply}
 use Rattle.pages.specs.Write.{inside_page, written}
 use Rattle.rules.specs.Blocks.{block_allowed, blocks_with}
 use Rattle.rules.specs.PrimaryState.{primary_ok, is_written, memory_length, disk_length, marks_length, with_blocks_waiting}
-use Rattle.rules.specs.Reply.{primary_reply}
+use Rattle.rules.specs.Reply.{reply_of}
 
 -- ---- memory write: 1 2 3
 abbrev pub memory_write_tests : Primary → ℕ → ℕ → ℕ → ℕ → ℕ → List Test
@@ -25,8 +25,8 @@ memory_write_tests p memory dirty page offset n =
 unfoldable pub memory_write_refusal : Primary → ℕ → ℕ → ℕ → ℕ → ℕ → ℕ
 memory_write_refusal p memory dirty page offset n = refusal (memory_write_tests p memory dirty page offset n)
 
-unfoldable pub memory_write_reply : Primary → ℕ → ℕ → ℕ → ℕ → ℕ → PrimaryReply
-memory_write_reply p memory dirty page offset n = primary_reply (memory_write_refusal p memory dirty page offset n) p p p.epoch
+unfoldable pub memory_write_reply : Primary → ℕ → ℕ → ℕ → ℕ → ℕ → Reply Primary
+memory_write_reply p memory dirty page offset n = reply_of (memory_write_refusal p memory dirty page offset n) p p p.epoch
 
 unfoldable pub memory_write_memory : Primary → List ℕ → List ℕ → ℕ → ℕ → List ℕ → List ℕ
 memory_write_memory p memory dirty page offset bytes =
@@ -62,8 +62,8 @@ with_block_appended p block =
 unfoldable pub disk_write_state : Primary → ℕ → Primary
 disk_write_state p block = cond p.alone p (with_block_appended p block)
 
-unfoldable pub disk_write_reply : Primary → ℕ → ℕ → ℕ → ℕ → PrimaryReply
-disk_write_reply p disk stream block n = primary_reply (disk_write_refusal p disk stream block n) p (disk_write_state p block) p.epoch
+unfoldable pub disk_write_reply : Primary → ℕ → ℕ → ℕ → ℕ → Reply Primary
+disk_write_reply p disk stream block n = reply_of (disk_write_refusal p disk stream block n) p (disk_write_state p block) p.epoch
 
 -- "U bytes, stored on the primary's disk, and a BLOCK appended to the stream"
 unfoldable pub disk_write_disk : Primary → List ℕ → List ℕ → ℕ → List ℕ → List ℕ

@@ -1,9 +1,11 @@
 -- What a read at the standby leaves, by the record that was judged. Assumes nothing.
-use Rattle.std.specs.Prelude.{ℕ, ◌+◌, ◌-◌, List, length}
+use Rattle.rules.specs.declared.ReadReply.{ReadReply}
+use Rattle.std.specs.Prelude.{ℕ, ◌+◌, ◌-◌, List, length, Result}
 use Rattle.lists.specs.Part.{part, put}
 use Rattle.lists.specs.Page.{with_page}
 use Rattle.records.specs.declared.Cursor.{Cursor}
 use Rattle.records.specs.declared.Record.{Record}
+use Rattle.records.specs.declared.Unread.{Unread}
 use Rattle.records.specs.Cases.{on_page, on_block, on_commit, by_kind}
 use Rattle.records.specs.Write.{ack_record}
 use Rattle.marks.specs.Mark.{with_mark, cleared}
@@ -11,7 +13,6 @@ use Rattle.pages.specs.Dirty.{installed}
 use Rattle.staging.specs.Slot.{is_staged, with_block, with_block_bytes, all_due}
 use Rattle.rules.specs.declared.Standby.{Standby}
 use Rattle.rules.specs.declared.ReadLent.{ReadLent}
-use Rattle.rules.specs.declared.StandbyAnswer.{StandbyAnswer}
 use Rattle.rules.specs.Blocks.{blocks_with}
 use Rattle.rules.specs.StandbyState.{with_pages_next, with_slots_blocks, with_pending_seen, with_no_records, with_received_slots_processor, with_no_ticks}
 use Rattle.rules.specs.Reply.{answer_of}
@@ -36,7 +37,7 @@ staged_state s n =
 
 -- the state after a record is accepted: the count "returns to 0 at each accepted record of kinds 1 to 4" (document 02,
 -- Job 1); any other answer leaves the state
-abbrev pub read_state : Standby → List ℕ → Record → Standby
+abbrev pub read_state : Standby → List ℕ → Result Record Unread → Standby
 read_state s bytes r =
     let t = with_no_ticks s in
     by_kind r
@@ -47,20 +48,20 @@ read_state s bytes r =
     s
 
 -- each lent buffer: "A record cut short or refused .. changes nothing"
-abbrev pub memory_after : Standby → List ℕ → List ℕ → List ℕ → Record → List ℕ
+abbrev pub memory_after : Standby → List ℕ → List ℕ → List ℕ → Result Record Unread → List ℕ
 memory_after s memory staged marks r = on_commit r (λ e p b c. installed memory staged marks s.settings.u s.settings.m) memory
 
-abbrev pub staged_pages_after : Standby → List ℕ → List ℕ → Record → List ℕ
+abbrev pub staged_pages_after : Standby → List ℕ → List ℕ → Result Record Unread → List ℕ
 staged_pages_after s bytes staged r = on_page r (λ e p c. with_page s.settings.u staged p (bytes_at c bytes)) staged
 
-abbrev pub staged_marks_after : Standby → List ℕ → Record → List ℕ
+abbrev pub staged_marks_after : Standby → List ℕ → Result Record Unread → List ℕ
 staged_marks_after s marks r = on_page r (λ e p c. with_mark marks p) (on_commit r (λ e p b c. cleared marks s.settings.m) marks)
 
-abbrev pub staged_blocks_after : Standby → List ℕ → List ℕ → Record → List ℕ
+abbrev pub staged_blocks_after : Standby → List ℕ → List ℕ → Result Record Unread → List ℕ
 staged_blocks_after s bytes slots r = on_block r (λ e n c. with_block_bytes s.settings.u s.slots n slots (bytes_at c bytes)) slots
 
 -- "writes the ACK into the first 8 bytes of the reply buffer"
-abbrev pub reply_after : List ℕ → Record → List ℕ
+abbrev pub reply_after : List ℕ → Result Record Unread → List ℕ
 reply_after reply r = on_commit r (λ e p b c. put reply 0 (ack_record e)) reply
 
 -- the lengths of what is lent
@@ -69,7 +70,7 @@ read_lent memory staged_pages staged_marks staged_blocks reply =
     record { memory = length memory; pages = length staged_pages; marks = length staged_marks; blocks = length staged_blocks; reply = length reply }
 
 -- ---- the call: the record judged, and everything by it
-unfoldable pub read_reply : Standby → ReadLent → List ℕ → StandbyAnswer
+unfoldable pub read_reply : Standby → ReadLent → List ℕ → ReadReply Standby
 read_reply s l bytes = record { state = read_state s bytes (judged s l bytes); answer = answer_of (judged s l bytes) }
 
 unfoldable pub read_memory : Standby → ReadLent → List ℕ → List ℕ → List ℕ → List ℕ → List ℕ

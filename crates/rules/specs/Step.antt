@@ -1,8 +1,9 @@
 -- One call on the world: the ends' definitions applied to it. What travels is what the buffers then hold. Assumes
 -- nothing.
+use Rattle.rules.specs.declared.Standby.{Standby}
+use Rattle.rules.specs.declared.ReadReply.{ReadReply}
 use Rattle.std.specs.Prelude.{ℕ, cond, List, [], ◌++◌, length, take, drop}
 use Rattle.records.specs.Kind.{ACK, record_length}
-use Rattle.rules.specs.declared.StandbyAnswer.{StandbyAnswer}
 use Rattle.rules.specs.Reply.{number_of, value_of, used_of, commit_accepted}
 use Rattle.rules.specs.PrimaryWrites.{memory_write_reply, memory_write_memory, memory_write_dirty, disk_write_reply, disk_write_disk, disk_write_stream}
 use Rattle.rules.specs.Packets.{packet_reply, packet_held, take_reply, take_held, take_destination}
@@ -177,7 +178,7 @@ step_primary_sum w =
 -- ---- the standby's calls
 
 -- "the ACKs that accepted COMMITs wrote"
-abbrev pub ack_written : StandbyAnswer → List ℕ → List ℕ
+abbrev pub ack_written : ReadReply Standby → List ℕ → List ℕ
 ack_written r reply =
     cond (commit_accepted (number_of r.answer) (value_of r.answer)) (take (record_length r.state.settings.u ACK) reply) []
 

@@ -1,4 +1,5 @@
 -- The standby's tick, activation, and the guest's writes once it is active. Assumes nothing.
+use Rattle.rules.specs.declared.Reply.{Reply}
 use Rattle.std.specs.Prelude.{ℕ, ◌*◌, Bool, true, cond, ◌&&◌, List, [], ◌∷◌, ltb, eqb, length}
 use Rattle.lists.specs.Refusal.{Test, test, refusal, pick}
 use Rattle.lists.specs.Part.{put}
@@ -11,10 +12,9 @@ use Rattle.staging.specs.Slot.{only_due}
 use Rattle.detector.specs.Tick.{ticked, expired}
 use Rattle.rules.specs.declared.Mode.TheVariants.{TakingOver, Active}
 use Rattle.rules.specs.declared.Standby.{Standby}
-use Rattle.rules.specs.declared.StandbyReply.{StandbyReply}
 use Rattle.rules.specs.StandbyState.{standby_ok, is_receiving, is_taking_over, is_active, marks_length, with_slots_blocks, with_no_records, with_detector, with_mode}
 use Rattle.pages.specs.Write.{inside_page, written}
-use Rattle.rules.specs.Reply.{standby_reply}
+use Rattle.rules.specs.Reply.{reply_of}
 
 -- ---- tick: 1
 abbrev pub standby_tick_tests : Standby → ℕ → List Test
@@ -37,8 +37,8 @@ standby_tick_state s =
     let s' = with_detector s (ticked s.detector true) in
     cond (is_receiving s.mode) (cond (takes_over s) (with_mode (dropped s') TakingOver) s') s
 
-unfoldable pub standby_tick_reply : Standby → ℕ → StandbyReply
-standby_tick_reply s marks = standby_reply (standby_tick_refusal s marks) s (standby_tick_state s) 0
+unfoldable pub standby_tick_reply : Standby → ℕ → Reply Standby
+standby_tick_reply s marks = reply_of (standby_tick_refusal s marks) s (standby_tick_state s) 0
 
 unfoldable pub standby_tick_marks : Standby → List ℕ → List ℕ
 standby_tick_marks s marks =
@@ -55,8 +55,8 @@ activation_tests s area =
 unfoldable pub activation_refusal : Standby → ℕ → ℕ
 activation_refusal s area = refusal (activation_tests s area)
 
-unfoldable pub activation_reply : Standby → ℕ → StandbyReply
-activation_reply s area = standby_reply (activation_refusal s area) s (with_mode s Active) s.received
+unfoldable pub activation_reply : Standby → ℕ → Reply Standby
+activation_reply s area = reply_of (activation_refusal s area) s (with_mode s Active) s.received
 
 -- "activation writes the record with the last received epoch"
 unfoldable pub activation_area : Standby → List ℕ → List ℕ
@@ -76,9 +76,9 @@ active_write_tests s lent units unit sized =
 unfoldable pub active_memory_write_refusal : Standby → ℕ → ℕ → ℕ → ℕ → ℕ
 active_memory_write_refusal s memory page offset n = refusal (active_write_tests s memory s.settings.m page (inside_page s.settings.u offset n))
 
-unfoldable pub active_memory_write_reply : Standby → ℕ → ℕ → ℕ → ℕ → StandbyReply
+unfoldable pub active_memory_write_reply : Standby → ℕ → ℕ → ℕ → ℕ → Reply Standby
 active_memory_write_reply s memory page offset n =
-    standby_reply (active_memory_write_refusal s memory page offset n) s s s.received
+    reply_of (active_memory_write_refusal s memory page offset n) s s s.received
 
 unfoldable pub active_memory_write_memory : Standby → List ℕ → ℕ → ℕ → List ℕ → List ℕ
 active_memory_write_memory s memory page offset bytes =
@@ -88,8 +88,8 @@ active_memory_write_memory s memory page offset bytes =
 unfoldable pub active_disk_write_refusal : Standby → ℕ → ℕ → ℕ → ℕ
 active_disk_write_refusal s disk block n = refusal (active_write_tests s disk s.settings.d block (eqb n s.settings.u))
 
-unfoldable pub active_disk_write_reply : Standby → ℕ → ℕ → ℕ → StandbyReply
-active_disk_write_reply s disk block n = standby_reply (active_disk_write_refusal s disk block n) s s s.received
+unfoldable pub active_disk_write_reply : Standby → ℕ → ℕ → ℕ → Reply Standby
+active_disk_write_reply s disk block n = reply_of (active_disk_write_refusal s disk block n) s s s.received
 
 unfoldable pub active_disk_write_disk : Standby → List ℕ → ℕ → List ℕ → List ℕ
 active_disk_write_disk s disk block bytes =

@@ -3,6 +3,7 @@
 
 use detector::Detector;
 use queue::Queue;
+use records::Unread;
 use settings::{MOST_ALLOWANCE, PrimarySettings, StandbySettings};
 use staging::Slots;
 
@@ -15,7 +16,7 @@ pub struct Primary {
     pub epoch: u32,
     pub acknowledged: u32,
     pub alone: bool,
-    // different blocks of the open epoch, and its BLOCK records
+    // different blocks of the open epoch (beside the numbers below: no heap), and its BLOCK records
     pub blocks: usize,
     pub records: usize,
     // bytes of the outgoing stream
@@ -54,39 +55,27 @@ pub struct Standby {
     pub processor: [u8; 64],
 }
 
-// What a call of the primary gives: number 0 is accepted.
+// What a call of an end gives: its state, the number (0 is accepted, else the refusal's) and the value. The number is the
+// documents', and not a Result: the outcome of a step (specs/Step.antt), of which the theorems on runs speak, is made of it.
 #[derive(Clone, Copy)]
-pub struct PrimaryReply {
-    pub state: Primary,
+pub struct Reply<S> {
+    pub state: S,
     pub number: u64,
     pub value: u64,
 }
 
+// A record was read: its value, and the bytes that it uses.
 #[derive(Clone, Copy)]
-pub struct StandbyReply {
-    pub state: Standby,
-    pub number: u64,
+pub struct Accepted {
     pub value: u64,
+    pub used: usize,
 }
 
-// What reading a record answers.
+// What a call that reads a record gives.
 #[derive(Clone, Copy)]
-pub enum Answer {
-    Accepted { value: u64, used: usize },
-    Short { missing: usize },
-    Refused { number: u64 },
-}
-
-#[derive(Clone, Copy)]
-pub struct PrimaryAnswer {
-    pub state: Primary,
-    pub answer: Answer,
-}
-
-#[derive(Clone, Copy)]
-pub struct StandbyAnswer {
-    pub state: Standby,
-    pub answer: Answer,
+pub struct ReadReply<S> {
+    pub state: S,
+    pub answer: Result<Accepted, Unread>,
 }
 
 // The lengths of what a read is lent: memory, staged pages, staged marks, staged blocks, reply.
@@ -127,7 +116,7 @@ pub struct StartLent {
     pub standby: StandbyLent,
 }
 
-// What start gives.
+// What start gives: the states too where it is refused, wholly zero (`started`, specs/Start.antt), so that it is no Result.
 #[derive(Clone, Copy)]
 pub struct Started {
     pub primary: Primary,
@@ -135,10 +124,9 @@ pub struct Started {
     pub number: u64,
 }
 
-// Which disk is valid after both boxes fail.
+// The disk that is valid after both boxes fail.
 #[derive(Clone, Copy)]
-pub enum Choice {
+pub enum Disk {
     PrimaryDisk,
     StandbyDisk,
-    Refused { number: u64 },
 }

@@ -1,4 +1,5 @@
 -- An accepted ACK keeps the invariant. Assumes nothing.
+use Rattle.std.specs.Prelude.{Result}
 use Prim.Native.Nat.{ℕ, ◌<◌, ◌^◌}
 use mathlib.Core.Path.{◌≡◌, refl, sym, ap, ◌∙◌, subst}
 use mathlib.Core.Logic.{⊎_elim}
@@ -9,6 +10,7 @@ use lib.ListN.{length, drop}
 use borrow.Author.Tests.{not-true, lt-leb}
 use Rattle.lists.proofs.TestLaws.{by-test}
 use Rattle.records.specs.declared.Record.{Record}
+use Rattle.records.specs.declared.Unread.{Unread}
 use Rattle.records.specs.declared.Reader.TheVariants as reader
 use Rattle.records.specs.Kind.{ACK, record_length}
 use Rattle.records.specs.Read.{cursor}
@@ -102,7 +104,7 @@ module _ (g : Settings) (b : Both) (i : Inv g b) where
       }
 
   module _ (n : ℕ) where
-    abbrev both_by : Record → Both
+    abbrev both_by : Result Record Unread → Both
     both_by r = record { world = (ack_by b.world r).next; plain = plain_step g.u (call.ack n) (ack_by b.world r).outcome b.plain }
 
     run_is : run_call steps g.u b (call.ack n) ≡ both_by (ack_seen b.world n)
@@ -122,7 +124,7 @@ module _ (g : Settings) (b : Both) (i : Inv g b) where
     by-found on accepted (next e es same whole bytes z seen) =
         let p = b.world.primary.state in
         let f = ack-epochs p e (cursor 8 (record_length p.settings.u ACK)) (sym z ∙ accepted) in
-        subst (λ (y : Record). Inv g (both_by y)) (sym (seen accepted))
+        subst (λ (y : Result Record Unread). Inv g (both_by y)) (sym (seen accepted))
         (by-ack e es same (record { ok = i.holds.primary_kept.reached.range.in_range; protects = on; above = f.0; below = f.1 }) bytes)
 
 pub ack-keeps : (g : Settings) (n : ℕ) → KeepsAccepted g (call.ack n)

@@ -5,13 +5,15 @@
 -- The others: 1 of any other call, every state stays in range and `step` lends what start was lent; 6 to 11, the link
 -- and the ACKs bring what the other end wrote, in order and once; 12 is the disk choice's; 19 comes after 4,294,967,294
 -- checkpoints.
+use Rattle.std.specs.Prelude.{Result, Ok}
 use Prim.Native.Nat.{ℕ}
 use mathlib.Core.Path.{◌≡◌, refl}
 use mathlib.Core.Bool.{true}
 use mathlib.Core.List.{List, [], ◌∷◌, ◌++◌}
 use lib.ListN.{length, replicate}
-use Rattle.rules.specs.declared.Choice.{Choice}
-use Rattle.rules.specs.declared.Choice.TheVariants.{PrimaryDisk, StandbyDisk}
+use Rattle.records.specs.declared.refusal.Refusal.{Refusal}
+use Rattle.rules.specs.declared.Disk.{Disk}
+use Rattle.rules.specs.declared.Disk.TheVariants.{PrimaryDisk, StandbyDisk}
 use Rattle.rules.specs.Choose.{choice_of, chosen_disk}
 use Rattle.rules.specs.World.{Call}
 use Rattle.rules.specs.World as call
@@ -143,7 +145,7 @@ unfolding all_steps
 run-packets = refl
 
 -- the disk choice on what both boxes stored
-abbrev pub choice_at : Both → Choice
+abbrev pub choice_at : Both → Result Disk Refusal
 choice_at b = choice_of (length b.world.primary.disk) (length b.world.standby.disk) b.world.standby.area
 
 abbrev pub disk_at : Both → List ℕ
@@ -183,7 +185,7 @@ unfolding all_steps
 run-counts = (refl, refl, refl, refl)
 
 -- the primary's disk went on, and is not the one chosen
-pub run-choice : (choice_at ended ≡ StandbyDisk) × (disk_at ended ≡ disk_last) × (ended.world.primary.disk ≡ unit 48 ++ (unit 46 ++ unit 47))
+pub run-choice : (choice_at ended ≡ Ok StandbyDisk) × (disk_at ended ≡ disk_last) × (ended.world.primary.disk ≡ unit 48 ++ (unit 46 ++ unit 47))
 unfolding all_steps
 run-choice = (refl, refl, refl)
 
@@ -202,14 +204,14 @@ pub record StandbyCut (calls : List Call) : Type 0 where
   -- one of three due blocks is stored, and the primary's disk is valid
   pub disk : (cut_there calls).world.standby.disk ≡ unit 42 ++ (unit 22 ++ unit 41)
   pub due : (cut_there calls).world.standby.state.slots.due ≡ 2
-  pub choice : choice_at (cut_there calls) ≡ PrimaryDisk
+  pub choice : choice_at (cut_there calls) ≡ Ok PrimaryDisk
   pub chosen : disk_at (cut_there calls) ≡ unit 48 ++ (unit 46 ++ unit 47)
   -- after the takeover the standby has checkpoint 2, as the plain pair has
   pub activates : active (then_takeover calls).world ≡ true
   pub memory_then : ((then_takeover calls).world.standby.memory ≡ memory2) × ((then_takeover calls).plain.standby_memory ≡ memory2)
   pub disk_then : ((then_takeover calls).world.standby.disk ≡ disk2) × ((then_takeover calls).plain.standby_disk ≡ disk2)
   pub processor_then : (then_takeover calls).world.standby.state.processor ≡ unit 62
-  pub choice_then : choice_at (then_takeover calls) ≡ StandbyDisk
+  pub choice_then : choice_at (then_takeover calls) ≡ Ok StandbyDisk
 
 pub cut-inside-flush : StandbyCut (counted_calls standby_cut (calls_of rows))
 unfolding all_steps

@@ -1,4 +1,5 @@
 -- From the invariant to what demand 3 claims at every cut, but for the takeover. Assumes nothing.
+use Rattle.std.specs.Prelude.{Result, Ok}
 use Prim.Native.Nat.{ℕ, suc, ◌+◌, ◌≤◌, ◌<◌}
 use mathlib.Core.Path.{◌≡◌, refl, sym, ap, ◌∙◌}
 use mathlib.Core.Bool.{Bool, true, false, cond}
@@ -9,8 +10,9 @@ use lib.ListN.{length, drop, get_or, length-drop}
 use lib.Seq.{get_or-drop}
 use borrow.Author.Tests.{eq-eqb}
 use Rattle.settings.specs.declared.Settings.{Settings}
-use Rattle.rules.specs.declared.Choice.{Choice}
-use Rattle.rules.specs.declared.Choice.TheVariants.{PrimaryDisk, StandbyDisk}
+use Rattle.records.specs.declared.refusal.Refusal.{Refusal}
+use Rattle.rules.specs.declared.Disk.{Disk}
+use Rattle.rules.specs.declared.Disk.TheVariants.{PrimaryDisk, StandbyDisk}
 use Rattle.rules.specs.Choose.{choice_of, chosen}
 use Rattle.runs.specs.Plain.{Checkpoint, no_checkpoint}
 use Rattle.runs.specs.Run.{Both}
@@ -41,7 +43,7 @@ rising_le a r (e ∷ es) h = omega (arith, h.0, rising_le e r es h.1)
 
 -- ---- the claims
 chosen-disk : (b : Bool) (primary standby primary' standby' : List ℕ) → primary ≡ primary' → (b ≡ true → standby ≡ standby')
-    → chosen (cond b StandbyDisk PrimaryDisk) primary standby [] ≡ cond b standby' primary'
+    → chosen (cond b (Ok StandbyDisk) (Ok PrimaryDisk)) primary standby [] ≡ cond b standby' primary'
 chosen-disk true primary standby primary' standby' p s = s refl
 chosen-disk false primary standby primary' standby' p s = p
 
@@ -59,7 +61,7 @@ module _ (g : Settings) (b : Both) (i : Inv g b) where
         processor = λ a. t.processor_is ∙ ap (λ (c : Checkpoint). c.processor) (sym (received_is v.history));
       }
 
-  choice : choice_of (length b.world.primary.disk) (length b.world.standby.disk) b.world.standby.area ≡ cond b.plain.activated StandbyDisk PrimaryDisk
+  choice : choice_of (length b.world.primary.disk) (length b.world.standby.disk) b.world.standby.area ≡ cond b.plain.activated (Ok StandbyDisk) (Ok PrimaryDisk)
   unfolding choice_of
   choice =
       let e : length b.world.primary.disk ≡ length b.world.standby.disk = v.primary_kept.disk ∙ sym v.standby_kept.disk in
@@ -69,7 +71,7 @@ module _ (g : Settings) (b : Both) (i : Inv g b) where
   disks-right =
       record {
         choice = choice;
-        bytes = ap (λ (c : Choice). chosen c b.world.primary.disk b.world.standby.disk []) choice
+        bytes = ap (λ (c : Result Disk Refusal). chosen c b.world.primary.disk b.world.standby.disk []) choice
             ∙ chosen-disk b.plain.activated b.world.primary.disk b.world.standby.disk b.plain.disk b.plain.standby_disk v.images.disk_is v.taker.active_disk;
       }
 

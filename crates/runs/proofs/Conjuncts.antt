@@ -1,5 +1,6 @@
 -- Wrong ends for which a conjunct of `Holds` is false, by computing. Assumes nothing.
 -- Each names the conjunct; the others are in Refutations and Slips.
+use Rattle.std.specs.Prelude.{Result, Ok, Err}
 use Prim.Native.Nat.{ℕ, ◌-◌, ◌≤◌, ◌<◌}
 use mathlib.Core.Path.{◌≡◌, refl, ap}
 use mathlib.Core.Bool.{Bool, true, false, cond, true≢false, false≢true}
@@ -8,8 +9,9 @@ use native.Mathlib.Omega.{arith}
 use lib.Dec.{lit≤}
 use lib.ListN.{get_or, replicate}
 use Rattle.records.specs.Kind.{COMMIT}
-use Rattle.rules.specs.declared.Choice.{Choice}
-use Rattle.rules.specs.declared.Choice.TheVariants.{PrimaryDisk, StandbyDisk, Refused}
+use Rattle.records.specs.declared.refusal.Refusal.{Refusal}
+use Rattle.rules.specs.declared.Disk.{Disk}
+use Rattle.rules.specs.declared.Disk.TheVariants.{PrimaryDisk, StandbyDisk}
 use Rattle.rules.specs.declared.Mode.TheVariants.{Active}
 use Rattle.rules.specs.PrimaryState.{with_acknowledged_detector, with_detector_alone_waiting}
 use Rattle.rules.specs.StandbyState.{is_taking_over, with_received_slots_processor, with_mode}
@@ -93,10 +95,10 @@ writes_no_record w c s =
     let n = s.next.standby in
     leaving s (at_standby s.next (record { state = n.state; memory = n.memory; disk = n.disk; staged_pages = n.staged_pages; staged_marks = n.staged_marks; staged_blocks = n.staged_blocks; area = w.standby.area }))
 
-abbrev is_primary_disk : Choice → Bool
-is_primary_disk PrimaryDisk = true
-is_primary_disk StandbyDisk = false
-is_primary_disk (Refused n) = false
+abbrev is_primary_disk : Result Disk Refusal → Bool
+is_primary_disk (Ok PrimaryDisk) = true
+is_primary_disk (Ok StandbyDisk) = false
+is_primary_disk (Err refusal) = false
 
 pub refutes-no-record : Demand3Of (wrongly (instead_of call.activation writes_no_record)) → ⊥
 unfolding all_steps

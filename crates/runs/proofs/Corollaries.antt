@@ -1,5 +1,6 @@
 -- The claims of specs/Corollaries.antt but the fifth and the seventh: the first four from demand 3, the sixth from the
 -- invariant. Assumes nothing.
+use Rattle.std.specs.Prelude.{Result, Ok}
 use Prim.Native.Nat.{ℕ, ◌≤◌}
 use mathlib.Core.Path.{◌≡◌, refl, sym, ap, ◌∙◌, subst}
 use mathlib.Core.Bool.{true, cond}
@@ -7,8 +8,9 @@ use mathlib.Core.List.{List, [], ◌∷◌, ◌++◌}
 use native.Mathlib.Omega.{arith}
 use borrow.Author.Tests.{eq-eqb}
 use Rattle.settings.specs.declared.Settings.{Settings}
-use Rattle.rules.specs.declared.Choice.{Choice}
-use Rattle.rules.specs.declared.Choice.TheVariants.{PrimaryDisk, StandbyDisk}
+use Rattle.records.specs.declared.refusal.Refusal.{Refusal}
+use Rattle.rules.specs.declared.Disk.{Disk}
+use Rattle.rules.specs.declared.Disk.TheVariants.{PrimaryDisk, StandbyDisk}
 use Rattle.rules.specs.Choose.{chosen}
 use Rattle.rules.specs.World.{Processor, Call, Buffers, start_number}
 use Rattle.rules.specs.World as call
@@ -74,8 +76,8 @@ module _ (g : Settings) (processor : Processor) (buffers : Buffers) (started : s
   primary-disk calls cut off =
       let b = pair_after g processor buffers (counted_calls cut calls) in
       let d = (demand-3 g processor buffers started calls cut).end.disks in
-      let choice = d.choice ∙ ap (λ x. cond x StandbyDisk PrimaryDisk) off in
-      let same = ap (λ (c : Choice). chosen c b.world.primary.disk b.world.standby.disk []) choice in
+      let choice = d.choice ∙ ap (λ x. cond x (Ok StandbyDisk) (Ok PrimaryDisk)) off in
+      let same = ap (λ (c : Result Disk Refusal). chosen c b.world.primary.disk b.world.standby.disk []) choice in
       record { choice = choice; chosen = same; plain = sym same ∙ d.bytes ∙ ap (λ x. cond x b.plain.standby_disk b.plain.disk) off }
 
 -- ---- the claims

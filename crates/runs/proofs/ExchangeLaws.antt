@@ -1,4 +1,5 @@
 -- What the calls of an exchange leave as it was, one by one. Assumes nothing.
+use Rattle.std.specs.Prelude.{Result, Ok, Err}
 use Prim.Native.Nat.{ℕ, ◌+◌, ◌-◌, ◌≤◌, min}
 use mathlib.Core.Path.{◌≡◌, refl, ap, ◌∙◌}
 use mathlib.Core.Bool.{Bool}
@@ -9,7 +10,9 @@ use borrow.Author.Tests.{eq-eqb}
 use Rattle.lists.specs.Part.{removed}
 use Rattle.lists.proofs.TestLaws.{join, accepts}
 use Rattle.records.specs.declared.Record.{Record}
+use Rattle.records.specs.declared.Unread.{Unread}
 use Rattle.records.specs.declared.Record.TheVariants as record_of
+use Rattle.records.specs.declared.Unread.TheVariants as unread
 use Rattle.settings.specs.declared.Settings.{Settings}
 use Rattle.rules.specs.StandbyState.{is_receiving}
 use Rattle.rules.specs.Stream.{drain_tests, drain_refusal, drain_reply}
@@ -38,14 +41,14 @@ still_of w =
 
 -- ---- read: whatever is judged; the link grows no longer
 module _ (w : World) where
-  read-by : (bytes reply : List ℕ) (r : Record) → still_of (read_by w bytes reply r).next ≡ still_of w
-  read-by bytes reply (record_of.Page w e p c) = refl
-  read-by bytes reply (record_of.Block e n c) = refl
-  read-by bytes reply (record_of.State e c) = refl
-  read-by bytes reply (record_of.Commit w e p b c) = refl
-  read-by bytes reply (record_of.Ack e c) = refl
-  read-by bytes reply (record_of.Short n) = refl
-  read-by bytes reply (record_of.Refused n) = refl
+  read-by : (bytes reply : List ℕ) (r : Result Record Unread) → still_of (read_by w bytes reply r).next ≡ still_of w
+  read-by bytes reply (Ok (record_of.Page w e p c)) = refl
+  read-by bytes reply (Ok (record_of.Block e n c)) = refl
+  read-by bytes reply (Ok (record_of.State e c)) = refl
+  read-by bytes reply (Ok (record_of.Commit w e p b c)) = refl
+  read-by bytes reply (Ok (record_of.Ack e c)) = refl
+  read-by bytes reply (Err (unread.Short n)) = refl
+  read-by bytes reply (Err (unread.Refused n)) = refl
 
   pub read-still : (n : ℕ) (reply : List ℕ) → still_of (step w (call.read n reply)).next ≡ still_of w
   read-still n reply = ap (λ (t : Stepped). still_of t.next) (read_step w n reply) ∙ read-by (take n w.link) reply (read_seen w n reply)
@@ -57,14 +60,14 @@ module _ (w : World) where
   read-less n reply = rw (read_step w n reply) (simp length-drop (omega arith))
 
   -- ---- ACK
-  ack-by : (r : Record) → still_of (ack_by w r).next ≡ still_of w
-  ack-by (record_of.Page w e p c) = refl
-  ack-by (record_of.Block e n c) = refl
-  ack-by (record_of.State e c) = refl
-  ack-by (record_of.Commit w e p b c) = refl
-  ack-by (record_of.Ack e c) = refl
-  ack-by (record_of.Short n) = refl
-  ack-by (record_of.Refused n) = refl
+  ack-by : (r : Result Record Unread) → still_of (ack_by w r).next ≡ still_of w
+  ack-by (Ok (record_of.Page w e p c)) = refl
+  ack-by (Ok (record_of.Block e n c)) = refl
+  ack-by (Ok (record_of.State e c)) = refl
+  ack-by (Ok (record_of.Commit w e p b c)) = refl
+  ack-by (Ok (record_of.Ack e c)) = refl
+  ack-by (Err (unread.Short n)) = refl
+  ack-by (Err (unread.Refused n)) = refl
 
   pub ack-still : (n : ℕ) → still_of (step w (call.ack n)).next ≡ still_of w
   ack-still n = ap (λ (t : Stepped). still_of t.next) (ack-step w n) ∙ ack-by (ack_seen w n)

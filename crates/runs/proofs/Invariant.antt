@@ -1,4 +1,5 @@
 -- What relates the real world and the plain pair after every call, in groups, each over just what it speaks of. Assumes nothing.
+use Rattle.std.specs.Prelude.{Ok}
 use Prim.Native.Nat.{ℕ, ◌+◌, ◌*◌, ◌≤◌, ◌<◌}
 use mathlib.Core.Path.{◌≡◌}
 use mathlib.Core.Bool.{Bool, true, false, cond}
@@ -17,7 +18,7 @@ use Rattle.pages.specs.Dirty.{installed}
 use Rattle.pages.specs.Clean.{Clean}
 use Rattle.queue.specs.HeldList.{Held, held_list, held_of}
 use Rattle.staging.specs.SlotList.{slot_list, due_list, store_all}
-use Rattle.rules.specs.declared.Choice.TheVariants.{PrimaryDisk, StandbyDisk}
+use Rattle.rules.specs.declared.Disk.TheVariants.{PrimaryDisk, StandbyDisk}
 use Rattle.rules.specs.Choose.{area_choice}
 use Rattle.rules.specs.StandbyState.{is_receiving, is_active}
 use Rattle.rules.specs.Reached.{PrimaryReached, StandbyReached}
@@ -132,7 +133,7 @@ pub record Taker (u m : ℕ) (s : StandbyEnd) (activated : Bool) (memory' disk' 
   pub active_memory : activated ≡ true → s.memory ≡ memory'
   pub active_disk : activated ≡ true → s.disk ≡ disk'
   pub settled : activated ≡ true → s.state.slots.due ≡ 0
-  pub area_is : area_choice (area_of s.area) ≡ cond activated StandbyDisk PrimaryDisk
+  pub area_is : area_choice (area_of s.area) ≡ cond activated (Ok StandbyDisk) (Ok PrimaryDisk)
 
 -- ---- each end has start's settings, is in range, and its buffers have their lengths
 pub record PrimaryKept (g : Settings) (p : PrimaryEnd) : Type 0 where

@@ -1,4 +1,5 @@
 -- An accepted read keeps the invariant. Assumes nothing.
+use Rattle.std.specs.Prelude.{Result}
 use Prim.Native.Nat.{ℕ}
 use mathlib.Core.Path.{◌≡◌, sym, ap, ap₂, ◌∙◌, subst}
 use mathlib.Core.Logic.{⊎_elim}
@@ -8,6 +9,7 @@ use native.Mathlib.Omega.{arith}
 use lib.ListN.{length, take, drop}
 use Rattle.lists.proofs.TestLaws.{by-test}
 use Rattle.records.specs.declared.Record.{Record}
+use Rattle.records.specs.declared.Unread.{Unread}
 use Rattle.records.specs.Kind.{is_wide}
 use Rattle.records.specs.Read.{used_of, cursor_of}
 use Rattle.records.proofs.KindLaws.{page-no-commit, commit-is-commit, ack-not-for}
@@ -48,7 +50,7 @@ module _ (g : Settings) (b : Both) (i : Inv g b) (n : ℕ) (reply : List ℕ) wh
   abbrev Begins : Message → Type 0
   Begins x = take n b.world.link ≡ encode wide x ++ drop (length (encode wide x)) (take n b.world.link)
 
-  abbrev both_by : Record → Both
+  abbrev both_by : Result Record Unread → Both
   both_by r =
       record { world = (read_by b.world (take n b.world.link) reply r).next; plain = plain_step g.u (call.read n reply) (read_by b.world (take n b.world.link) reply r).outcome b.plain }
 
@@ -141,7 +143,7 @@ module _ (g : Settings) (b : Both) (i : Inv g b) (n : ℕ) (reply : List ℕ) wh
     by-found accepted (next x xs f z seen) =
         let w = is_wide g.m in
         let readable : All (Readable g.u w) (x ∷ xs) = subst (All (Readable g.u w)) f.first i.holds.link.readable in
-        subst (λ (y : Record). Inv g (both_by y)) (sym (seen accepted))
+        subst (λ (y : Result Record Unread). Inv g (both_by y)) (sym (seen accepted))
         (by-message x xs f.first readable.0 f.begins (subst (λ (v : Bool). drop (length (encode v x)) b.world.link ++ (take b.world.primary.state.waiting b.world.primary.stream ++ i.ghost.lost) ≡ encode_all v xs) same-wide f.behind) (sym z ∙ accepted))
 
 pub read_keeps : (g : Settings) (n : ℕ) (reply : List ℕ) → KeepsAccepted g (call.read n reply)

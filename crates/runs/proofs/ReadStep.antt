@@ -1,4 +1,5 @@
 -- The two calls that read a record, on the records under way: cut short, or the next of them with the number that its tests give. Assumes nothing.
+use Rattle.std.specs.Prelude.{Result, Err}
 use Prim.Native.Nat.{ℕ, ◌+◌, ◌≤◌}
 use mathlib.Core.Path.{◌≡◌, refl, sym, ap, ◌∙◌, subst}
 use mathlib.Core.Bool.{Bool, true, false}
@@ -7,7 +8,8 @@ use native.Mathlib.Omega.{arith}
 use lib.ListN.{length, take, drop, length-append, length-take}
 use Rattle.lists.specs.LittleEndian.{le_at}
 use Rattle.records.specs.declared.Record.{Record}
-use Rattle.records.specs.declared.Record.TheVariants as record_of
+use Rattle.records.specs.declared.Unread.{Unread}
+use Rattle.records.specs.declared.Unread.TheVariants.{Short}
 use Rattle.records.specs.declared.Reader.{Reader}
 use Rattle.records.specs.declared.Reader.TheVariants as reader
 use Rattle.records.specs.Kind.{unit_ok, is_wide, body_length, record_length, header_length}
@@ -55,7 +57,7 @@ read_back u wide (message.ack e) = (refl, refl, refl)
 
 -- with its refusal: that is the number
 message-number : (u : ℕ) (wide : Bool) (m : ℕ) (x : Message) → number_of (answer_of (unless_refused m (read_as u wide x))) ≡ m
-message-number u wide m x = unless-cases m (read_as u wide x) (λ (r : Record). number_of (answer_of r) ≡ m) (λ e. (read_back u wide x).1 ∙ sym e) (λ e. refl)
+message-number u wide m x = unless-cases m (read_as u wide x) (λ (r : Result Record Unread). number_of (answer_of r) ≡ m) (λ e. (read_back u wide x).1 ∙ sym e) (λ e. refl)
 
 -- the next record is x, whole at the head of the bytes given; behind it come xs
 pub record Next (wide : Bool) (pending : List Message) (unread rest bytes : List ℕ) (x : Message) (xs : List Message) : Type 0 where
@@ -66,20 +68,20 @@ pub record Next (wide : Bool) (pending : List Message) (unread rest bytes : List
   pub behind : drop (length (encode wide x)) unread ++ rest ≡ encode_all wide xs
 
 -- the call is cut short, or its number is the next record's, and where that is 0 the record judged, `seen`, is this one
-pub data Found (u : ℕ) (wide : Bool) (refuse : Record → ℕ) (pending : List Message) (unread rest bytes : List ℕ) (number : ℕ) (seen : Record) : Type 0 where
+pub data Found (u : ℕ) (wide : Bool) (refuse : Result Record Unread → ℕ) (pending : List Message) (unread rest bytes : List ℕ) (number : ℕ) (seen : Result Record Unread) : Type 0 where
   short : whole_record bytes ≡ false → number ≡ cut_short → Found u wide refuse pending unread rest bytes number seen
   next : (x : Message) (xs : List Message) → Next wide pending unread rest bytes x xs → number ≡ refuse (read_as u wide x) → (number ≡ 0 → seen ≡ read_as u wide x) → Found u wide refuse pending unread rest bytes number seen
 
-module _ (reader : Reader) (u : ℕ) (wide : Bool) (refuse : Record → ℕ) (pending : List Message) (unread rest bytes : List ℕ) (number : ℕ) (seen : Record) (is : number ≡ number_of (answer_of seen))
-    (judged : (r : Record) → read_record reader u bytes ≡ r → seen ≡ unless_refused (refuse r) r) (passes : (n : ℕ) → refuse (record_of.Short n) ≡ 0) where
+module _ (reader : Reader) (u : ℕ) (wide : Bool) (refuse : Result Record Unread → ℕ) (pending : List Message) (unread rest bytes : List ℕ) (number : ℕ) (seen : Result Record Unread) (is : number ≡ number_of (answer_of seen))
+    (judged : (r : Result Record Unread) → read_record reader u bytes ≡ r → seen ≡ unless_refused (refuse r) r) (passes : (n : ℕ) → refuse (Err (Short n)) ≡ 0) where
   found-by : Reading reader u wide pending unread rest bytes → Found u wide refuse pending unread rest bytes number seen
   found-by (none n z) =
-      short ((tells reader u bytes).short (ap records.number_of z)) (is ∙ ap (λ (r : Record). number_of (answer_of r)) (judged (record_of.Short n) z ∙ unless-accepted (refuse (record_of.Short n)) (record_of.Short n) (passes n)))
+      short ((tells reader u bytes).short (ap records.number_of z)) (is ∙ ap (λ (r : Result Record Unread). number_of (answer_of r)) (judged (Err (Short n)) z ∙ unless-accepted (refuse (Err (Short n))) (Err (Short n)) (passes n)))
   found-by (one x xs q z begins behind) =
       let r = read_as u wide x in
       let back = read_back u wide x in
       let t = (tells reader u bytes).found (ap records.number_of z ∙ back.0) in
-      let m : number ≡ refuse r = is ∙ ap (λ (y : Record). number_of (answer_of y)) (judged r z) ∙ message-number u wide (refuse r) x in
+      let m : number ≡ refuse r = is ∙ ap (λ (y : Result Record Unread). number_of (answer_of y)) (judged r z) ∙ message-number u wide (refuse r) x in
       next x xs (record { first = q; whole = t.0; kind = t.1 ∙ ap kind_of z ∙ back.2; begins = begins; behind = behind }) m (λ e. judged r z ∙ unless-accepted (refuse r) r (sym m ∙ e))
 
 -- bytes that begin with a record that is readable, enough of them
@@ -115,7 +117,7 @@ module _ (g : Settings) (w : World) (k : StandbyKept g w.standby) (n : ℕ) (rep
       read-lent-of e.state read_lengths (record { memory-is = lent-memory g e k; pages-is = lent-pages g e k; marks-is = lent-marks g e k; blocks_is = lent-blocks g e k })
 
   pub read_off : is_receiving w.standby.state.mode ≡ false → (step w (call.read n reply)).outcome.number ≡ wrong_mode
-  read_off off = read-number-is ∙ ap (λ (r : Record). number_of (answer_of r)) (judged-mode w.standby.state read_lengths (take n w.link) k.reached.range.in_range lent off)
+  read_off off = read-number-is ∙ ap (λ (r : Result Record Unread). number_of (answer_of r)) (judged-mode w.standby.state read_lengths (take n w.link) k.reached.range.in_range lent off)
 
   -- a read of the records under way, of which `rest` is not yet on the link
   abbrev pub ReadFound : List Message → List ℕ → Type 0
@@ -148,7 +150,7 @@ module _ (w : World) (k : PrimaryReached w.primary.state) (n : ℕ) where
   ack-number-is = ap (λ (x : Stepped). x.outcome.number) (ack-step w n)
 
   pub ack-off : protected w.primary.state ≡ false → (step w (call.ack n)).outcome.number ≡ wrong_mode
-  ack-off off = ack-number-is ∙ ap (λ (r : Record). number_of (answer_of r)) (ack-mode w.primary.state (take n w.acks) k.range.in_range off)
+  ack-off off = ack-number-is ∙ ap (λ (r : Result Record Unread). number_of (answer_of r)) (ack-mode w.primary.state (take n w.acks) k.range.in_range off)
 
   ack-by : (epochs : List ℕ)
       → Found w.primary.state.settings.u false (ack_refusal w.primary.state) (map message.ack epochs) w.acks [] (take n w.acks) (step w (call.ack n)).outcome.number (ack_seen w n)

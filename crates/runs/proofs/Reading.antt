@@ -1,4 +1,5 @@
 -- Reading any first part of the unread bytes: cut short, or exactly the next record sent. Assumes nothing.
+use Rattle.std.specs.Prelude.{Err}
 use Prim.Native.Nat.{ℕ, ◌≤◌, ◌<◌}
 use mathlib.Core.Path.{◌≡◌, refl, sym, ap, ◌∙◌}
 use mathlib.Core.Logic.{⊎_elim}
@@ -9,7 +10,7 @@ use lib.ListN.{length, take, drop, length-take, take-append-drop}
 use lib.Seq.{take-nil, take-append-le, take-append_seam, drop-append-le, drop-append_seam}
 use Rattle.lists.proofs.TestLaws.{lt-or-ge}
 use Rattle.records.specs.declared.Reader.{Reader}
-use Rattle.records.specs.declared.Record.TheVariants.{Short}
+use Rattle.records.specs.declared.Unread.TheVariants.{Short}
 use Rattle.records.specs.Kind.{unit_ok, header_length}
 use Rattle.records.specs.Read.{read_record}
 use Rattle.records.specs.Missing.{missing_from}
@@ -32,12 +33,12 @@ module _ (p q a b : List ℕ) (same : p ++ q ≡ a ++ b) where
 
 -- `bytes` is a first part of the unread bytes; behind these lies `rest`
 pub data Reading (reader : Reader) (u : ℕ) (wide : Bool) (pending : List Message) (unread rest bytes : List ℕ) : Type 0 where
-  none : (n : ℕ) → read_record reader u bytes ≡ Short n → Reading reader u wide pending unread rest bytes
+  none : (n : ℕ) → read_record reader u bytes ≡ Err (Short n) → Reading reader u wide pending unread rest bytes
   one : (x : Message) (xs : List Message) → pending ≡ x ∷ xs → read_record reader u bytes ≡ read_as u wide x → bytes ≡ encode wide x ++ drop (length (encode wide x)) bytes
       → drop (length (encode wide x)) unread ++ rest ≡ encode_all wide xs → Reading reader u wide pending unread rest bytes
 
 module _ (reader : Reader) (u : ℕ) (wide : Bool) (ok : unit_ok u ≡ true) (rest : List ℕ) (k : ℕ) where
-  reading-none : (unread : List ℕ) → unread ++ rest ≡ [] → read_record reader u (take k unread) ≡ Short header_length
+  reading-none : (unread : List ℕ) → unread ++ rest ≡ [] → read_record reader u (take k unread) ≡ Err (Short header_length)
   reading-none [] h = rw take-nil (read_none reader u ok)
   reading-none (d ∷ ds) h = let z : ◌≡◌ {A = ℕ} 0 1 = cc in absurd (omega arith)
 

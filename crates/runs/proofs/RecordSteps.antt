@@ -1,9 +1,11 @@
 -- The two calls that read a record, as functions of the record judged. Assumes nothing.
+use Rattle.std.specs.Prelude.{Result}
 use Prim.Native.Nat.{ℕ}
 use mathlib.Core.Path.{◌≡◌, refl}
 use mathlib.Core.List.{List, [], ◌++◌}
 use lib.ListN.{take, drop}
 use Rattle.records.specs.declared.Record.{Record}
+use Rattle.records.specs.declared.Unread.{Unread}
 use Rattle.rules.specs.Reply.{number_of, value_of, used_of, answer_of}
 use Rattle.rules.specs.Stream.{ack_reply, ack_judged, ack_state}
 use Rattle.rules.specs.Judge.{judged}
@@ -14,10 +16,10 @@ use Rattle.rules.specs.Step.{Stepped, outcome, ack_written, step}
 
 module _ (w : World) where
   -- ---- ACK
-  abbrev pub ack_seen : ℕ → Record
+  abbrev pub ack_seen : ℕ → Result Record Unread
   ack_seen n = ack_judged w.primary.state (take n w.acks)
 
-  abbrev pub ack_by : Record → Stepped
+  abbrev pub ack_by : Result Record Unread → Stepped
   ack_by r =
       let p = w.primary in
       record {
@@ -36,12 +38,12 @@ module _ (w : World) where
   ack-step n = refl
 
   -- ---- read
-  abbrev pub read_seen : ℕ → List ℕ → Record
+  abbrev pub read_seen : ℕ → List ℕ → Result Record Unread
   read_seen n reply =
       let s = w.standby in
       judged s.state (read_lent s.memory s.staged_pages s.staged_marks s.staged_blocks reply) (take n w.link)
 
-  abbrev pub read_by : List ℕ → List ℕ → Record → Stepped
+  abbrev pub read_by : List ℕ → List ℕ → Result Record Unread → Stepped
   read_by bytes reply r =
       let s = w.standby in
       record {

@@ -1,10 +1,12 @@
 -- "one refused or cut short: nothing changes", of both ends and of the plain pair. Assumes nothing.
+use Rattle.std.specs.Prelude.{Result}
 use Prim.Native.Nat.{ℕ}
 use mathlib.Core.Path.{◌≡◌, refl, ap}
 use mathlib.Core.List.{List, append-nil}
 use lib.ListN.{take}
 use borrow.Author.Tests.{ne_eqb}
 use Rattle.records.specs.declared.Record.{Record}
+use Rattle.records.specs.declared.Unread.{Unread}
 use Rattle.records.proofs.ReadLaws.{found-cases}
 use Rattle.rules.specs.Reply.{number_of}
 use Rattle.rules.specs.PrimaryWrites.{memory_write_reply, memory_write_memory, memory_write_dirty, disk_write_reply, disk_write_disk, disk_write_stream}
@@ -79,7 +81,7 @@ module _ (w : World) where
   refused-active-disk-write block bytes ne = rw (ne_eqb _ _ ne)
 
   -- the calls that read a record
-  ack-by : (r : Record) → ((ack_by w r).outcome.number ≡ 0 → ⊥) → (ack_by w r).next ≡ w
+  ack-by : (r : Result Record Unread) → ((ack_by w r).outcome.number ≡ 0 → ⊥) → (ack_by w r).next ≡ w
   ack-by =
       found-cases (λ r. ((ack_by w r).outcome.number ≡ 0 → ⊥) → (ack_by w r).next ≡ w)
       (λ r h ne. absurd (ne (ap number_of (answer-found r h)))) (λ n ne. refl) (λ n ne. refl)
@@ -87,7 +89,7 @@ module _ (w : World) where
   refused-ack : (n : ℕ) → NotAccepted w (call.ack n) → (step w (call.ack n)).next ≡ w
   refused-ack n ne = rw (ack-step w n) (ack-by (ack_seen w n) (rw (ack-step w n) at ne))
 
-  read-by : (bytes reply : List ℕ) (r : Record) → ((read_by w bytes reply r).outcome.number ≡ 0 → ⊥) → (read_by w bytes reply r).next ≡ w
+  read-by : (bytes reply : List ℕ) (r : Result Record Unread) → ((read_by w bytes reply r).outcome.number ≡ 0 → ⊥) → (read_by w bytes reply r).next ≡ w
   read-by bytes reply =
       found-cases (λ r. ((read_by w bytes reply r).outcome.number ≡ 0 → ⊥) → (read_by w bytes reply r).next ≡ w)
       (λ r h ne. absurd (ne (ap number_of (answer-found r h)))) (λ n ne. rw append-nil) (λ n ne. rw (ne_eqb n 0 ne) (rw append-nil))

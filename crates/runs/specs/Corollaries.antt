@@ -1,12 +1,12 @@
 -- What a service engineer asks beside demand 3: seven claims about every run. Assumes nothing.
 -- The calls that count at a cut, `counted_calls cut calls`, are themselves a list of calls: a claim about every list
 -- holds at every cut.
-use Rattle.std.specs.Prelude.{ℕ, ◌≤◌, ◌≡◌, true, false, cond, List, [], ◌∷◌, ◌++◌, length}
+use Rattle.std.specs.Prelude.{ℕ, ◌≤◌, ◌≡◌, true, false, cond, List, [], ◌∷◌, ◌++◌, length, Ok}
 use Rattle.records.specs.Number.{out_of_range}
 use Rattle.settings.specs.declared.Settings.{Settings}
 use Rattle.staging.specs.SlotList.{due_list, store_all}
 use Rattle.sums.specs.Sum.{image_sum, names_each}
-use Rattle.rules.specs.declared.Choice.TheVariants.{PrimaryDisk}
+use Rattle.rules.specs.declared.Disk.TheVariants.{PrimaryDisk}
 use Rattle.rules.specs.Choose.{choice_of, chosen_disk}
 use Rattle.rules.specs.World.{StandbyEnd, Processor, Call, Buffers, start_number}
 use Rattle.rules.specs.World as call
@@ -29,7 +29,7 @@ pub record IsCheckpoint (s : StandbyEnd) (c : Checkpoint) : Type 0 where
 
 -- the disk choice gives the primary's disk, and that is the plain pair's
 pub record PrimaryDiskValid (b : Both) : Type 0 where
-  pub choice : choice_of (length b.world.primary.disk) (length b.world.standby.disk) b.world.standby.area ≡ PrimaryDisk
+  pub choice : choice_of (length b.world.primary.disk) (length b.world.standby.disk) b.world.standby.area ≡ Ok PrimaryDisk
   pub chosen : chosen_disk b.world.primary.disk b.world.standby.disk b.world.standby.area ≡ b.world.primary.disk
   pub plain : b.world.primary.disk ≡ b.plain.disk
 

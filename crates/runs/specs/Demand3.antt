@@ -1,7 +1,7 @@
 -- Demand 3 as one claim: cut the pair anywhere. Assumes nothing.
-use Rattle.std.specs.Prelude.{ℕ, ◌≤◌, ◌<◌, ◌≡◌, Bool, true, false, cond, List, [], ◌∷◌, ◌++◌, length, get_or, replicate}
+use Rattle.std.specs.Prelude.{ℕ, ◌≤◌, ◌<◌, ◌≡◌, Bool, true, false, cond, List, [], ◌∷◌, ◌++◌, length, get_or, replicate, Ok}
 use Rattle.settings.specs.declared.Settings.{Settings}
-use Rattle.rules.specs.declared.Choice.TheVariants.{PrimaryDisk, StandbyDisk}
+use Rattle.rules.specs.declared.Disk.TheVariants.{PrimaryDisk, StandbyDisk}
 use Rattle.rules.specs.StandbyState.{is_active}
 use Rattle.rules.specs.Choose.{choice_of, chosen_disk}
 use Rattle.rules.specs.World.{World, Processor, Call, Buffers, start_number}
@@ -84,7 +84,7 @@ valid_disk p = cond p.activated p.standby_disk p.disk
 -- "The disk choice on what both boxes stored hands back the valid disk, equal to the plain pair's"
 pub record DisksRight (b : Both) : Type 0 where
   pub choice : choice_of (length b.world.primary.disk) (length b.world.standby.disk) b.world.standby.area
-      ≡ cond b.plain.activated StandbyDisk PrimaryDisk
+      ≡ cond b.plain.activated (Ok StandbyDisk) (Ok PrimaryDisk)
   pub bytes : chosen_disk b.world.primary.disk b.world.standby.disk b.world.standby.area ≡ valid_disk b.plain
 
 -- ---- what holds after the calls that count, wherever the pair is cut

@@ -1,4 +1,5 @@
 -- Laws of the unread ACKs, which are kept as the first and the last of their epochs, and of an ACK read by the primary. Assumes nothing.
+use Rattle.std.specs.Prelude.{Result}
 use Prim.Native.Nat.{ℕ, zero, suc, ◌+◌, ◌-◌, ◌*◌, ◌≤◌, ◌<◌, min}
 use mathlib.Core.Path.{◌≡◌, refl, sym, ap, ap₂, ◌∙◌}
 use mathlib.Core.Logic.{◌⊎◌, inl, inr, ⊎_elim}
@@ -12,6 +13,7 @@ use lib.Seq.{take_at, drop_at}
 use borrow.Author.Tests.{eqb-true, ne_eqb}
 use Rattle.lists.proofs.TestLaws.{lt-or-ge}
 use Rattle.records.specs.declared.Record.{Record}
+use Rattle.records.specs.declared.Unread.{Unread}
 use Rattle.records.specs.declared.Reader.TheVariants as reader
 use Rattle.records.specs.Kind.{ACK, body_length, record_length}
 use Rattle.records.specs.Read.{read_record, kind_of}
@@ -115,17 +117,17 @@ acks-next first last =
     (lt-or-ge last first)
 
 -- ---- an ACK at the primary: an accepted one uses its 8 bytes, else nothing is used
-abbrev Used : Record → Type 0
+abbrev Used : Result Record Unread → Type 0
 Used r = (used_of (answer_of r) ≡ 0) ⊎ (used_of (answer_of r) ≡ 8)
 
 module _ (p : Primary) (bytes : List ℕ) where
-  used-found : (r : Record) → is_found r ≡ true → ReadFacts reader.Primary p.settings.u bytes r → Used r
+  used-found : (r : Result Record Unread) → is_found r ≡ true → ReadFacts reader.Primary p.settings.u bytes r → Used r
   unfolding record_length body_length
   used-found r h f =
       let g = found-facts reader.Primary p.settings.u bytes r h f in
       inr ((answers r).used_is ∙ rw (eqb-true (kind_of r) ACK g.for-reader) at g.used)
 
-  used-read : (r : Record) → ReadFacts reader.Primary p.settings.u bytes r → Used r
+  used-read : (r : Result Record Unread) → ReadFacts reader.Primary p.settings.u bytes r → Used r
   used-read = found-cases (λ r. ReadFacts reader.Primary p.settings.u bytes r → Used r) used-found (λ n f. inl refl) (λ n f. inl refl)
 
   pub ack-used : (used_of (ack_reply p bytes).answer ≡ 0) ⊎ (used_of (ack_reply p bytes).answer ≡ 8)

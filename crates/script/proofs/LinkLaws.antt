@@ -1,4 +1,7 @@
 -- Laws of the link: bytes drained behind those in it, a record drained into the whole of it, and what a read leaves of it and of the unread ACKs. Assumes nothing.
+use Rattle.rules.specs.declared.Reply.{Reply}
+use Rattle.rules.specs.declared.ReadReply.{ReadReply}
+use Rattle.std.specs.Prelude.{Result, Ok, Err}
 use Prim.Native.Nat.{ℕ, ◌+◌, ◌-◌, ◌≤◌, ◌<◌, min}
 use mathlib.Core.Path.{◌≡◌, refl, sym, ap, ap₂, ◌∙◌}
 use mathlib.Core.Logic.{⊎_elim}
@@ -15,7 +18,9 @@ use Rattle.lists.specs.Part.{part, put, removed}
 use Rattle.lists.proofs.PartLaws.{length_part, part-zero, part-back-front, put-none, put_whole, take-put-front, take-put-end, take-removed}
 use Rattle.lists.proofs.TestLaws.{and-false, eq-or-ne, lt-or-ge, cond-true, pick-refused}
 use Rattle.records.specs.declared.Record.{Record}
-use Rattle.records.specs.declared.Record.TheVariants.{Page, Block, State, Commit, Ack, Short, Refused}
+use Rattle.records.specs.declared.Unread.{Unread}
+use Rattle.records.specs.declared.Record.TheVariants.{Page, Block, State, Commit, Ack}
+use Rattle.records.specs.declared.Unread.TheVariants.{Short, Refused}
 use Rattle.records.specs.Kind.{ACK, body_length, record_length}
 use Rattle.records.specs.Write.{ack_record}
 use Rattle.records.proofs.KindLaws.{page-no-commit, commit-is-commit}
@@ -23,10 +28,7 @@ use Rattle.records.proofs.ReadLaws.{read-within}
 use Rattle.records.proofs.FrameLaws.{length-epoch}
 use Rattle.records.proofs.WriteLaws.{ack-written}
 use Rattle.rules.specs.declared.Primary.{Primary}
-use Rattle.rules.specs.declared.PrimaryReply.{PrimaryReply}
 use Rattle.rules.specs.declared.Standby.{Standby}
-use Rattle.rules.specs.declared.PrimaryAnswer.{PrimaryAnswer}
-use Rattle.rules.specs.declared.StandbyAnswer.{StandbyAnswer}
 use Rattle.rules.specs.declared.ReadLent.{ReadLent}
 use Rattle.rules.specs.Reply.{answer_of, number_of, value_of, used_of}
 use Rattle.rules.specs.Stream.{drain_refusal, drain_count, drain_reply, drain_stream, drain_destination, ack_reply}
@@ -36,7 +38,7 @@ use Rattle.rules.specs.World as call
 use Rattle.rules.specs.Step.{step, outcome, ack_written}
 use Rattle.rules.proofs.StreamLaws.{drain-accepted}
 use Rattle.rules.proofs.PrimaryFacts.{primary-facts}
-use Rattle.rules.proofs.ReplyLaws.{primary-reply-refused, answers}
+use Rattle.rules.proofs.ReplyLaws.{reply-refused, answers}
 use Rattle.rules.proofs.JudgeLaws.{JudgedFacts, judged-cases, judged-facts}
 use Rattle.script.specs.declared.StandbyBox.{StandbyBox}
 use Rattle.script.specs.declared.Site.{Site}
@@ -94,7 +96,7 @@ module _ (p : Primary) (stream link : List ℕ) (n k : ℕ) (h : k ≤ length li
   length-behind : length behind ≡ length link - k
   length-behind = mid_len k (length link) link (le_refl (length link))
 
-  pub drain-behind : (r : PrimaryReply) (left after : List ℕ)
+  pub drain-behind : (r : Reply Primary) (left after : List ℕ)
       → (r ≡ drain_reply p (length stream) n (length behind))
       × ((left ≡ drain_stream p stream n (length behind))
       × (after ≡ drain_destination p stream n behind))
@@ -105,7 +107,7 @@ module _ (p : Primary) (stream link : List ℕ) (n k : ℕ) (h : k ≤ length li
       let a : r ≡ drain_reply p (length stream) n (length link - k) = e.0 ∙ ap (drain_reply p (length stream) n) length-behind in
       let b : left ≡ drain_stream p stream n (length link - k) = e.1.0 ∙ ap (drain_stream p stream n) length-behind in
       let c : after ≡ put behind 0 (take r.value stream)
-      = e.1.1 ∙ drain-puts p stream n (length link - k) behind length-behind ∙ ap (λ (x : PrimaryReply). put behind 0 (take x.value stream)) (sym a) in
+      = e.1.1 ∙ drain-puts p stream n (length link - k) behind length-behind ∙ ap (λ (x : Reply Primary). put behind 0 (take x.value stream)) (sym a) in
       (a, (b, part-back-front link k after (take r.value stream) h c))
 
 -- ---- a drain into a destination at least as long as the stream is a drain into one of n bytes
@@ -119,7 +121,7 @@ module _ (p : Primary) (stream : List ℕ) (n : ℕ) where
     drain-reply-same =
         ⊎_elim
         (λ (z : drain_refusal p (length stream) ≡ 0). rw (count_same room h z))
-        (λ (z : drain_refusal p (length stream) ≡ 0 → ⊥). primary-reply-refused _ _ _ _ z ∙ sym (primary-reply-refused _ _ _ _ z))
+        (λ (z : drain_refusal p (length stream) ≡ 0 → ⊥). reply-refused _ _ _ _ z ∙ sym (reply-refused _ _ _ _ z))
         (eq-or-ne (drain_refusal p (length stream)) 0)
 
     pub drain-stream-same : drain_stream p stream n room ≡ drain_stream p stream n n
@@ -136,7 +138,7 @@ module _ (p : Primary) (stream : List ℕ) (n : ℕ) where
       let same : drain_reply p (length stream) n (length d) ≡ drain_reply p (length stream) n (length e)
       = drain-reply-same (length d) h ∙ ap (drain_reply p (length stream) n) (sym k) in
       drain-gives p stream n (length d) d refl
-      ∙ ap (λ (r : PrimaryReply). take r.value stream) same
+      ∙ ap (λ (r : Reply Primary). take r.value stream) same
       ∙ sym (drain-gives p stream n (length e) e refl)
 
 -- ---- the bytes in the link
@@ -182,7 +184,7 @@ module _ (s : Site) (long : length s.link ≡ 2048) where
 -- ---- a read
 
 -- the epoch of the first unread ACK after it
-abbrev unread_after : ℕ → StandbyAnswer → ℕ
+abbrev unread_after : ℕ → ReadReply Standby → ℕ
 unread_after unread r = cond (is_commit r.answer) (min unread r.state.received) unread
 
 module _ (s : Standby) (l : ReadLent) (bytes : List ℕ) where
@@ -193,7 +195,7 @@ module _ (s : Standby) (l : ReadLent) (bytes : List ℕ) where
       judged-cases s l bytes (λ r. used_of (answer_of r) ≤ length bytes) (λ n h. omega arith)
       (λ ready z. rw (answers _).used_is (read-within (reader_of s) s.settings.u bytes))
 
-  abbrev read_by : Record → StandbyAnswer
+  abbrev read_by : Result Record Unread → ReadReply Standby
   read_by r = record { state = read_state s bytes r; answer = answer_of r }
 
   -- a reply buffer of an ACK's bytes: after an accepted COMMIT it is the ACK of the epoch that is then the last received
@@ -202,16 +204,16 @@ module _ (s : Standby) (l : ReadLent) (bytes : List ℕ) where
   unfolding read_reply read_reply_bytes
   reply-is reply long = go (judged s l bytes) (judged-facts s l bytes)
     where
-      go : (r : Record) → JudgedFacts s l bytes r → reply_after reply r ≡ cond (is_commit (answer_of r)) (ack_record (read_state s bytes r).received) reply
-      go (Page w e p c) f = rw (page-no-commit w)
-      go (Block e n c) f = refl
-      go (State e c) f = refl
-      go (Commit w e p b c) f = rw (commit-is-commit w) (put_whole reply (ack_record e) (length-epoch ACK e ∙ sym long))
-      go (Ack e c) f = absurd f
-      go (Short n) f = refl
-      go (Refused n) f = rw (and-false (eqb n 0))
+      go : (r : Result Record Unread) → JudgedFacts s l bytes r → reply_after reply r ≡ cond (is_commit (answer_of r)) (ack_record (read_state s bytes r).received) reply
+      go (Ok (Page w e p c)) f = rw (page-no-commit w)
+      go (Ok (Block e n c)) f = refl
+      go (Ok (State e c)) f = refl
+      go (Ok (Commit w e p b c)) f = rw (commit-is-commit w) (put_whole reply (ack_record e) (length-epoch ACK e ∙ sym long))
+      go (Ok (Ack e c)) f = absurd f
+      go (Err (Short n)) f = refl
+      go (Err (Refused n)) f = rw (and-false (eqb n 0))
 
-  abbrev AcksAfter : ℕ → List ℕ → Record → Type 0
+  abbrev AcksAfter : ℕ → List ℕ → Result Record Unread → Type 0
   AcksAfter unread reply r = acks_between (unread_after unread (read_by r)) (read_state s bytes r).received ≡ acks_between unread s.received ++ ack_written (read_by r) (reply_after reply r)
 
   -- an accepted COMMIT adds the ACK of the next epoch; nothing else adds one
@@ -221,17 +223,17 @@ module _ (s : Standby) (l : ReadLent) (bytes : List ℕ) where
   unfolding read_reply read_reply_bytes
   acks-after unread reply = go (judged s l bytes) (judged-facts s l bytes)
     where
-      go : (r : Record) → JudgedFacts s l bytes r → AcksAfter unread reply r
-      go (Page w e p c) f = rw (page-no-commit w) (sym (append-nil _))
-      go (Block e n c) f = sym (append-nil _)
-      go (State e c) f = sym (append-nil _)
-      go (Commit w e p b c) f = rw (commit-is-commit w, ack-written s.settings.u e reply, f.tests.epoch-next) (acks-next unread s.received)
-      go (Ack e c) f = absurd f
-      go (Short n) f = sym (append-nil _)
-      go (Refused n) f = rw (and-false (eqb n 0)) (sym (append-nil _))
+      go : (r : Result Record Unread) → JudgedFacts s l bytes r → AcksAfter unread reply r
+      go (Ok (Page w e p c)) f = rw (page-no-commit w) (sym (append-nil _))
+      go (Ok (Block e n c)) f = sym (append-nil _)
+      go (Ok (State e c)) f = sym (append-nil _)
+      go (Ok (Commit w e p b c)) f = rw (commit-is-commit w, ack-written s.settings.u e reply, f.tests.epoch-next) (acks-next unread s.received)
+      go (Ok (Ack e c)) f = absurd f
+      go (Err (Short n)) f = sym (append-nil _)
+      go (Err (Refused n)) f = rw (and-false (eqb n 0)) (sym (append-nil _))
 
 -- ---- a read at the standby's box
-module _ (b : StandbyBox) (bytes : List ℕ) (r : StandbyAnswer) (answer-is : r ≡ read_reply b.state (box_lent b) bytes) where
+module _ (b : StandbyBox) (bytes : List ℕ) (r : ReadReply Standby) (answer-is : r ≡ read_reply b.state (box_lent b) bytes) where
   pub box_read : (memory pages marks blocks reply : List ℕ)
       → memory ≡ read_memory b.state (box_lent b) bytes b.memory b.pages b.marks
       → pages ≡ read_staged_pages b.state (box_lent b) bytes b.pages
@@ -257,7 +259,7 @@ module _ (b : StandbyBox) (bytes : List ℕ) (r : StandbyAnswer) (answer-is : r 
   box-reply reply e =
       e
       ∙ reply-is b.state (box_lent b) bytes (replicate ack_bytes 0) (length-replicate {A = ℕ} ack_bytes 0)
-      ∙ ap (λ (x : StandbyAnswer). cond (is_commit x.answer) (ack_record x.state.received) (replicate ack_bytes 0)) (sym answer-is)
+      ∙ ap (λ (x : ReadReply Standby). cond (is_commit x.answer) (ack_record x.state.received) (replicate ack_bytes 0)) (sym answer-is)
 
 -- ---- the first k bytes of the link: all that is in it
 module _ (s : Site) (long : length s.link ≡ 2048) (k : ℕ) (count : k ≡ min s.linked link_bytes) where
@@ -272,12 +274,12 @@ module _ (s : Site) (long : length s.link ≡ 2048) (k : ℕ) (count : k ≡ min
       (lt-or-ge s.linked 2048)
 
   -- ---- a drain behind them
-  module _ (n : ℕ) (r : PrimaryReply) (reply-of : r ≡ drain_reply s.primary.state (length s.primary.stream) n (length s.link - k)) where
+  module _ (n : ℕ) (r : Reply Primary) (reply-of : r ≡ drain_reply s.primary.state (length s.primary.stream) n (length s.link - k)) where
     -- it fits what is free
     pub drain-fits : k + r.value ≤ 2048
     drain-fits =
         let h = drain-within s.primary.state s.primary.stream n (length s.link - k) in
-        let e : r.value ≡ (drain_reply s.primary.state (length s.primary.stream) n (length s.link - k)).value = ap (λ (x : PrimaryReply). x.value) reply-of in
+        let e : r.value ≡ (drain_reply s.primary.state (length s.primary.stream) n (length s.link - k)).value = ap (λ (x : Reply Primary). x.value) reply-of in
         omega (arith, inside)
 
     pub drain-bytes : (stream link : List ℕ)
@@ -298,14 +300,14 @@ module _ (s : Site) (long : length s.link ≡ 2048) (k : ℕ) (count : k ≡ min
         let a : r ≡ drain_reply p.state (length p.stream) n (length d) = reply-of ∙ ap (drain_reply p.state (length p.stream) n) e in
         let b : stream ≡ drain_stream p.state p.stream n (length d) = es ∙ ap (drain_stream p.state p.stream n) e in
         let v : length (take r.value p.stream) ≡ r.value
-        = ap (λ (x : PrimaryReply). length (take x.value p.stream)) a
+        = ap (λ (x : Reply Primary). length (take x.value p.stream)) a
         ∙ length-drained p.state p.stream n (length d)
-        ∙ ap (λ (x : PrimaryReply). x.value) (sym a) in
+        ∙ ap (λ (x : Reply Primary). x.value) (sym a) in
         let g : take (k + r.value) link ≡ take s.linked s.link ++ take (drain_reply p.state (length p.stream) n (length d)).value (drain_destination p.state p.stream n d)
         = ap₂ (λ (m : ℕ) (l : List ℕ). take (k + m) l) (sym v) el
         ∙ take-put-end s.link k (take r.value p.stream) inside
         ∙ ap₂ (λ (x y : List ℕ). x ++ y) take_link
-        (ap (λ (x : PrimaryReply). take x.value p.stream) a ∙ sym (drain-gives p.state p.stream n (length d) d refl)) in
+        (ap (λ (x : Reply Primary). take x.value p.stream) a ∙ sym (drain-gives p.state p.stream n (length d) d refl)) in
         λ i. record {
           primary = record { state = (a i).state; memory = p.memory; disk = p.disk; dirty = p.dirty; held = p.held; stream = b i };
           standby = standby_of s.standby;
@@ -356,7 +358,7 @@ module _ (s : Site) (long : length s.link ≡ 2048) (k : ℕ) (count : k ≡ min
         }
 
 -- ---- an ACK: the first unread one
-pub ack-done : (s : Site) (r : PrimaryAnswer) (unread : ℕ) → s.unread ≤ s.standby.state.received
+pub ack-done : (s : Site) (r : ReadReply Primary) (unread : ℕ) → s.unread ≤ s.standby.state.received
     → r ≡ ack_reply s.primary.state (ack_record s.unread)
     → unread ≡ cond (eqb (used_of r.answer) 0) s.unread (s.unread + 1)
     → done_of (record {
@@ -378,7 +380,7 @@ ack-done s r unread h er eu =
     let R = ack_reply p.state (take 8 acks) in
     let a : r ≡ R = er ∙ ap (ack_reply p.state) (sym (take-between s.unread s.standby.state.received h)) in
     let g : acks_between unread s.standby.state.received ≡ drop (used_of R.answer) acks
-    = ap (λ (n : ℕ). acks_between n s.standby.state.received) (eu ∙ ap (λ (x : PrimaryAnswer). cond (eqb (used_of x.answer) 0) s.unread (s.unread + 1)) a)
+    = ap (λ (n : ℕ). acks_between n s.standby.state.received) (eu ∙ ap (λ (x : ReadReply Primary). cond (eqb (used_of x.answer) 0) s.unread (s.unread + 1)) a)
     ∙ acks-used s.unread s.standby.state.received (used_of R.answer) h (ack-used p.state (take 8 acks)) in
     λ i. record {
       next = record {

@@ -1,12 +1,11 @@
--- Laws of a site: the lengths of its arrays; that flush, tick and activation keep the last received epoch, on which the unread ACKs depend; the site that start
--- makes; and the first of many zeros. Assumes nothing.
+-- Laws of a site: the lengths of its arrays; that flush, tick and activation keep the last received epoch, on which the
+-- unread ACKs depend; and the site that start makes. Assumes nothing.
 use mathlib.Core.Path.{◌≡◌, refl, sym}
 use mathlib.Core.Bool.{Bool, true, false, cond}
 use mathlib.Core.List.{List}
-use Prim.Native.Nat.{ℕ, zero, suc, ◌≤◌, ◌<◌, ◌^◌}
-use native.Mathlib.Omega.{arith}
+use Prim.Native.Nat.{ℕ, ◌<◌, ◌^◌}
 use lib.Dec.{eqb}
-use lib.ListN.{length, take, replicate}
+use lib.ListN.{length}
 use mir.Val.{Val}
 use denote.Laws.{Is}
 use denote.Struct.Declared.{row}
@@ -81,6 +80,8 @@ pub activation-received : (s : Standby) (area : ℕ) → (activation_reply s are
 unfolding activation_reply
 activation-received s area = pick-received (activation_refusal s area) _ s refl
 
+pub ruleset received = (flush-received, tick-received, activation-received)
+
 -- ---- start, accepted or refused
 pub start-received : (g : Settings) (l : StartLent) (processor : List ℕ) → (started g l processor).standby.received ≡ 0
 unfolding started
@@ -111,9 +112,3 @@ module _ (g : Settings) (processor : Processor) (b : Buffers) where
   unfolding world_of start_world acks_between acks_from
   start-world r dirty memory disk marks area link m =
       rw (m.0, m.1.0, m.1.1.0, m.1.1.1.0, m.1.1.1.1.0, m.1.1.1.1.1, start-received g (start_lent b) processor.bytes)
-
--- ---- the first zeros of many
-pub take-replicate : (n m v : ℕ) → n ≤ m → take n (replicate m v) ≡ replicate n v
-take-replicate zero m v h = refl
-take-replicate (suc n) zero v h = absurd (omega arith)
-take-replicate (suc n) (suc m) v h = rw (take-replicate n m v (omega arith))

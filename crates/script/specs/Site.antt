@@ -1,7 +1,8 @@
 -- What a site stands for: the world of the step rules. Assumes nothing.
-use Rattle.std.specs.Prelude.{ℕ, zero, suc, ◌+◌, ◌-◌, Bool, List, [], ◌++◌, take, replicate}
+use Rattle.rules.specs.declared.Accepted.{Accepted}
+use Rattle.records.specs.declared.Unread.{Unread}
+use Rattle.std.specs.Prelude.{ℕ, zero, suc, ◌+◌, ◌-◌, Bool, List, [], ◌++◌, take, replicate, Result}
 use Rattle.records.specs.Write.{ack_record}
-use Rattle.rules.specs.declared.Answer.{Answer}
 use Rattle.rules.specs.declared.ReadLent.{ReadLent}
 use Rattle.rules.specs.Reply.{commit_accepted, number_of, value_of}
 use Rattle.rules.specs.Read.{read_lent, read_reply, read_memory, read_staged_pages, read_staged_marks, read_staged_blocks, read_reply_bytes}
@@ -46,7 +47,7 @@ done_of p = record { next = world_of p.site; outcome = outcome p.number p.value;
 -- ---- a read at the standby's box
 
 -- a COMMIT was accepted
-abbrev pub is_commit : Answer → Bool
+abbrev pub is_commit : Result Accepted Unread → Bool
 is_commit a = commit_accepted (number_of a) (value_of a)
 
 -- the lengths of what the read is lent: the box's buffers, and a reply buffer of an ACK's bytes

@@ -8,7 +8,7 @@ use crate::commands::command_of;
 use crate::{
     Answered, Command, Performed, Site, link, primary_commands, printing, standby_commands,
 };
-use records::number::OUT_OF_RANGE;
+use records::refusal::Refusal;
 use text::Line;
 
 // What a command does.
@@ -25,12 +25,7 @@ pub fn perform(s: Site, c: Command) -> Performed
         Command::Take => primary_commands::take(s),
         Command::Flush => standby_commands::flush(s),
         Command::Takeover => standby_commands::takeover(s),
-        Command::Other => Performed {
-            site: s,
-            number: OUT_OF_RANGE,
-            value: 0,
-            last: false,
-        },
+        Command::Other => Performed::refused(s, Refusal::OutOfRange),
     }
 }
 
@@ -41,18 +36,19 @@ pub fn answer(s: Site, l: Line) -> Answered
     ensures bytes_value { (take result.length result.bytes ≡ (pair_program.answer_kept (world_of s) l).printed) × (result.length ≤ 44) × (length result.bytes ≡ 44) }
 {
     let c = command_of(l);
-    let letter = printing::letter_of(c);
     let done = perform(s, c);
-    let site = done.site;
-    let number = done.number;
-    let value = done.value;
-    let last = done.last;
     let mut bytes = [0u8; 44];
-    let n = printing::print(&mut bytes, 0, letter, number, value);
+    let length = printing::print(
+        &mut bytes,
+        0,
+        printing::letter_of(c),
+        done.number,
+        done.value,
+    );
     Answered {
-        site,
+        site: done.site,
         bytes,
-        length: n,
-        last,
+        length,
+        last: done.last,
     }
 }

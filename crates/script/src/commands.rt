@@ -1,87 +1,54 @@
 // The command that a line is.
-ghost use Rattle.std.specs.Prelude.{◌≡◌};
-ghost use Rattle.text.specs.Kept.{no_number};
-ghost use Rattle.script.specs.Command.{command_of_line};
+#![tactic(auto, unfolding(crate::specs::Command::command_of_line))]
+
+ghost use Rattle.std.specs.Prelude.{◌≡◌, ◌&&◌};
+ghost use Rattle.text.specs.Decimal.{most_number};
+ghost use Rattle.text.specs.Kept.{number_is};
+ghost use Rattle.script.specs.Command.{command_of_line, most_byte};
 
 use crate::Command;
 use text::kept::number_is;
 use text::{Line, Number};
 
 // "v is 0 to 255, other numbers at most 4,294,967,295".
-pub const MOST_BYTE: u64 = 255;
+pub const MOST_BYTE: u64 = u8::MAX as u64;
 
-pub const MOST_NUMBER: u64 = 4294967295;
+pub const MOST_NUMBER: u64 = u32::MAX as u64;
 
-// The command of a line of one word, which is this letter.
-fn letter_command(letter: u8) -> Command
-    ensures { result ≡ command_of_line (record { words = 1; letters = 1; letter = letter; lead = no_number; first = no_number; second = no_number }) }
+// Whether the second word is a number, and the third a byte.
+fn is_pair(l: Line) -> bool
+    ensures { result ≡ (number_is most_number l.first && number_is most_byte l.second) }
 {
-    match letter {
-        b'm' => Command::Move,
-        b'a' => Command::Acknowledge,
-        b't' => Command::Take,
-        b'f' => Command::Flush,
-        b'k' => Command::Takeover,
-        _ => Command::Other,
-    }
-}
-
-// The command of a line of this letter and one word more.
-fn number_command(letter: u8, n: Number) -> Command
-    ensures { result ≡ command_of_line (record { words = 2; letters = 1; letter = letter; lead = no_number; first = n; second = no_number }) }
-{
-    let value = n.value;
-    if letter == b's' {
-        if !number_is(MOST_NUMBER, n) {
-            return Command::Other;
-        }
-        return Command::Send { length: value };
-    }
-    if letter != b'c' {
-        return Command::Other;
-    }
-    if !number_is(MOST_BYTE, n) {
-        return Command::Other;
-    }
-    Command::Close { byte: value as u8 }
-}
-
-// The command of a line of this letter and two words more.
-fn pair_command(letter: u8, first: Number, second: Number) -> Command
-    ensures { result ≡ command_of_line (record { words = 3; letters = 1; letter = letter; lead = no_number; first = first; second = second }) }
-{
-    let at = first.value;
-    let value = second.value;
-    if !number_is(MOST_NUMBER, first) {
-        return Command::Other;
-    }
-    if !number_is(MOST_BYTE, second) {
-        return Command::Other;
-    }
-    let byte = value as u8;
-    match letter {
-        b'w' => Command::Write { page: at, byte },
-        b'd' => Command::Disk { block: at, byte },
-        _ => Command::Other,
-    }
+    number_is(MOST_NUMBER, l.first) && number_is(MOST_BYTE, l.second)
 }
 
 // The command of what is kept of a line.
 pub fn command_of(l: Line) -> Command
     ensures { result ≡ command_of_line l }
 {
-    let words = l.words;
-    let letters = l.letters;
-    let letter = l.letter;
-    let first = l.first;
-    let second = l.second;
-    if letters != 1 {
+    if l.letters != 1 {
         return Command::Other;
     }
-    match words {
-        1 => letter_command(letter),
-        2 => number_command(letter, first),
-        3 => pair_command(letter, first, second),
+    match (l.words, l.letter) {
+        (3, b'w') if is_pair(l) => Command::Write {
+            page: l.first.value,
+            byte: l.second.value as u8,
+        },
+        (3, b'd') if is_pair(l) => Command::Disk {
+            block: l.first.value,
+            byte: l.second.value as u8,
+        },
+        (2, b's') if number_is(MOST_NUMBER, l.first) => Command::Send {
+            length: l.first.value,
+        },
+        (2, b'c') if number_is(MOST_BYTE, l.first) => Command::Close {
+            byte: l.first.value as u8,
+        },
+        (1, b'm') => Command::Move,
+        (1, b'a') => Command::Acknowledge,
+        (1, b't') => Command::Take,
+        (1, b'f') => Command::Flush,
+        (1, b'k') => Command::Takeover,
         _ => Command::Other,
     }
 }

@@ -1,8 +1,12 @@
 // The commands of the program `pair` on both ends and their link, at the settings of `pair`.
 #![tactic(auto)]
 
-use records::{AREA_LENGTH, EPOCH_RECORD};
-use rules::{Answer, Primary, Standby};
+ghost use Rattle.std.specs.Prelude.{◌≡◌, false};
+ghost use Rattle.records.specs.Number.{refusal_number};
+
+use records::refusal::Refusal;
+use records::{AREA_LENGTH, EPOCH_RECORD, Unread};
+use rules::{Accepted, Primary, Standby};
 
 pub mod answer;
 pub mod commands;
@@ -52,7 +56,8 @@ pub struct Site {
     pub unread: u64,
 }
 
-// What start gives: the site, and the number of its refusal, 0 where it is accepted.
+// What start gives: the site, and the number of its refusal, 0 where it is accepted. No Result: a refused start gives a
+// site too, of which a clause of `started_with` speaks.
 #[derive(Clone, Copy)]
 pub struct StartedSite {
     pub site: Site,
@@ -63,11 +68,11 @@ pub struct StartedSite {
 #[derive(Clone, Copy)]
 pub struct StandbyRead {
     pub standby: StandbyBox,
-    pub answer: Answer,
+    pub answer: Result<Accepted, Unread>,
     pub reply: [u8; EPOCH_RECORD],
 }
 
-// A command, one a line.
+// A command, one a line. Other is no None: a line that is no command has an answer too, `? 1 0` (specs/Command.antt).
 #[derive(Clone, Copy)]
 pub enum Command {
     Write { page: u64, byte: u8 },
@@ -82,7 +87,8 @@ pub enum Command {
     Other,
 }
 
-// What a command gives: the site after it, what is printed of it, and whether it is the last.
+// What a command gives: the site after it, what is printed of it, and whether it is the last. No Result: the number is
+// the documents', as in a Reply, and a refused command may leave another site, as `k` does after its ticks.
 #[derive(Clone, Copy)]
 pub struct Performed {
     pub site: Site,
@@ -91,7 +97,29 @@ pub struct Performed {
     pub last: bool,
 }
 
+impl Performed {
+    // One that is not the last.
+    pub(crate) fn new(site: Site, number: u64, value: u64) -> Self
+        ensures { result ≡ record { site = site; number = number; value = value; last = false } }
+    {
+        Performed {
+            site,
+            number,
+            value,
+            last: false,
+        }
+    }
+
+    // One that changes nothing.
+    pub(crate) fn refused(site: Site, refusal: Refusal) -> Self
+        ensures { result ≡ record { site = site; number = refusal_number refusal; value = 0; last = false } }
+    {
+        Performed::new(site, refusal.number(), 0)
+    }
+}
+
 // A line's answer: the site after it, the bytes printed, at the head of an array, and whether it is the last.
+// An array and a length, and no Vec, as the link of a Site: the programs have fixed memory.
 #[derive(Clone, Copy)]
 pub struct Answered {
     pub site: Site,

@@ -14,10 +14,10 @@ ghost use Rattle.script.specs.Pair.{ack_bytes, done, drained, drained_bytes, lin
 ghost use Rattle.records.specs.Kind.{is_commit as is_commit_kind};
 ghost use Rattle.script.specs.Site.{done_of, is_commit, standby_read, world_of};
 
-use crate::{LINK_BYTES, Performed, Site, StandbyBox, StandbyRead};
-use records::number::NOTHING_FREE;
-use records::{CUT_SHORT, EPOCH_RECORD, HEADER_LENGTH};
-use rules::{Answer, Primary, PrimaryReply};
+use crate::{LINK_BYTES, Performed, PrimaryBox, Site, StandbyBox, StandbyRead};
+use records::refusal::Refusal;
+use records::{CUT_SHORT, EPOCH_RECORD, HEADER_LENGTH, Unread};
+use rules::{Accepted, Primary, Reply};
 
 // The value of an accepted COMMIT: its kind, of either width.
 const COMMIT_VALUE: u64 = records::COMMIT as u64;
@@ -27,61 +27,36 @@ const WIDE_COMMIT_VALUE: u64 = records::WIDE_COMMIT as u64;
 // The bytes of an ACK, in the width of a count.
 const ACK_BYTES: u64 = EPOCH_RECORD as u64;
 
-// The number, the value and the bytes used of an answer.
-fn number_of(a: Answer) -> u64
+// The number of an answer.
+fn number_of(a: Result<Accepted, Unread>) -> u64
     ensures { result ≡ number_of a }
 {
     match a {
-        Answer::Accepted { value: _, used: _ } => 0,
-        Answer::Short { missing: _ } => CUT_SHORT,
-        Answer::Refused { number } => number,
+        Ok(_) => 0,
+        Err(Unread::Short { .. }) => CUT_SHORT,
+        Err(Unread::Refused { number }) => number,
     }
 }
 
-fn value_of(a: Answer) -> u64
-    ensures { result ≡ value_of a }
-{
-    match a {
-        Answer::Accepted { value, used: _ } => value,
-        Answer::Short { missing: _ } => 0,
-        Answer::Refused { number: _ } => 0,
-    }
-}
-
-fn used_of(a: Answer) -> usize
+// The bytes that an answer says are used.
+fn used_of(a: Result<Accepted, Unread>) -> usize
     ensures { result ≡ used_of a }
 {
-    match a {
-        Answer::Accepted { value: _, used } => used,
-        Answer::Short { missing: _ } => 0,
-        Answer::Refused { number: _ } => 0,
-    }
+    a.map_or(0, |accepted| accepted.used)
 }
 
 // The site with nothing changed: a command with nothing there.
 pub fn nothing_there(s: Site) -> Performed
     ensures { done_of result ≡ refused (world_of s) nothing_free }
 {
-    Performed {
-        site: s,
-        number: NOTHING_FREE,
-        value: 0,
-        last: false,
-    }
+    Performed::refused(s, Refusal::NothingFree)
 }
 
 // The site after a record was read, and what is printed of the answer.
-fn answered(s: Site, a: Answer) -> Performed
+fn answered(s: Site, a: Result<Accepted, Unread>) -> Performed
     ensures { done_of result ≡ record { next = world_of s; outcome = outcome (number_of a) (value_of a); last = false } }
 {
-    let number = number_of(a);
-    let value = value_of(a);
-    Performed {
-        site: s,
-        number,
-        value,
-        last: false,
-    }
+    Performed::new(s, number_of(a), a.map_or(0, |accepted| accepted.value))
 }
 
 // The length of the record at the head of the stream.
@@ -89,17 +64,14 @@ fn first_length(stream: &[u8]) -> usize
     requires { 2 ≤ length stream.now }
     ensures { result ≡ header_length + le_at 2 stream.now 0 }
 {
-    HEADER_LENGTH + lists::field::get2(stream, 0) as usize
+    HEADER_LENGTH + lists::field::get::<2>(stream, 0) as usize
 }
 
 // The bytes in the link.
 pub fn in_link(linked: usize) -> usize
     ensures { result ≡ min linked link_bytes }
 {
-    if LINK_BYTES < linked {
-        return LINK_BYTES;
-    }
-    linked
+    linked.min(LINK_BYTES)
 }
 
 // A drain of up to n bytes into the link behind its first count bytes.
@@ -109,7 +81,7 @@ fn drain_behind(
     n: usize,
     link: &mut [u8],
     count: usize,
-) -> PrimaryReply
+) -> Reply<Primary>
     requires { count ≤ length link.old }
     ensures value { result ≡ drain_reply p (length stream.old) n (length link.old - count) }
     ensures stream_after { stream.new ≡ drain_stream p stream.old n (length link.old - count) }
@@ -122,35 +94,30 @@ fn drain_behind(
 pub fn drain_bytes(s: Site, n: usize) -> Site
     ensures { world_of result ≡ drained_bytes n (world_of s) }
 {
-    let p = s.primary;
-    let mut stream = p.stream;
-    let mut link = s.link;
+    let Site {
+        primary: mut end,
+        mut link,
+        ..
+    } = s;
     let count = in_link(s.linked);
-    let r = drain_behind(p.state, &mut stream, n, &mut link, count);
-    let state = r.state;
-    let drained = r.value as usize;
-    let mut end = p;
-    end.state = state;
-    end.stream = stream;
-    let mut next = s;
-    next.primary = end;
-    next.link = link;
-    next.linked = count + drained;
-    next
+    let r = drain_behind(end.state, &mut end.stream, n, &mut link, count);
+    end.state = r.state;
+    Site {
+        primary: end,
+        link,
+        linked: count + r.value as usize,
+        ..s
+    }
 }
 
 // The link, with a record drained into it where it is empty.
 pub fn drain_record(s: Site) -> Site
     ensures { world_of result ≡ drained (world_of s) }
 {
-    let linked = s.linked;
-    let p = s.primary;
-    let stream = p.stream;
-    if linked != 0 {
+    if s.linked != 0 {
         return s;
     }
-    let n = first_length(&stream);
-    drain_bytes(s, n)
+    drain_bytes(s, first_length(&s.primary.stream))
 }
 
 // Whether the value of an accepted read is that of a COMMIT.
@@ -161,22 +128,13 @@ fn is_commit(value: u64) -> bool
 }
 
 // The epoch of the first unread ACK after a read, by the last received epoch: a COMMIT's ACK is the last.
-fn first_unread(unread: u64, a: Answer, received: u32) -> u64
+fn first_unread(unread: u64, a: Result<Accepted, Unread>, received: u32) -> u64
     ensures { result ≡ cond (is_commit a) (min unread received) unread }
 {
-    let number = number_of(a);
-    let value = value_of(a);
-    let last = received as u64;
-    if number != 0 {
-        return unread;
+    match a {
+        Ok(accepted) if is_commit(accepted.value) => unread.min(received as u64),
+        _ => unread,
     }
-    if !is_commit(value) {
-        return unread;
-    }
-    if last < unread {
-        return last;
-    }
-    unread
 }
 
 // Reads some bytes at the standby. An accepted COMMIT writes the ACK of the epoch that is then the last received: the
@@ -186,30 +144,20 @@ fn read_reply(b: StandbyBox, bytes: &[u8]) -> StandbyRead
     ensures reply_value { result.reply ≡ cond (is_commit result.answer) (ack_record result.standby.state.received) (replicate ack_bytes 0) }
 {
     let mut standby = b;
-    let mut memory = b.memory;
-    let mut pages = b.pages;
-    let mut marks = b.marks;
-    let mut blocks = b.blocks;
     let mut reply = [0u8; EPOCH_RECORD];
     let r = standby::read::read(
         b.state,
         bytes,
-        &mut memory,
-        &mut pages,
-        &mut marks,
-        &mut blocks,
+        &mut standby.memory,
+        &mut standby.pages,
+        &mut standby.marks,
+        &mut standby.blocks,
         &mut reply,
     );
-    let state = r.state;
-    let answer = r.answer;
-    standby.state = state;
-    standby.memory = memory;
-    standby.pages = pages;
-    standby.marks = marks;
-    standby.blocks = blocks;
+    standby.state = r.state;
     StandbyRead {
         standby,
-        answer,
+        answer: r.answer,
         reply,
     }
 }
@@ -221,32 +169,24 @@ pub fn read_link(s: Site) -> Performed
     let mut link = s.link;
     let count = in_link(s.linked);
     let r = read_reply(s.standby, lists::part_of(&link, 0, count));
-    let standby = r.standby;
-    let state = standby.state;
-    let answer = r.answer;
-    let used = used_of(answer);
+    let used = used_of(r.answer);
     lists::remove(&mut link, 0, used, count);
-    let unread = first_unread(s.unread, answer, state.received);
-    let mut next = s;
-    next.standby = standby;
-    next.link = link;
-    next.linked = count - used;
-    next.unread = unread;
-    answered(next, answer)
+    let next = Site {
+        standby: r.standby,
+        link,
+        linked: count - used,
+        unread: first_unread(s.unread, r.answer, r.standby.state.received),
+        ..s
+    };
+    answered(next, r.answer)
 }
 
 // `m`: drains one whole record into an empty link and reads it; a refused one is read again by the next `m`.
 pub fn move_record(s: Site) -> Performed
     ensures { done_of result ≡ perform (world_of s) Move }
 {
-    let linked = s.linked;
-    let p = s.primary;
-    let state = p.state;
-    let waiting = state.waiting;
-    if linked == 0 {
-        if waiting == 0 {
-            return nothing_there(s);
-        }
+    if s.linked == 0 && s.primary.state.waiting == 0 {
+        return nothing_there(s);
     }
     read_link(drain_record(s))
 }
@@ -255,15 +195,11 @@ pub fn move_record(s: Site) -> Performed
 pub fn unread_bytes(s: Site) -> u64
     ensures { result ≡ length (world_of s).acks }
 {
-    let unread = s.unread;
-    let b = s.standby;
-    let state = b.state;
-    let received = state.received;
-    let last = received as u64;
-    if last < unread {
+    let last = s.standby.state.received as u64;
+    if last < s.unread {
         return 0;
     }
-    (last + 1 - unread) * ACK_BYTES
+    (last + 1 - s.unread) * ACK_BYTES
 }
 
 // The bytes of an ACK.
@@ -291,31 +227,24 @@ fn read_ack(s: Site, epoch: u32) -> Performed
     requires { (s.unread ≡ epoch) × (epoch ≤ s.standby.state.received) }
     ensures { done_of result ≡ done (step (world_of s) (call.ack ack_bytes)) }
 {
-    let unread = s.unread;
-    let p = s.primary;
-    let bytes = ack_bytes(epoch);
-    let r = primary::stream::acknowledge(p.state, &bytes);
-    let state = r.state;
-    let answer = r.answer;
-    let after = after_ack(unread, used_of(answer));
-    let mut end = p;
-    end.state = state;
-    let mut next = s;
-    next.primary = end;
-    next.unread = after;
-    answered(next, answer)
+    let r = primary::stream::acknowledge(s.primary.state, &ack_bytes(epoch));
+    let next = Site {
+        primary: PrimaryBox {
+            state: r.state,
+            ..s.primary
+        },
+        unread: after_ack(s.unread, used_of(r.answer)),
+        ..s
+    };
+    answered(next, r.answer)
 }
 
 // `a`: the next ACK.
 pub fn acknowledge(s: Site) -> Performed
     ensures { done_of result ≡ perform (world_of s) Acknowledge }
 {
-    let unread = s.unread;
-    let b = s.standby;
-    let state = b.state;
-    let received = state.received;
-    if (received as u64) < unread {
+    if (s.standby.state.received as u64) < s.unread {
         return nothing_there(s);
     }
-    read_ack(s, unread as u32)
+    read_ack(s, s.unread as u32)
 }

@@ -1,4 +1,6 @@
 // A site: made by start, and with one box changed.
+#![tactic(auto, unfolding(crate::specs::Site::world_of))]
+
 ghost use Rattle.std.specs.Prelude.{◌≡◌, replicate};
 ghost use Rattle.rules.specs.Step.{at_primary, at_standby};
 ghost use Rattle.rules.specs.World.{start_number};
@@ -29,22 +31,21 @@ fn settings_with(t: u32) -> Settings
     }
 }
 
-// The site of a primary in this state with these marks, its buffers zeros, and of a standby; the link is empty and no ACK unread.
+// The site of a primary in this state with these marks, its buffers zeros, and of a standby; the link is empty and no
+// ACK unread.
 fn opened(primary: Primary, dirty: [u64; 1], standby: StandbyBox) -> Site
     ensures { result ≡ record { primary = record { state = primary; memory = replicate 256 0; disk = replicate 256 0; dirty = dirty; held = replicate 256 0; stream = replicate 1024 0 }; standby = standby; link = replicate 2048 0; linked = 0; unread = 1 } }
 {
     let zeros = [0u8; 256];
-    let empty = [0u8; STREAM_BYTES];
-    let end = PrimaryBox {
-        state: primary,
-        memory: zeros,
-        disk: zeros,
-        dirty,
-        held: zeros,
-        stream: empty,
-    };
     Site {
-        primary: end,
+        primary: PrimaryBox {
+            state: primary,
+            memory: zeros,
+            disk: zeros,
+            dirty,
+            held: zeros,
+            stream: [0u8; STREAM_BYTES],
+        },
         standby,
         link: [0u8; LINK_BYTES],
         linked: 0,
@@ -58,10 +59,9 @@ pub fn started_with(t: u32) -> StartedSite
     ensures number_value { result.number ≡ start_number (settings_with t) (zero_buffers (settings_with t)) }
 {
     let zeros = [0u8; 256];
-    let stream = [0u8; STREAM_BYTES];
     let mut dirty = [0u64; 1];
-    let mut memory = [0u8; 256];
-    let mut disk = [0u8; 256];
+    let mut memory = zeros;
+    let mut disk = zeros;
     let mut marks = [0u64; 1];
     let mut area = [0u8; AREA_LENGTH];
     let r = ends::start::start(
@@ -71,7 +71,7 @@ pub fn started_with(t: u32) -> StartedSite
         &zeros,
         &mut dirty,
         &zeros,
-        &stream,
+        &[0u8; STREAM_BYTES],
         &mut memory,
         &mut disk,
         &zeros,
@@ -79,9 +79,8 @@ pub fn started_with(t: u32) -> StartedSite
         &zeros,
         &mut area,
     );
-    let state = r.standby;
     let standby = StandbyBox {
-        state,
+        state: r.standby,
         memory,
         disk,
         pages: zeros,
@@ -89,9 +88,8 @@ pub fn started_with(t: u32) -> StartedSite
         blocks: zeros,
         area,
     };
-    let site = opened(r.primary, dirty, standby);
     StartedSite {
-        site,
+        site: opened(r.primary, dirty, standby),
         number: r.number,
     }
 }
@@ -100,18 +98,14 @@ pub fn started_with(t: u32) -> StartedSite
 pub fn started() -> Site
     ensures { world_of result ≡ pair_start }
 {
-    let r = started_with(PAIR_T);
-    let site = r.site;
-    site
+    started_with(PAIR_T).site
 }
 
 // The site with another primary's box.
 pub fn with_primary(s: Site, p: PrimaryBox) -> Site
     ensures { world_of result ≡ at_primary (world_of s) (primary_of p) }
 {
-    let mut next = s;
-    next.primary = p;
-    next
+    Site { primary: p, ..s }
 }
 
 // The site with another standby's box, of the same last received epoch: the unread ACKs are those up to it.
@@ -119,7 +113,5 @@ pub(crate) fn with_standby(s: Site, b: StandbyBox) -> Site
     requires { b.state.received ≡ s.standby.state.received }
     ensures { world_of result ≡ at_standby (world_of s) (standby_of b) }
 {
-    let mut next = s;
-    next.standby = b;
-    next
+    Site { standby: b, ..s }
 }

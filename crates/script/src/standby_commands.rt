@@ -1,4 +1,7 @@
-// The commands that are calls of the standby: f, and k with its three ticks, flush of all due and activation, each of which is a call of its own too.
+// The commands that are calls of the standby: f, and k with its three ticks, flush of all due and activation, each of
+// which is a call of its own too.
+#![tactic(auto, using(crate::proofs::SiteLaws::received), unfolding(rules::specs::Step::step, crate::specs::Pair::perform, crate::specs::Pair::takeover_done, crate::specs::Site::world_of))]
+
 ghost use Rattle.std.specs.Prelude.{◌≡◌, true};
 ghost use Rattle.rules.specs.Step.{step, outcome};
 ghost use Rattle.rules.specs.World as call;
@@ -14,20 +17,9 @@ fn flushed(s: Site, n: usize) -> Performed
     ensures { done_of result ≡ done (step (world_of s) (call.flush n)) }
 {
     let mut b = s.standby;
-    let mut blocks = b.blocks;
-    let mut disk = b.disk;
-    let r = standby::flush::flush(b.state, &mut blocks, &mut disk, n);
-    let state = r.state;
-    b.state = state;
-    b.blocks = blocks;
-    b.disk = disk;
-    let site = with_standby(s, b);
-    Performed {
-        site,
-        number: r.number,
-        value: r.value,
-        last: false,
-    }
+    let r = standby::flush::flush(b.state, &mut b.blocks, &mut b.disk, n);
+    b.state = r.state;
+    Performed::new(with_standby(s, b), r.number, r.value)
 }
 
 // `f`: flush 1.
@@ -41,13 +33,7 @@ pub fn flush(s: Site) -> Performed
 pub fn flushed_all(s: Site) -> Site
     ensures { world_of result ≡ (step (world_of s) (call.flush (world_of s).standby.state.slots.due)).next }
 {
-    let b = s.standby;
-    let state = b.state;
-    let slots = state.slots;
-    let due = slots.due;
-    let r = flushed(s, due);
-    let site = r.site;
-    site
+    flushed(s, s.standby.state.slots.due).site
 }
 
 // One tick of the standby.
@@ -55,11 +41,7 @@ pub fn ticked(s: Site) -> Site
     ensures { world_of result ≡ (step (world_of s) call.standby_tick).next }
 {
     let mut b = s.standby;
-    let mut marks = b.marks;
-    let r = standby::takeover::tick(b.state, &mut marks);
-    let state = r.state;
-    b.state = state;
-    b.marks = marks;
+    b.state = standby::takeover::tick(b.state, &mut b.marks).state;
     with_standby(s, b)
 }
 
@@ -70,17 +52,11 @@ pub fn activated(s: Site) -> Performed
     ensures last_value { result.last ≡ true }
 {
     let mut b = s.standby;
-    let mut area = b.area;
-    let r = standby::takeover::activate(b.state, &mut area);
-    let state = r.state;
-    b.state = state;
-    b.area = area;
-    let site = with_standby(s, b);
+    let r = standby::takeover::activate(b.state, &mut b.area);
+    b.state = r.state;
     Performed {
-        site,
-        number: r.number,
-        value: r.value,
         last: true,
+        ..Performed::new(with_standby(s, b), r.number, r.value)
     }
 }
 
@@ -88,9 +64,6 @@ pub fn activated(s: Site) -> Performed
 pub fn takeover(s: Site) -> Performed
     ensures { done_of result ≡ perform (world_of s) Takeover }
 {
-    let once = ticked(s);
-    let twice = ticked(once);
-    let expired = ticked(twice);
-    let stored = flushed_all(expired);
-    activated(stored)
+    let expired = ticked(ticked(ticked(s)));
+    activated(flushed_all(expired))
 }

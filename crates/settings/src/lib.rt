@@ -72,10 +72,43 @@ pub struct StandbySettings {
     pub s: usize,
 }
 
+impl From<Settings> for PrimarySettings {
+    ghost use Rattle.settings.specs.Range.{of_primary};
+
+    ghost from_gives = { λ g kept. kept ≡ of_primary g };
+
+    fn from(g: Settings) -> Self {
+        PrimarySettings {
+            u: g.u,
+            m: g.m,
+            d: g.d,
+            b: g.b,
+            q: g.q,
+            l: g.l,
+        }
+    }
+}
+
+impl From<Settings> for StandbySettings {
+    ghost use Rattle.settings.specs.Range.{of_standby};
+
+    ghost from_gives = { λ g kept. kept ≡ of_standby g };
+
+    fn from(g: Settings) -> Self {
+        StandbySettings {
+            u: g.u,
+            m: g.m,
+            d: g.d,
+            b: g.b,
+            s: g.s,
+        }
+    }
+}
+
 // Tests are joined by `&`: both sides are made, which is safe and has no effect, and what comes out is the definition's own conjunction. `&&` would
 // be a branch for each.
 
-// U, M, D and B, which both ends keep.
+// U, M, D and B, which both ends keep. Four numbers and no struct: the definitions of settings/specs/Range (`primary_settings_ok`, `standby_settings_ok`, `settings_ok`) name the fields of each end.
 pub fn shared_ok(u: usize, m: usize, d: usize, b: usize) -> bool
     ensures { result ≡ (unit_ok u && memory_pages_ok m && disk_blocks_ok d && allowance_ok b) }
 {
@@ -126,16 +159,11 @@ pub fn patience_ok(t: u32) -> bool
 pub fn primary_settings_ok(g: PrimarySettings) -> bool
     ensures { result ≡ primary_settings_ok g }
 {
-    let u = g.u;
-    let m = g.m;
-    let b = g.b;
-    if !shared_ok(u, m, g.d, b) {
-        return false;
-    }
-    held_ok(g.q) & stream_ok(u, m, b, g.l)
+    shared_ok(g.u, g.m, g.d, g.b) && (held_ok(g.q) & stream_ok(g.u, g.m, g.b, g.l))
 }
 
 // Whether those that the standby keeps are.
+#[tactic(auto, unfolding(crate::specs::Range::standby_settings_ok))]
 pub fn standby_settings_ok(g: StandbySettings) -> bool
     ensures { result ≡ standby_settings_ok g }
 {
@@ -146,13 +174,5 @@ pub fn standby_settings_ok(g: StandbySettings) -> bool
 pub fn settings_ok(g: Settings) -> bool
     ensures { result ≡ settings_ok g }
 {
-    let kept = PrimarySettings {
-        u: g.u,
-        m: g.m,
-        d: g.d,
-        b: g.b,
-        q: g.q,
-        l: g.l,
-    };
-    primary_settings_ok(kept) & slots_ok(g.b, g.s) & patience_ok(g.t)
+    primary_settings_ok(PrimarySettings::from(g)) & slots_ok(g.b, g.s) & patience_ok(g.t)
 }

@@ -20,17 +20,17 @@ pub struct Slots {
     pub numbers: [usize; MOST_SLOTS],
 }
 
-// Whether the first n numbers are below d.
+// Whether the first n numbers are below d. Here and in the loops below the numbers are an array by value, looked at by
+// index: by slices and iterators (`all`, `find`, `copy_within`, `fill`) a read of a PAGE of 64 bytes took 1.24 times as
+// long, and a flush of nothing 1.8 times (docs/BENCHMARKS.md).
 fn numbers_ok(numbers: [usize; MOST_SLOTS], n: usize, d: usize) -> bool
     requires { n ≤ most_slots }
     ensures { result ≡ numbers_ok d (take n numbers) }
 {
-    let mut i = 0;
-    while i < n {
+    for i in 0..n {
         if numbers[i] >= d {
             return false;
         }
-        i += 1;
     }
     true
 }
@@ -40,30 +40,24 @@ pub fn slots_ok(k: Slots, s: usize, d: usize) -> bool
     ensures { result ≡ slots_ok k s d }
 {
     let staged = k.staged;
-    let due = k.due;
-    let numbers = k.numbers;
     if s < staged {
         return false;
     }
-    if staged < due {
+    if staged < k.due {
         return false;
     }
     // a count above 64 names no entry more than the array has
     if MOST_SLOTS < staged {
-        return numbers_ok(numbers, MOST_SLOTS, d);
+        return numbers_ok(k.numbers, MOST_SLOTS, d);
     }
-    numbers_ok(numbers, staged, d)
+    numbers_ok(k.numbers, staged, d)
 }
 
 // How many of s slots are free for a block.
 pub fn free_slots(k: Slots, s: usize) -> usize
     ensures { result ≡ free_slots k s }
 {
-    let staged = k.staged;
-    if s < staged {
-        return 0;
-    }
-    s - staged
+    s.saturating_sub(k.staged)
 }
 
 // The place of number n among the first `end` from `from` on; where none of them is n, `end`.
@@ -71,25 +65,21 @@ fn place_from(numbers: [usize; MOST_SLOTS], from: usize, end: usize, n: usize) -
     requires { (from ≤ end) × (end ≤ most_slots) }
     ensures { result ≡ from + place_in n (drop from (take end numbers)) }
 {
-    let mut i = from;
-    while i < end {
+    for i in from..end {
         if numbers[i] == n {
             return i;
         }
-        i += 1;
     }
     end
 }
 
 // The slot of block n: the first that its epoch has staged it in, else the next one.
+#[tactic(auto, unfolding(crate::specs::Slot::slot_for))]
 pub fn slot_for(k: Slots, n: usize) -> usize
     requires { (k.due ≤ k.staged) × (k.staged ≤ most_slots) }
     ensures { result ≡ slot_for k n }
 {
-    let staged = k.staged;
-    let due = k.due;
-    let numbers = k.numbers;
-    place_from(numbers, due, staged, n)
+    place_from(k.numbers, k.due, k.staged, n)
 }
 
 // The slots with block n staged in its slot, which `slot_for` gave.
@@ -97,17 +87,17 @@ pub fn with_block(k: Slots, n: usize, slot: usize) -> Slots
     requires { StageFits k n × (slot ≡ slot_for k n) }
     ensures { result ≡ with_block k n }
 {
-    let staged = k.staged;
-    let mut next = k;
-    if slot < staged {
-        return next;
+    if slot < k.staged {
+        return k;
     }
-    next.numbers[staged] = n;
-    next.staged = staged + 1;
+    let mut next = k;
+    next.numbers[k.staged] = n;
+    next.staged += 1;
     next
 }
 
 // Copies a block's bytes into its slot.
+#[tactic(auto, unfolding(lists::specs::Page::with_page))]
 pub fn stage_block(slots: &mut [u8], u: usize, slot: usize, block: &[u8])
     requires { (length block.now ≡ u) × (slot * u + u ≤ length slots.old) }
     ensures { slots.new ≡ with_page u slots.old slot block.now }
@@ -116,34 +106,26 @@ pub fn stage_block(slots: &mut [u8], u: usize, slot: usize, block: &[u8])
 }
 
 // The slots with all staged blocks due.
+#[tactic(auto, unfolding(crate::specs::Slot::all_due))]
 pub fn all_due(k: Slots) -> Slots
     ensures { result ≡ all_due k }
 {
-    let staged = k.staged;
-    let mut next = k;
-    next.due = staged;
-    next
+    Slots { due: k.staged, ..k }
 }
 
 // The slots without the blocks that are not due.
+#[tactic(auto, unfolding(crate::specs::Slot::only_due))]
 pub fn only_due(k: Slots) -> Slots
     ensures { result ≡ only_due k }
 {
-    let due = k.due;
-    let mut next = k;
-    next.staged = due;
-    next
+    Slots { staged: k.due, ..k }
 }
 
 // How many blocks a flush with budget n stores.
 pub fn flush_count(k: Slots, n: usize) -> usize
     ensures { result ≡ flush_count k n }
 {
-    let due = k.due;
-    if n < due {
-        return n;
-    }
-    due
+    n.min(k.due)
 }
 
 // Stores the block in slot i as block n of the disk.
@@ -159,11 +141,8 @@ pub fn store(disk: &mut [u8], slots: &[u8], k: Slots, u: usize, count: usize)
     requires { StoreFits u k.numbers count (length slots.now) (length disk.old) }
     ensures { disk.new ≡ stored u k.numbers slots.now disk.old count }
 {
-    let numbers = k.numbers;
-    let mut i = 0;
-    while i < count {
-        store_block(disk, slots, u, numbers[i], i);
-        i += 1;
+    for i in 0..count {
+        store_block(disk, slots, u, k.numbers[i], i);
     }
 }
 
@@ -173,11 +152,8 @@ fn moved(numbers: [usize; MOST_SLOTS], n: usize, total: usize) -> [usize; MOST_S
     ensures { result ≡ removed 0 n total numbers }
 {
     let mut out = numbers;
-    let rest = total - n;
-    let mut i = 0;
-    while i < rest {
+    for i in 0..total - n {
         out[i] = numbers[n + i];
-        i += 1;
     }
     out
 }
@@ -188,39 +164,33 @@ fn zeroed(numbers: [usize; MOST_SLOTS], at: usize, n: usize) -> [usize; MOST_SLO
     ensures { result ≡ put numbers at (replicate n 0) }
 {
     let mut out = numbers;
-    let mut i = 0;
-    while i < n {
+    for i in 0..n {
         out[at + i] = 0;
-        i += 1;
     }
     out
 }
 
 // The slots without the first count blocks, which a flush has stored.
+#[tactic(auto, unfolding(crate::specs::Slot::flushed, lists::specs::Part::freed))]
 pub fn flushed(k: Slots, count: usize) -> Slots
     requires { (count ≤ k.due) × (k.due ≤ k.staged) × (k.staged ≤ most_slots) }
     ensures { result ≡ flushed k count }
 {
-    let staged = k.staged;
-    let due = k.due;
-    let numbers = k.numbers;
-    let rest = staged - count;
-    let front = moved(numbers, count, staged);
-    let all = zeroed(front, rest, count);
+    let staged = k.staged - count;
     Slots {
-        staged: rest,
-        due: due - count,
-        numbers: all,
+        staged,
+        due: k.due - count,
+        numbers: zeroed(moved(k.numbers, count, k.staged), staged, count),
     }
 }
 
 // Moves the bytes of the slots behind the first count to the front.
+#[tactic(auto, unfolding(crate::specs::Slot::flushed_bytes))]
 pub fn free_bytes(slots: &mut [u8], k: Slots, u: usize, count: usize)
     requires { (count ≤ k.staged) × (k.staged * u ≤ length slots.old) }
     ensures { slots.new ≡ flushed_bytes u k count slots.old }
 {
-    let staged = k.staged;
-    lists::remove(slots, 0, count * u, staged * u);
+    lists::remove(slots, 0, count * u, k.staged * u);
 }
 
 // Stores as many due blocks as the budget n lets, in order of arrival, moves the bytes of the others to the front, and reports how many it stored.

@@ -1,3 +1,2 @@
 -- What this crate's proofs share.
-pub mod ArmLaws
 pub mod FitsLaws

@@ -1,7 +1,8 @@
 -- What the effects of a judged record require: its bytes are there, and the state and the lent buffers have room. Assumes nothing.
-use Rattle.std.specs.Prelude.{ℕ, ◌+◌, ◌*◌, ◌^◌, ◌≤◌, ◌<◌, ◌≡◌}
+use Rattle.std.specs.Prelude.{ℕ, ◌+◌, ◌*◌, ◌^◌, ◌≤◌, ◌<◌, ◌≡◌, Result}
 use Rattle.records.specs.declared.Cursor.{Cursor}
 use Rattle.records.specs.declared.Record.{Record}
+use Rattle.records.specs.declared.Unread.{Unread}
 use Rattle.records.specs.Cases.{on_block, by_kind}
 use Rattle.records.specs.Kind.{processor_bytes}
 use Rattle.settings.specs.Range.{most_slots}
@@ -17,14 +18,14 @@ pub record FieldFits (n size : ℕ) (c : Cursor) : Type 0 where
   pub inside : c.end ≤ n
 
 -- the slot of a BLOCK; others need none
-abbrev pub slot_of : Standby → Record → ℕ
+abbrev pub slot_of : Standby → Result Record Unread → ℕ
 slot_of s r = on_block r (λ e n c. slot_for s.slots n) 0
 
-abbrev pub SlotFits : Standby → Record → Type 0
+abbrev pub SlotFits : Standby → Result Record Unread → Type 0
 SlotFits s r = on_block r (λ e n c. (s.slots.due ≤ s.slots.staged) × (s.slots.staged ≤ most_slots)) (Unit {0})
 
 -- the counts of the state have room for one more
-abbrev pub StateFits : Standby → ℕ → Record → Type 0
+abbrev pub StateFits : Standby → ℕ → Result Record Unread → Type 0
 StateFits s n r =
     by_kind r
     (λ e p c. (s.pages + 1 < 2 ^ 64) × (p + 1 < 2 ^ 64))
@@ -34,7 +35,7 @@ StateFits s n r =
     (Unit {0})
 
 -- the lent buffers hold what the record brings
-abbrev pub BuffersFit : Standby → ReadLent → ℕ → Record → Type 0
+abbrev pub BuffersFit : Standby → ReadLent → ℕ → Result Record Unread → Type 0
 BuffersFit s l n r =
     by_kind r
     (λ e p c. (p * s.settings.u + s.settings.u ≤ l.pages) × FieldFits n s.settings.u c)

@@ -9,27 +9,25 @@ ghost use Rattle.pages.specs.Dirty.{installed};
 ghost use Rattle.staging.specs.Slot.{slot_for};
 ghost use Rattle.staging.specs.Fits.{StageFits};
 ghost use Rattle.rules.specs.Blocks.{blocks_with};
-ghost use Rattle.rules.specs.StandbyState.{with_pages_next};
-ghost use Rattle.rules.specs.Reply.{answer_of};
+ghost use Rattle.rules.specs.StandbyState.{with_pages_next, with_no_records};
 ghost use Rattle.rules.specs.Read.{bytes_at, installed_state, staged_state, read_state, memory_after, staged_pages_after, staged_marks_after, staged_blocks_after, reply_after, read_lent};
 ghost use Rattle.standby.specs.Fits.{FieldFits, slot_of, SlotFits, StateFits, BuffersFit};
 
-use crate::parts;
-use records::reading::{used_of, value_of};
-use records::{Cursor, Record};
-use rules::{Answer, Standby};
+use records::{Cursor, Record, Unread};
+use rules::Standby;
 
 // The field of bytes of a record.
+#[tactic(auto, unfolding(lists::specs::Part::part))]
 fn field(bytes: &[u8], at: Cursor) -> &[u8]
     requires { (at.start ≤ at.end) × (at.end ≤ length bytes.now) }
-    ensures { result.now ≡ bytes_at at bytes.now }
+    ensures value { result.now ≡ bytes_at at bytes.now }
+    ensures size { at.start + length result.now ≡ at.end }
 {
-    let start = at.start;
-    let end = at.end;
-    lists::part_of(bytes, start, end - start)
+    &bytes[at.start..at.end]
 }
 
 // The processor state that a STATE brings.
+#[tactic(auto, using(lists::proofs::PartLaws::put_whole))]
 fn processor(bytes: &[u8], at: Cursor) -> [u8; 64]
     requires { FieldFits (length bytes.now) processor_bytes at }
     ensures { result ≡ bytes_at at bytes.now }
@@ -44,8 +42,11 @@ fn with_page(s: Standby, page: usize) -> Standby
     requires { (s.pages + 1 < 2 ^ 64) × (page + 1 < 2 ^ 64) }
     ensures { result ≡ with_pages_next s (s.pages + 1) (page + 1) }
 {
-    let pages = s.pages;
-    parts::with_pages_next(s, pages + 1, page + 1)
+    Standby {
+        pages: s.pages + 1,
+        next: page + 1,
+        ..s
+    }
 }
 
 // The different blocks of the epoch with one more, unless it has that one already.
@@ -53,10 +54,7 @@ fn blocks_with(again: bool, blocks: usize) -> usize
     requires { blocks + 1 < 2 ^ 64 }
     ensures { result ≡ blocks_with again blocks }
 {
-    if again {
-        return blocks;
-    }
-    blocks + 1
+    if again { blocks } else { blocks + 1 }
 }
 
 // One BLOCK more of the epoch, staged in its slot and not due.
@@ -64,111 +62,96 @@ fn with_block(s: Standby, block: usize, slot: usize) -> Standby
     requires { StageFits s.slots block × (s.blocks + 1 < 2 ^ 64) × (s.records + 1 < 2 ^ 64) × (slot ≡ slot_for s.slots block) }
     ensures { result ≡ staged_state s block }
 {
-    let k = s.slots;
-    let staged = k.staged;
-    let blocks = s.blocks;
-    let records = s.records;
-    let slots = staging::with_block(k, block, slot);
-    parts::with_slots_blocks(s, slots, blocks_with(slot < staged, blocks), records + 1)
+    let slots = staging::with_block(s.slots, block, slot);
+    Standby {
+        slots,
+        blocks: blocks_with(slot < s.slots.staged, s.blocks),
+        records: s.records + 1,
+        ..s
+    }
 }
 
 // The slot of a judged BLOCK; 0 for all others, which need none.
-pub(crate) fn slot_of(s: Standby, r: Record) -> usize
+pub(crate) fn slot_of(s: Standby, r: Result<Record, Unread>) -> usize
     requires { SlotFits s r }
     ensures { result ≡ slot_of s r }
 {
-    let k = s.slots;
     match r {
-        Record::Block {
-            epoch: _,
-            block,
-            at: _,
-        } => staging::slot_for(k, block),
+        Ok(Record::Block { block, .. }) => staging::slot_for(s.slots, block),
         _ => 0,
     }
 }
 
-// A checkpoint is installed: "keeps the processor state, makes the epoch's staged blocks due"; its epoch is the last received.
+// The state without the records of an epoch: its counts, next page and STATE seen are as before the first of them.
+pub(crate) fn with_no_records(s: Standby) -> Standby
+    ensures { result ≡ with_no_records s }
+{
+    Standby {
+        blocks: 0,
+        records: 0,
+        pages: 0,
+        next: 0,
+        seen: false,
+        ..s
+    }
+}
+
+// A checkpoint is installed: "keeps the processor state, makes the epoch's staged blocks due"; its epoch is the last
+// received.
 fn installed_state(s: Standby, epoch: u32) -> Standby
     ensures { result ≡ installed_state s epoch }
 {
-    let k = s.slots;
-    let pending = s.pending;
-    let due = staging::all_due(k);
-    parts::with_received_slots_processor(s, epoch, due, pending)
+    let processor = s.pending;
+    Standby {
+        received: epoch,
+        slots: staging::all_due(s.slots),
+        processor,
+        ..s
+    }
 }
 
 // The state after a record: the count "returns to 0 at each accepted record of kinds 1 to 4", and of 8 and 9. The
 // detector is replaced in each arm: where it was replaced before the match, a read of a PAGE of 64 bytes took a third
 // longer (docs/BENCHMARKS.md).
-pub(crate) fn read_state(s: Standby, bytes: &[u8], r: Record, slot: usize) -> Standby
+pub(crate) fn read_state(
+    s: Standby,
+    bytes: &[u8],
+    r: Result<Record, Unread>,
+    slot: usize,
+) -> Standby
     requires { StateFits s (length bytes.now) r × (slot ≡ slot_of s r) }
     ensures { result ≡ read_state s bytes.now r }
 {
-    let detector = s.detector;
-    let reset = detector::reset(detector);
+    let detector = detector::reset(s.detector);
     match r {
-        Record::Page {
-            wide: _,
-            epoch: _,
-            page,
-            at: _,
-        } => with_page(parts::with_detector(s, reset), page),
-        Record::Block {
-            epoch: _,
-            block,
-            at: _,
-        } => with_block(parts::with_detector(s, reset), block, slot),
-        Record::State { epoch: _, at } => {
-            parts::with_pending_seen(parts::with_detector(s, reset), processor(bytes, at))
-        }
-        Record::Commit {
-            wide: _,
-            epoch,
-            pages: _,
-            blocks: _,
-            at: _,
-        } => installed_state(
-            parts::with_no_records(parts::with_detector(s, reset)),
-            epoch,
-        ),
-        _ => s,
-    }
-}
-
-// What the judged record answers.
-pub(crate) fn answer_of(r: Record) -> Answer
-    ensures { result ≡ answer_of r }
-{
-    match r {
-        Record::Short { missing } => Answer::Short { missing },
-        Record::Refused { number } => Answer::Refused { number },
-        _ => Answer::Accepted {
-            value: value_of(r),
-            used: used_of(r),
+        Ok(Record::Page { page, .. }) => with_page(Standby { detector, ..s }, page),
+        Ok(Record::Block { block, .. }) => with_block(Standby { detector, ..s }, block, slot),
+        Ok(Record::State { at, .. }) => Standby {
+            detector,
+            seen: true,
+            pending: processor(bytes, at),
+            ..s
         },
+        Ok(Record::Commit { epoch, .. }) => {
+            installed_state(with_no_records(Standby { detector, ..s }), epoch)
+        }
+        Ok(Record::Ack { .. }) | Err(_) => s,
     }
 }
 
 // PAGE: the page is staged and marked.
-fn stage_page(pages: &mut [u8], marks: &mut [u64], bytes: &[u8], u: usize, page: usize, at: Cursor)
-    requires { (page * u + u ≤ length pages.old) × FieldFits (length bytes.now) u at }
-    ensures pages_after { pages.new ≡ with_page u pages.old page (bytes_at at bytes.now) }
+#[tactic(auto, unfolding(lists::specs::Page::with_page))]
+fn stage_page(pages: &mut [u8], marks: &mut [u64], u: usize, page: usize, bytes: &[u8])
+    requires { (page * u + u ≤ length pages.old) × (length bytes.now ≡ u) }
+    ensures pages_after { pages.new ≡ with_page u pages.old page bytes.now }
     ensures marks_after { marks.new ≡ with_mark marks.old page }
 {
-    lists::copy_into(pages, page * u, field(bytes, at));
+    lists::copy_into(pages, page * u, bytes);
     marks::mark(marks, page);
 }
 
-// BLOCK: the block is staged in its slot.
-fn stage_block(blocks: &mut [u8], bytes: &[u8], u: usize, slot: usize, at: Cursor)
-    requires { (slot * u + u ≤ length blocks.old) × FieldFits (length bytes.now) u at }
-    ensures { blocks.new ≡ with_page u blocks.old slot (bytes_at at bytes.now) }
-{
-    staging::stage_block(blocks, u, slot, field(bytes, at));
-}
-
-// COMMIT: "copies the staged pages into memory, clears their marks", "writes the ACK into the first 8 bytes of the reply buffer".
+// COMMIT: "copies the staged pages into memory, clears their marks", "writes the ACK into the first 8 bytes of the
+// reply buffer".
 fn install(
     memory: &mut [u8],
     pages: &[u8],
@@ -188,7 +171,9 @@ fn install(
     records::writing::write_ack(reply, epoch);
 }
 
-// Each lent buffer after a record.
+// Each lent buffer after a record. They are five parameters, and no struct of them. Tried: lent by &mut, the
+// borrow checker has no rule for lending its fields together; by value, the clauses could name its fields by number alone.
+#[tactic(auto, unfolding(staging::specs::Slot::with_block_bytes))]
 pub(crate) fn apply(
     s: Standby,
     bytes: &[u8],
@@ -197,7 +182,7 @@ pub(crate) fn apply(
     marks: &mut [u64],
     blocks: &mut [u8],
     reply: &mut [u8],
-    r: Record,
+    r: Result<Record, Unread>,
     slot: usize,
 )
     requires { BuffersFit s (read_lent memory.old pages.old marks.old blocks.old reply.old) (length bytes.now) r × (slot ≡ slot_of s r) }
@@ -208,27 +193,12 @@ pub(crate) fn apply(
     ensures reply_after { reply.new ≡ reply_after reply.old r }
 {
     let g = s.settings;
-    let u = g.u;
-    let m = g.m;
     match r {
-        Record::Page {
-            wide: _,
-            epoch: _,
-            page,
-            at,
-        } => stage_page(pages, marks, bytes, u, page, at),
-        Record::Block {
-            epoch: _,
-            block: _,
-            at,
-        } => stage_block(blocks, bytes, u, slot, at),
-        Record::Commit {
-            wide: _,
-            epoch,
-            pages: _,
-            blocks: _,
-            at: _,
-        } => install(memory, pages, marks, reply, u, m, epoch),
-        _ => {}
+        Ok(Record::Page { page, at, .. }) => stage_page(pages, marks, g.u, page, field(bytes, at)),
+        Ok(Record::Block { at, .. }) => staging::stage_block(blocks, g.u, slot, field(bytes, at)),
+        Ok(Record::Commit { epoch, .. }) => {
+            install(memory, pages, marks, reply, g.u, g.m, epoch)
+        }
+        Ok(Record::State { .. }) | Ok(Record::Ack { .. }) | Err(_) => {}
     }
 }

@@ -1,56 +1,38 @@
 // Flush: blocks that are due go to the disk.
 ghost use Rattle.std.specs.Prelude.{◌≡◌, length};
+ghost use Rattle.records.specs.Number.{number_in};
 ghost use Rattle.rules.specs.Flush.{flush_refusal, flush_reply, flush_staged_blocks, flush_disk};
 
-use crate::parts::with_slots_blocks;
 use crate::ranges::standby_ok;
-use records::number;
-use rules::{Standby, StandbyReply};
+use records::refusal::Refusal;
+use rules::{Reply, Standby};
 
-// The refusal, from the lengths of the staged blocks and the disk.
-fn flush_refusal(s: Standby, slots: usize, disk: usize) -> u64
-    ensures { result ≡ flush_refusal s slots disk }
+// Whether a flush is refused, from the lengths of the staged blocks and the disk.
+#[tactic(auto, using(crate::proofs::FitsLaws::slots_fit, crate::proofs::FitsLaws::disk_fits), unfolding(rules::specs::Flush::flush_refusal))]
+fn check_flush(s: Standby, slots: usize, disk: usize) -> Result<(), Refusal>
+    ensures { number_in result ≡ flush_refusal s slots disk }
 {
     let g = s.settings;
-    let u = g.u;
-    let d = g.d;
-    let most = g.s;
-    if !standby_ok(s) {
-        return number::OUT_OF_RANGE;
+    if !standby_ok(s) || slots != g.s * g.u || disk != g.d * g.u {
+        return Err(Refusal::OutOfRange);
     }
-    if slots != most * u {
-        return number::OUT_OF_RANGE;
-    }
-    if disk != d * u {
-        return number::OUT_OF_RANGE;
-    }
-    0
+    Ok(())
 }
 
 // Flush with budget n: stores at most n of the blocks that are due, in order of arrival.
-pub fn flush(s: Standby, slots: &mut [u8], disk: &mut [u8], n: usize) -> StandbyReply
+#[tactic(auto, unfolding(rules::specs::Flush::flush_reply, rules::specs::Flush::flush_staged_blocks, rules::specs::Flush::flush_disk))]
+pub fn flush(s: Standby, slots: &mut [u8], disk: &mut [u8], n: usize) -> Reply<Standby>
     ensures value { result ≡ flush_reply s (length slots.old) (length disk.old) n }
     ensures slots_after { slots.new ≡ flush_staged_blocks s slots.old disk.old n }
     ensures disk_after { disk.new ≡ flush_disk s slots.old disk.old n }
 {
-    let g = s.settings;
-    let u = g.u;
-    let k = s.slots;
-    let blocks = s.blocks;
-    let records = s.records;
-    let number = flush_refusal(s, slots.len(), disk.len());
-    if number != 0 {
-        return StandbyReply {
-            state: s,
-            number: number,
-            value: 0,
-        };
+    if let Err(refusal) = check_flush(s, slots.len(), disk.len()) {
+        return replies::refused(s, refusal);
     }
-    let count = staging::flush(slots, disk, k, u, n);
-    let state = with_slots_blocks(s, staging::flushed(k, count), blocks, records);
-    StandbyReply {
-        state: state,
-        number: 0,
-        value: count as u64,
-    }
+    let count = staging::flush(slots, disk, s.slots, s.settings.u, n);
+    let state = Standby {
+        slots: staging::flushed(s.slots, count),
+        ..s
+    };
+    replies::accepted(state, count as u64)
 }

@@ -1,5 +1,8 @@
-// What a record is refused with: the record that an accepted read finds, else cut short or the number.
-ghost use Rattle.std.specs.Prelude.{◌≡◌, true, ◌≤◌};
+// What a record is refused with: the record that an accepted read finds, else cut short or the number. That the state
+// is in its ranges is a clause of three private functions, and no struct of its own: they are called behind that test alone, and
+// would make one for each to take apart.
+ghost use Rattle.std.specs.Prelude.{◌≡◌, true, ◌≤◌, Ok};
+ghost use Rattle.records.specs.Number.{number_in};
 ghost use Rattle.settings.specs.Range.{most_slots};
 ghost use Rattle.staging.specs.Slot.{is_staged};
 ghost use Rattle.rules.specs.StandbyState.{standby_ok};
@@ -7,38 +10,27 @@ ghost use Rattle.rules.specs.Judge.{read_lent_ok, free_for, page_refusal, block_
 
 use crate::ranges;
 use records::kinds::is_wide;
-use records::reading::other_refusal;
-use records::{EPOCH_RECORD, Reader, Record, number};
+use records::refusal::Refusal;
+use records::{EPOCH_RECORD, Reader, Record, Unread};
 use rules::{ReadLent, Standby};
 use settings::MOST_RECORDS;
 use staging::Slots;
 
 // PAGE: 2 8 9. The epoch is compared in 64 bits, so that the last received epoch may be the last that there is.
-fn page_refusal(s: Standby, epoch: u32, page: usize) -> u64
-    ensures { result ≡ page_refusal s epoch page }
+#[tactic(auto, unfolding(rules::specs::Judge::page_refusal))]
+fn check_page(s: Standby, epoch: u32, page: usize) -> Result<(), Refusal>
+    ensures { number_in result ≡ page_refusal s epoch page }
 {
-    let g = s.settings;
-    let m = g.m;
-    let received = s.received as u64;
-    let next = s.next;
-    let pages = s.pages;
-    let seen = s.seen;
-    if m <= page {
-        return number::NO_SUCH_UNIT;
+    if s.settings.m <= page {
+        return Err(Refusal::NoSuchUnit);
     }
-    if epoch as u64 != received + 1 {
-        return number::BAD_EPOCH;
+    if epoch as u64 != s.received as u64 + 1 {
+        return Err(Refusal::BadEpoch);
     }
-    if page < next {
-        return number::OUT_OF_ORDER;
+    if page < s.next || page < s.pages || s.seen {
+        return Err(Refusal::OutOfOrder);
     }
-    if page < pages {
-        return number::OUT_OF_ORDER;
-    }
-    if seen {
-        return number::OUT_OF_ORDER;
-    }
-    0
+    Ok(())
 }
 
 // Whether the epoch that is being received has this block already.
@@ -46,169 +38,127 @@ fn is_staged(k: Slots, block: usize) -> bool
     requires { (k.due ≤ k.staged) × (k.staged ≤ most_slots) }
     ensures { result ≡ is_staged k block }
 {
-    let staged = k.staged;
-    staging::slot_for(k, block) < staged
+    staging::slot_for(k, block) < k.staged
 }
 
 // BLOCK: 2 8 9 14 17.
-fn block_refusal(s: Standby, epoch: u32, block: usize) -> u64
+#[tactic(auto, using(crate::proofs::FitsLaws::slots_within), unfolding(rules::specs::Judge::block_refusal))]
+fn check_block(s: Standby, epoch: u32, block: usize) -> Result<(), Refusal>
     requires { standby_ok s ≡ true }
-    ensures { result ≡ block_refusal s (free_for s) epoch block }
+    ensures { number_in result ≡ block_refusal s (free_for s) epoch block }
 {
     let g = s.settings;
-    let d = g.d;
-    let most = g.b;
-    let room = g.s;
-    let slots = s.slots;
-    let received = s.received as u64;
-    let next = s.next;
-    let pages = s.pages;
-    let seen = s.seen;
-    let blocks = s.blocks;
-    let records = s.records;
-    let free = staging::free_slots(slots, room);
-    if d <= block {
-        return number::NO_SUCH_UNIT;
+    let free = staging::free_slots(s.slots, g.s);
+    if g.d <= block {
+        return Err(Refusal::NoSuchUnit);
     }
-    if epoch as u64 != received + 1 {
-        return number::BAD_EPOCH;
+    if epoch as u64 != s.received as u64 + 1 {
+        return Err(Refusal::BadEpoch);
     }
-    if next != 0 {
-        return number::OUT_OF_ORDER;
+    if s.next != 0 || s.pages != 0 || s.seen {
+        return Err(Refusal::OutOfOrder);
     }
-    if pages != 0 {
-        return number::OUT_OF_ORDER;
-    }
-    if seen {
-        return number::OUT_OF_ORDER;
-    }
-    if MOST_RECORDS <= records {
-        return number::ALLOWANCE_USED;
+    if MOST_RECORDS <= s.records {
+        return Err(Refusal::AllowanceUsed);
     }
     // the slots are looked at only where another block would be refused
-    if (blocks < most) & (free != 0) {
-        return 0;
+    if (s.blocks < g.b && free != 0) || is_staged(s.slots, block) {
+        return Ok(());
     }
-    if is_staged(slots, block) {
-        return 0;
+    if g.b <= s.blocks {
+        return Err(Refusal::AllowanceUsed);
     }
-    if most <= blocks {
-        return number::ALLOWANCE_USED;
-    }
-    number::SLOTS_FULL
+    Err(Refusal::SlotsFull)
 }
 
 // STATE: 8 9.
-fn state_refusal(s: Standby, epoch: u32) -> u64
-    ensures { result ≡ state_refusal s epoch }
+#[tactic(auto, unfolding(rules::specs::Judge::state_refusal))]
+fn check_state(s: Standby, epoch: u32) -> Result<(), Refusal>
+    ensures { number_in result ≡ state_refusal s epoch }
 {
-    let received = s.received as u64;
-    let seen = s.seen;
-    if epoch as u64 != received + 1 {
-        return number::BAD_EPOCH;
+    if epoch as u64 != s.received as u64 + 1 {
+        return Err(Refusal::BadEpoch);
     }
-    if seen {
-        return number::OUT_OF_ORDER;
+    if s.seen {
+        return Err(Refusal::OutOfOrder);
     }
-    0
+    Ok(())
 }
 
 // COMMIT: 5 8 9 10.
-fn commit_refusal(s: Standby, reply: usize, epoch: u32, pages: usize, blocks: usize) -> u64
-    ensures { result ≡ commit_refusal s reply epoch pages blocks }
+#[tactic(auto, unfolding(rules::specs::Judge::commit_refusal, records::specs::Kind::record_length, records::specs::Kind::body_length))]
+fn check_commit(
+    s: Standby,
+    reply: usize,
+    epoch: u32,
+    pages: usize,
+    blocks: usize,
+) -> Result<(), Refusal>
+    ensures { number_in result ≡ commit_refusal s reply epoch pages blocks }
 {
-    let received = s.received as u64;
-    let seen = s.seen;
-    let had_pages = s.pages;
-    let had_records = s.records;
     if reply < EPOCH_RECORD {
-        return number::NO_ROOM;
+        return Err(Refusal::NoRoom);
     }
-    if epoch as u64 != received + 1 {
-        return number::BAD_EPOCH;
+    if epoch as u64 != s.received as u64 + 1 {
+        return Err(Refusal::BadEpoch);
     }
-    if !seen {
-        return number::OUT_OF_ORDER;
+    if !s.seen {
+        return Err(Refusal::OutOfOrder);
     }
-    if pages != had_pages {
-        return number::BAD_COUNTS;
+    if pages != s.pages || blocks != s.records {
+        return Err(Refusal::BadCounts);
     }
-    if blocks != had_records {
-        return number::BAD_COUNTS;
-    }
-    0
+    Ok(())
 }
 
-// What a record that was read is refused with, by its kind: 6 for other kinds, or its own number.
-fn record_refusal(s: Standby, reply: usize, r: Record) -> u64
+// Whether a record that was read is refused, by its kind: 6 for other kinds.
+fn check_record(s: Standby, reply: usize, r: Record) -> Result<(), Refusal>
     requires { standby_ok s ≡ true }
-    ensures { result ≡ record_refusal s reply r }
+    ensures { number_in result ≡ record_refusal s reply (Ok r) }
 {
     match r {
-        Record::Page {
-            wide: _,
-            epoch,
-            page,
-            at: _,
-        } => page_refusal(s, epoch, page),
-        Record::Block {
-            epoch,
-            block,
-            at: _,
-        } => block_refusal(s, epoch, block),
-        Record::State { epoch, at: _ } => state_refusal(s, epoch),
+        Record::Page { epoch, page, .. } => check_page(s, epoch, page),
+        Record::Block { epoch, block, .. } => check_block(s, epoch, block),
+        Record::State { epoch, .. } => check_state(s, epoch),
         Record::Commit {
-            wide: _,
             epoch,
             pages,
             blocks,
-            at: _,
-        } => commit_refusal(s, reply, epoch, pages, blocks),
-        _ => other_refusal(r),
+            ..
+        } => check_commit(s, reply, epoch, pages, blocks),
+        Record::Ack { .. } => Err(Refusal::BadKind),
     }
 }
 
 // "Lent lengths are exact", of a state in its ranges, so that no product wraps. The reply buffer may be of any length.
+#[tactic(auto, using(crate::proofs::FitsLaws::memory_fits, crate::proofs::FitsLaws::slots_fit), unfolding(rules::specs::Judge::read_lent_ok))]
 fn lent_ok(s: Standby, l: ReadLent) -> bool
     requires { standby_ok s ≡ true }
     ensures { result ≡ read_lent_ok s l }
 {
     let g = s.settings;
     let memory = g.m * g.u;
-    let words = (g.m + 63) / 64;
-    let blocks = g.s * g.u;
-    (l.memory == memory) & (l.pages == memory) & (l.marks == words) & (l.blocks == blocks)
+    (l.memory == memory)
+        & (l.pages == memory)
+        & (l.marks == g.m.div_ceil(64))
+        & (l.blocks == g.s * g.u)
 }
 
 // The record at the head of the bytes where it is accepted, else cut short or the number.
-pub(crate) fn judged(s: Standby, l: ReadLent, bytes: &[u8]) -> Record
+#[tactic(auto, unfolding(rules::specs::Judge::judged))]
+pub(crate) fn judged(s: Standby, l: ReadLent, bytes: &[u8]) -> Result<Record, Unread>
     ensures { result ≡ judged s l bytes.now }
 {
-    let g = s.settings;
-    let mode = s.mode;
-    let u = g.u;
-    let m = g.m;
-    let reply = l.reply;
-    if !ranges::standby_ok(s) {
-        return Record::Refused {
-            number: number::OUT_OF_RANGE,
-        };
+    if !ranges::standby_ok(s) || !lent_ok(s, l) {
+        return Err(Refusal::OutOfRange.into());
     }
-    if !lent_ok(s, l) {
-        return Record::Refused {
-            number: number::OUT_OF_RANGE,
-        };
+    if !ranges::is_receiving(s.mode) {
+        return Err(Refusal::WrongMode.into());
     }
-    if !ranges::is_receiving(mode) {
-        return Record::Refused {
-            number: number::WRONG_MODE,
-        };
-    }
-    let reader = Reader::Standby { wide: is_wide(m) };
-    let r = records::reading::read(reader, u, bytes);
-    let n = record_refusal(s, reply, r);
-    if n != 0 {
-        return Record::Refused { number: n };
-    }
-    r
+    let reader = Reader::Standby {
+        wide: is_wide(s.settings.m),
+    };
+    let r = records::reading::read(reader, s.settings.u, bytes)?;
+    check_record(s, l.reply, r)?;
+    Ok(r)
 }

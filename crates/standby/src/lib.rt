@@ -4,7 +4,6 @@
 mod effects;
 pub mod flush;
 mod judge;
-mod parts;
 pub mod ranges;
 pub mod read;
 pub mod sum;

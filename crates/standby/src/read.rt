@@ -5,9 +5,11 @@ ghost use Rattle.rules.specs.Judge.{judged};
 ghost use Rattle.rules.specs.Read.{read_lent, read_reply, read_memory, read_staged_pages, read_staged_marks, read_staged_blocks, read_reply_bytes};
 
 use crate::{effects, judge};
-use rules::{ReadLent, Standby, StandbyAnswer};
+use rules::{ReadLent, ReadReply, Standby};
 
-// Reads at most one record from the head of the bytes. What is cut short or refused changes nothing and may be given again.
+// Reads at most one record from the head of the bytes. What is cut short or refused changes nothing and may be given
+// again.
+#[tactic(auto, unfolding(rules::specs::Read::read_reply, rules::specs::Read::read_memory, rules::specs::Read::read_staged_pages, rules::specs::Read::read_staged_marks, rules::specs::Read::read_staged_blocks, rules::specs::Read::read_reply_bytes))]
 pub fn read(
     s: Standby,
     bytes: &[u8],
@@ -16,7 +18,7 @@ pub fn read(
     marks: &mut [u64],
     blocks: &mut [u8],
     reply: &mut [u8],
-) -> StandbyAnswer
+) -> ReadReply<Standby>
     ensures value { result ≡ read_reply s (read_lent memory.old pages.old marks.old blocks.old reply.old) bytes.now }
     ensures memory_after { memory.new ≡ read_memory s (read_lent memory.old pages.old marks.old blocks.old reply.old) bytes.now memory.old pages.old marks.old }
     ensures pages_after { pages.new ≡ read_staged_pages s (read_lent memory.old pages.old marks.old blocks.old reply.old) bytes.now pages.old }
@@ -35,7 +37,9 @@ pub fn read(
     let r = judge::judged(s, lent, bytes);
     let slot = effects::slot_of(s, r);
     let state = effects::read_state(s, bytes, r, slot);
-    let answer = effects::answer_of(r);
     effects::apply(s, bytes, memory, pages, marks, blocks, reply, r, slot);
-    StandbyAnswer { state, answer }
+    ReadReply {
+        state,
+        answer: replies::answer_of(r),
+    }
 }

@@ -1,49 +1,32 @@
 // The sum of the standby's memory (document 02, Job 11).
 ghost use Rattle.std.specs.Prelude.{◌≡◌};
+ghost use Rattle.records.specs.Number.{number_in};
 ghost use Rattle.rules.specs.Sums.{standby_sum_refusal, standby_sum_reply};
 
 use crate::ranges::standby_ok;
-use records::number;
-use rules::{Standby, StandbyReply};
+use records::refusal::Refusal;
+use rules::{Reply, Standby};
 
-// What a sum is refused with: 1, also where the order does not name each page once.
-fn sum_refusal(s: Standby, memory: usize, order: &[u64]) -> u64
-    ensures { result ≡ standby_sum_refusal s memory order.now }
+// Whether a sum is refused: 1, also where the order does not name each page once.
+#[tactic(auto, using(crate::proofs::FitsLaws::memory_fits, crate::proofs::FitsLaws::pages_few), unfolding(rules::specs::Sums::standby_sum_refusal))]
+fn check_sum(s: Standby, memory: usize, order: &[u64]) -> Result<(), Refusal>
+    ensures { number_in result ≡ standby_sum_refusal s memory order.now }
 {
     let g = s.settings;
-    let u = g.u;
-    let m = g.m;
-    if !standby_ok(s) {
-        return number::OUT_OF_RANGE;
+    if !standby_ok(s) || memory != g.m * g.u || !sums::names_each(order, g.m) {
+        return Err(Refusal::OutOfRange);
     }
-    if memory != m * u {
-        return number::OUT_OF_RANGE;
-    }
-    if !sums::names_each(order, m) {
-        return number::OUT_OF_RANGE;
-    }
-    0
+    Ok(())
 }
 
 // The pages added in this order; in any mode, and the state stays.
-pub fn sum(s: Standby, memory: &[u8], order: &[u64]) -> StandbyReply
+#[tactic(auto, unfolding(rules::specs::Sums::standby_sum_reply))]
+pub fn sum(s: Standby, memory: &[u8], order: &[u64]) -> Reply<Standby>
     ensures { result ≡ standby_sum_reply s memory.now order.now }
 {
     let g = s.settings;
-    let u = g.u;
-    let m = g.m;
-    let number = sum_refusal(s, memory.len(), order);
-    if number != 0 {
-        return StandbyReply {
-            state: s,
-            number: number,
-            value: 0,
-        };
+    if let Err(refusal) = check_sum(s, memory.len(), order) {
+        return replies::refused(s, refusal);
     }
-    let value = sums::order_sum(memory, order, u, m);
-    StandbyReply {
-        state: s,
-        number: 0,
-        value: value,
-    }
+    replies::accepted(s, sums::order_sum(memory, order, g.u, g.m))
 }

@@ -1,167 +1,134 @@
 // The standby's tick, activation, and the guest's writes once it is active.
-ghost use Rattle.std.specs.Prelude.{◌≡◌, true, cond, ◌+◌, ◌*◌, ◌≤◌, length};
+ghost use Rattle.std.specs.Prelude.{◌≡◌, true, cond, ◌+◌, ◌≤◌, length};
 ghost use Rattle.lists.specs.Refusal.{refusal, pick};
-ghost use Rattle.marks.specs.Mark.{cleared};
+ghost use Rattle.records.specs.Number.{number_in};
 ghost use Rattle.detector.specs.Tick.{expired};
 ghost use Rattle.rules.specs.declared.Mode.TheVariants.{TakingOver};
 ghost use Rattle.pages.specs.Write.{written};
-ghost use Rattle.rules.specs.Reply.{standby_reply};
+ghost use Rattle.rules.specs.Reply.{reply_of};
 ghost use Rattle.rules.specs.StandbyState.{standby_ok, with_detector, with_mode};
 ghost use Rattle.rules.specs.Takeover.{dropped, standby_tick_refusal, standby_tick_reply, standby_tick_marks, activation_refusal, activation_reply, activation_area, active_write_tests, active_memory_write_reply, active_memory_write_memory, active_disk_write_reply, active_disk_write_disk};
 
-use crate::parts::{with_detector, with_mode, with_no_records, with_slots_blocks};
+use crate::effects::with_no_records;
 use crate::ranges::{is_active, is_receiving, is_taking_over, standby_ok};
 use detector::Detector;
-use records::{AREA_LENGTH, number};
-use rules::{Mode, Standby, StandbyReply};
+use records::AREA_LENGTH;
+use records::refusal::Refusal;
+use rules::{Mode, Reply, Standby};
 
-// The refusal of a tick, from the length of the staged marks.
-fn tick_refusal(s: Standby, marks: usize) -> u64
-    ensures { result ≡ standby_tick_refusal s marks }
+// Whether a tick is refused, from the length of the staged marks.
+#[tactic(auto, unfolding(rules::specs::Takeover::standby_tick_refusal))]
+fn check_tick(s: Standby, marks: usize) -> Result<(), Refusal>
+    ensures { number_in result ≡ standby_tick_refusal s marks }
 {
-    let g = s.settings;
-    let m = g.m;
-    if !standby_ok(s) {
-        return number::OUT_OF_RANGE;
+    if !standby_ok(s) || marks != s.settings.m.div_ceil(64) {
+        return Err(Refusal::OutOfRange);
     }
-    if marks != (m + 63) / 64 {
-        return number::OUT_OF_RANGE;
-    }
-    0
+    Ok(())
 }
 
 // Staged pages and blocks not yet due are dropped: the state.
 fn drop_staged(s: Standby) -> Standby
     ensures { result ≡ dropped s }
 {
-    let k = s.slots;
-    with_no_records(with_slots_blocks(s, staging::only_due(k), 0, 0))
-}
-
-// The same for the staged marks, where the standby takes over.
-fn drop_marks(marks: &mut [u64], m: usize, over: bool)
-    ensures { marks.new ≡ cond over (cleared marks.old m) marks.old }
-{
-    if over {
-        marks::clear(marks, m);
-    }
+    with_no_records(Standby {
+        slots: staging::only_due(s.slots),
+        ..s
+    })
 }
 
 // The state of a standby that receives, with its detector ticked: at T it takes over.
-fn counted(s: Standby, d: Detector) -> Standby
-    ensures { result ≡ cond (expired d) (with_mode (dropped (with_detector s d)) TakingOver) (with_detector s d) }
+fn counted(s: Standby, detector: Detector) -> Standby
+    ensures { result ≡ cond (expired detector) (with_mode (dropped (with_detector s detector)) TakingOver) (with_detector s detector) }
 {
-    let t = with_detector(s, d);
-    if !detector::expired(d) {
+    let t = Standby { detector, ..s };
+    if !detector::expired(detector) {
         return t;
     }
-    with_mode(drop_staged(t), Mode::TakingOver)
+    Standby {
+        mode: Mode::TakingOver,
+        ..drop_staged(t)
+    }
 }
 
 // The standby's tick.
-pub fn tick(s: Standby, marks: &mut [u64]) -> StandbyReply
+#[tactic(auto, unfolding(rules::specs::Takeover::standby_tick_reply, rules::specs::Takeover::standby_tick_marks, rules::specs::Takeover::standby_tick_state))]
+pub fn tick(s: Standby, marks: &mut [u64]) -> Reply<Standby>
     ensures value { result ≡ standby_tick_reply s (length marks.old) }
     ensures marks_after { marks.new ≡ standby_tick_marks s marks.old }
 {
-    let g = s.settings;
-    let m = g.m;
-    let old = s.detector;
-    let mode = s.mode;
-    let number = tick_refusal(s, marks.len());
-    if number != 0 {
-        return StandbyReply {
-            state: s,
-            number: number,
-            value: 0,
-        };
+    if let Err(refusal) = check_tick(s, marks.len()) {
+        return replies::refused(s, refusal);
     }
-    if !is_receiving(mode) {
-        return StandbyReply {
-            state: s,
-            number: 0,
-            value: 0,
-        };
+    if !is_receiving(s.mode) {
+        return replies::accepted(s, 0);
     }
-    let d = detector::ticked_in_place(old, true);
-    let state = counted(s, d);
-    drop_marks(marks, m, detector::expired(d));
-    StandbyReply {
-        state: state,
-        number: 0,
-        value: 0,
+    let d = detector::ticked_in_place(s.detector, true);
+    if detector::expired(d) {
+        marks::clear(marks, s.settings.m);
     }
+    replies::accepted(counted(s, d), 0)
 }
 
-// The refusal of an activation, from the length of the record area.
-fn activation_refusal(s: Standby, area: usize) -> u64
-    ensures { result ≡ activation_refusal s area }
+// Whether an activation is refused, from the length of the record area.
+#[tactic(auto, unfolding(rules::specs::Takeover::activation_refusal))]
+fn check_activation(s: Standby, area: usize) -> Result<(), Refusal>
+    ensures { number_in result ≡ activation_refusal s area }
 {
-    let mode = s.mode;
-    let k = s.slots;
-    let due = k.due;
-    if !standby_ok(s) {
-        return number::OUT_OF_RANGE;
+    if !standby_ok(s) || area != AREA_LENGTH {
+        return Err(Refusal::OutOfRange);
     }
-    if area != AREA_LENGTH {
-        return number::OUT_OF_RANGE;
+    if !is_taking_over(s.mode) {
+        return Err(Refusal::WrongMode);
     }
-    if !is_taking_over(mode) {
-        return number::WRONG_MODE;
+    if s.slots.due != 0 {
+        return Err(Refusal::BlocksDue);
     }
-    if due != 0 {
-        return number::BLOCKS_DUE;
-    }
-    0
+    Ok(())
 }
 
 // Activation: the record with the last received epoch is written, and the standby is active.
-pub fn activate(s: Standby, area: &mut [u8]) -> StandbyReply
+#[tactic(auto, unfolding(rules::specs::Takeover::activation_reply, rules::specs::Takeover::activation_area))]
+pub fn activate(s: Standby, area: &mut [u8]) -> Reply<Standby>
     ensures value { result ≡ activation_reply s (length area.old) }
     ensures area_after { area.new ≡ activation_area s area.old }
 {
-    let received = s.received;
-    let value = received as u64;
-    let number = activation_refusal(s, area.len());
-    if number != 0 {
-        return StandbyReply {
-            state: s,
-            number: number,
-            value: 0,
-        };
+    if let Err(refusal) = check_activation(s, area.len()) {
+        return replies::refused(s, refusal);
     }
-    records::writing::write_activation(area, received);
-    let state = with_mode(s, Mode::Active);
-    StandbyReply {
-        state: state,
-        number: 0,
-        value: value,
-    }
+    records::writing::write_activation(area, s.received);
+    let state = Standby {
+        mode: Mode::Active,
+        ..s
+    };
+    replies::accepted(state, s.received as u64)
 }
 
-// What a guest's write is refused with, of a page or block, its number, and whether the bytes have their size: 1 13 2 3.
-fn write_refusal(s: Standby, lent: usize, units: usize, unit: usize, sized: bool) -> u64
+// Whether a guest's write is refused, of a page or block, its number, and whether the bytes have their size: 1 13 2 3.
+#[tactic(auto, using(crate::proofs::FitsLaws::units_fit))]
+fn check_write(
+    s: Standby,
+    lent: usize,
+    units: usize,
+    unit: usize,
+    sized: bool,
+) -> Result<(), Refusal>
     requires { standby_ok s ≡ true → units ≤ 65536 }
-    ensures { result ≡ refusal (active_write_tests s lent units unit sized) }
+    ensures { number_in result ≡ refusal (active_write_tests s lent units unit sized) }
 {
-    let g = s.settings;
-    let u = g.u;
-    let mode = s.mode;
-    if !standby_ok(s) {
-        return number::OUT_OF_RANGE;
+    if !standby_ok(s) || lent != units * s.settings.u {
+        return Err(Refusal::OutOfRange);
     }
-    if lent != units * u {
-        return number::OUT_OF_RANGE;
-    }
-    if !is_active(mode) {
-        return number::WRONG_MODE;
+    if !is_active(s.mode) {
+        return Err(Refusal::WrongMode);
     }
     if units <= unit {
-        return number::NO_SUCH_UNIT;
+        return Err(Refusal::NoSuchUnit);
     }
     if !sized {
-        return number::BAD_SIZE;
+        return Err(Refusal::BadSize);
     }
-    0
+    Ok(())
 }
 
 // A guest's write: the bytes into their page or block, at the offset.
@@ -173,39 +140,28 @@ fn write(
     offset: usize,
     bytes: &[u8],
     sized: bool,
-) -> StandbyReply
+) -> Reply<Standby>
     requires units_bound { standby_ok s ≡ true → units ≤ 65536 }
     requires bytes_bound { sized ≡ true → offset + length bytes.now ≤ s.settings.u }
-    ensures value { result ≡ standby_reply (refusal (active_write_tests s (length image.old) units unit sized)) s s s.received }
+    ensures value { result ≡ reply_of (refusal (active_write_tests s (length image.old) units unit sized)) s s s.received }
     ensures image_after { image.new ≡ pick (refusal (active_write_tests s (length image.old) units unit sized)) (written s.settings.u image.old unit offset bytes.now) image.old }
 {
-    let g = s.settings;
-    let u = g.u;
-    let received = s.received;
-    let number = write_refusal(s, image.len(), units, unit, sized);
-    if number != 0 {
-        return StandbyReply {
-            state: s,
-            number: number,
-            value: 0,
-        };
+    if let Err(refusal) = check_write(s, image.len(), units, unit, sized) {
+        return replies::refused(s, refusal);
     }
-    pages::write(image, u, unit, offset, bytes);
-    StandbyReply {
-        state: s,
-        number: 0,
-        value: received as u64,
-    }
+    pages::write(image, s.settings.u, unit, offset, bytes);
+    replies::accepted(s, s.received as u64)
 }
 
 // The guest's memory write once the standby is active.
+#[tactic(auto, using(crate::proofs::FitsLaws::pages_few), unfolding(rules::specs::Takeover::active_memory_write_refusal, rules::specs::Takeover::active_memory_write_reply, rules::specs::Takeover::active_memory_write_memory))]
 pub fn memory_write(
     s: Standby,
     memory: &mut [u8],
     page: usize,
     offset: usize,
     bytes: &[u8],
-) -> StandbyReply
+) -> Reply<Standby>
     ensures value { result ≡ active_memory_write_reply s (length memory.old) page offset (length bytes.now) }
     ensures memory_after { memory.new ≡ active_memory_write_memory s memory.old page offset bytes.now }
 {
@@ -215,7 +171,8 @@ pub fn memory_write(
 }
 
 // The guest's disk write once the standby is active.
-pub fn disk_write(s: Standby, disk: &mut [u8], block: usize, bytes: &[u8]) -> StandbyReply
+#[tactic(auto, using(crate::proofs::FitsLaws::blocks_few), unfolding(rules::specs::Takeover::active_disk_write_refusal, rules::specs::Takeover::active_disk_write_reply, rules::specs::Takeover::active_disk_write_disk, pages::specs::Write::written, lists::specs::Page::with_page))]
+pub fn disk_write(s: Standby, disk: &mut [u8], block: usize, bytes: &[u8]) -> Reply<Standby>
     ensures value { result ≡ active_disk_write_reply s (length disk.old) block (length bytes.now) }
     ensures disk_after { disk.new ≡ active_disk_write_disk s disk.old block bytes.now }
 {

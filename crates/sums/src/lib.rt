@@ -18,12 +18,10 @@ fn weighted_sum(bytes: &[u8], a: u64) -> u64
 {
     let mut total = 0u32;
     let mut placed = 0u32;
-    let mut i = 0;
-    while i < bytes.len() {
-        let b = bytes[i] as u32;
-        i += 1;
+    for (i, byte) in bytes.iter().enumerate() {
+        let b = *byte as u32;
         total += b;
-        placed += b * (i as u32);
+        placed += b * (i as u32 + 1);
     }
     placed as u64 + total as u64 * a
 }
@@ -43,10 +41,8 @@ pub fn rising_sum(image: &[u8], u: usize, m: usize) -> u64
     ensures { result ≡ sum_over u image.now (rising m) }
 {
     let mut total = 0u64;
-    let mut p = 0;
-    while p < m {
+    for p in 0..m {
         total = (total + page_sum(image, u, p)) % MODULUS;
-        p += 1;
     }
     total
 }
@@ -61,27 +57,21 @@ pub fn names_each(order: &[u64], m: usize) -> bool
         return false;
     }
     let mut named = [0u64; WORDS];
-    let mut i = 0;
-    while i < order.len() {
-        marks::mark(&mut named, order[i] as usize);
-        i += 1;
+    for p in order {
+        marks::mark(&mut named, *p as usize);
     }
-    if marks::count(&named, m) != m {
-        return false;
-    }
-    true
+    marks::count(&named, m) == m
 }
 
-// The pages added in this order, which names each of m once.
+// The pages added in this order, which names each of m once. No generic one of both loops: what bounds the items of an
+// iterator would be a clause of its own, longer than the loop.
 pub fn order_sum(image: &[u8], order: &[u64], u: usize, m: usize) -> u64
     requires { (u ≤ 4096) × (m ≤ 65536) × (length image.now ≡ m * u) × (names_each m order.now ≡ true) }
     ensures { result ≡ sum_over u image.now order.now }
 {
     let mut total = 0u64;
-    let mut i = 0;
-    while i < order.len() {
-        total = (total + page_sum(image, u, order[i] as usize)) % MODULUS;
-        i += 1;
+    for p in order {
+        total = (total + page_sum(image, u, *p as usize)) % MODULUS;
     }
     total
 }

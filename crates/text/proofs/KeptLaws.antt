@@ -1,4 +1,5 @@
 -- Laws of what is kept of a line: it is what the line's words give. Assumes nothing.
+use Rattle.std.specs.List.{fold}
 use mathlib.Core.Path.{◌≡◌, refl, sym, ap, ◌∙◌}
 use mathlib.Core.Logic.{⊎_elim}
 use mathlib.Core.Bool.{true, false, cond}
@@ -28,6 +29,12 @@ module _ {L : Type 0} (f : L → ℕ → L) where
     pub kept-done : length bytes ≤ i → kept_all f l (drop i bytes) ≡ l
     unfolding kept_all
     kept-done h = rw (drop_of_length-le bytes h)
+
+  -- a fold
+  pub kept_fold : (l : L) (bytes : List ℕ) → fold f l bytes ≡ kept_all f l bytes
+  unfolding kept_all
+  kept_fold l [] = refl
+  kept_fold l (b ∷ bytes) = kept_fold (f l b) bytes
 
   -- one byte more behind the others
   pub kept-snoc : (l : L) (bytes : List ℕ) (b : ℕ) → kept_all f l (bytes ++ b ∷ []) ≡ f (kept_all f l bytes) b

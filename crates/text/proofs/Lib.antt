@@ -10,5 +10,4 @@ pub mod PrintLaws
 pub mod FeedPartLaws
 pub mod FeedLaws
 pub mod RunLaws
-pub mod EndLaws
 pub mod TurnLaws

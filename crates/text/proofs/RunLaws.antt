@@ -1,15 +1,16 @@
 -- What a part of the input leaves in the program and in the output buffer. Assumes nothing.
 use Prim.Native.Nat.{ℕ, suc, ◌+◌, ◌-◌, ◌*◌, ◌≤◌, ◌<◌}
 use mathlib.Core.Path.{◌≡◌, refl, sym, ap, subst, ◌∙◌}
-use mathlib.Core.Bool.{Bool, true, false, cond}
+use mathlib.Core.Logic.{⊎_elim}
+use mathlib.Core.Bool.{Bool, true, false}
 use mathlib.Core.List.{List, [], ◌∷◌, ◌++◌, append-nil}
-use native.Mathlib.Nat.{zero-add, suc-mul, mul-le-mul_right}
+use native.Mathlib.Nat.{zero-add, zero-mul, suc-mul, mul-le-mul_right}
 use native.Mathlib.Omega.{arith}
 use lib.ListN.{length, take, drop, length-drop, take-append-drop}
 use lib.Seq.{length-take-le, take_all, take-add, take-append_seam}
-use Rattle.lists.specs.Part.{part, put, PutDone}
-use Rattle.lists.proofs.TestLaws.{cond-true, cond-false}
+use Rattle.lists.specs.Part.{PutDone}
 use Rattle.lists.proofs.PartLaws.{put_front, put-done-none, put-done-more, put-done-length}
+use Rattle.lists.proofs.TestLaws.{lt-or-ge}
 use Rattle.text.specs.Line.{first_line, newline}
 use Rattle.text.specs.Kept.{kept_all}
 use Rattle.text.specs.Feed.{Program, Reading, reading, line_answered, fed_all, fed_all_printed, end_printed}
@@ -25,13 +26,6 @@ taken-put bs s t n d =
     let n-is : n ≡ length bs = d.position ∙ zero-add (length bs) in
     rw (n-is, d.bytes, put_front s bs) (take-append_seam bs (drop (length bs) s))
 
--- an answer of at most most bytes at the head of a buffer that has as many stays inside it
-pub put-fits : (most : ℕ) (bs s t : List ℕ) (n : ℕ) → most ≤ length s → PutDone bs s 0 t n → n ≤ 0 + most → n ≤ length t
-put-fits most bs s t n h d k =
-    let e : n ≡ 0 + length bs = d.position in
-    let l : length t ≡ length s = put-done-length _ _ _ _ _ (omega arith) d in
-    omega arith
-
 module _ {S L : Type 0} (p : Program S L) where
   -- ---- a line's answer
   module _ (w : S) (l : L) (over : Bool) (still : over ≡ false) where
@@ -39,11 +33,8 @@ module _ {S L : Type 0} (p : Program S L) where
         → reading w' l' over' ≡ fed_all p (reading w l over) (newline ∷ [])
     answered-run w' l' over' a b c = rw (still, fed-newline p w l, a, b, c)
 
-    pub answered-put : (n at : ℕ) (bytes s t : List ℕ) → take n bytes ≡ (line_answered p (reading w l false)).printed → n ≡ length (take n bytes) → t ≡ put s at (take n bytes)
-        → PutDone (fed_all_printed p (reading w l over) (newline ∷ [])) s at t (at + n)
-    answered-put n at bytes s t is long there =
-        let e : take n bytes ≡ fed_all_printed p (reading w l over) (newline ∷ []) = is ∙ sym (printed-newline p w l) ∙ ap (λ (o : Bool). fed_all_printed p (reading w l o) (newline ∷ [])) (sym still) in
-        subst (λ (bs : List ℕ). PutDone bs s at t (at + n)) e (record { bytes = there; position = ap (λ (k : ℕ). at + k) long })
+    pub answered-put : (s t : List ℕ) (at n : ℕ) → PutDone (line_answered p (reading w l false)).printed s at t n → PutDone (fed_all_printed p (reading w l over) (newline ∷ [])) s at t n
+    answered-put s t at n d = rw (still, printed-newline p w l) d
 
   -- ---- the end of the input
   module _ (w : S) (l : L) (over : Bool) where
@@ -57,151 +48,126 @@ module _ {S L : Type 0} (p : Program S L) where
     ended-empty s t n e k d = rw (e, k) d
 
     -- a line is: it is answered, and the program finishes where that was not the last
-    module _ (e : over ≡ false) (k : p.is_empty_line l ≡ false) where
-      ended_is : let r = fed_all p (reading w l over) (newline ∷ []) in
-          end_printed p (reading w l over) ≡ fed_all_printed p (reading w l over) (newline ∷ []) ++ cond r.over [] (p.finish r.state)
+    module _ (e : over ≡ false) (k : p.is_empty_line l ≡ false) (s t : List ℕ) (n : ℕ) (d : PutDone (p.answer_kept w l).printed s 0 t n) where
+      pub ended-last : (p.answer_kept w l).last ≡ true → PutDone (end_printed p (reading w l over)) s 0 t n
       unfolding end_printed
-      ended_is = rw (e, k, fed-newline p w l, printed-newline p w l)
+      ended-last z = rw (e, k, z, append-nil (p.answer_kept w l).printed) d
 
-      pub ended-line : (s t : List ℕ) (n : ℕ) → let r = fed_all p (reading w l over) (newline ∷ []) in
-          PutDone (fed_all_printed p (reading w l over) (newline ∷ []) ++ cond r.over [] (p.finish r.state)) s 0 t n
-          → PutDone (end_printed p (reading w l over)) s 0 t n
-      ended-line s t n d = subst (λ (bs : List ℕ). PutDone bs s 0 t n) (sym ended_is) d
+      pub ended-more : (v : List ℕ) (m : ℕ) → (p.answer_kept w l).last ≡ false → n ≤ length s → PutDone (p.finish (p.answer_kept w l).next) t n v m → PutDone (end_printed p (reading w l over)) s 0 v m
+      unfolding end_printed
+      ended-more v m z h f =
+          let n-is : n ≡ 0 + length (p.answer_kept w l).printed = d.position in
+          rw (e, k, z) (put-done-more _ _ s t v 0 n m (omega arith) d f)
 
-      -- by whether it was, and of a program that prints nothing at its end
-      ended-alone : (s t : List ℕ) (n : ℕ) → let r = fed_all p (reading w l over) (newline ∷ []) in
-          cond r.over [] (p.finish r.state) ≡ []
-          → PutDone (fed_all_printed p (reading w l over) (newline ∷ [])) s 0 t n → PutDone (end_printed p (reading w l over)) s 0 t n
-      ended-alone s t n z d =
-          let r = fed_all p (reading w l over) (newline ∷ []) in
-          let printed = fed_all_printed p (reading w l over) (newline ∷ []) in
-          let q : printed ++ cond r.over [] (p.finish r.state) ≡ printed = ap (λ (bs : List ℕ). printed ++ bs) z ∙ append-nil printed in
-          subst (λ (bs : List ℕ). PutDone bs s 0 t n) (sym (ended_is ∙ q)) d
-
-      pub ended-last : (s t : List ℕ) (n : ℕ) → (fed_all p (reading w l over) (newline ∷ [])).over ≡ true
-          → PutDone (fed_all_printed p (reading w l over) (newline ∷ [])) s 0 t n → PutDone (end_printed p (reading w l over)) s 0 t n
-      ended-last s t n z d = ended-alone s t n (cond-true _ _ _ z) d
-
-      pub ended-silent : (s t : List ℕ) (n : ℕ) → p.finish (fed_all p (reading w l over) (newline ∷ [])).state ≡ []
-          → PutDone (fed_all_printed p (reading w l over) (newline ∷ [])) s 0 t n → PutDone (end_printed p (reading w l over)) s 0 t n
-      ended-silent s t n z d = ended-alone s t n (either (fed_all p (reading w l over) (newline ∷ [])).over _ z) d
-        where
-          either : (b : Bool) (x : List ℕ) → x ≡ [] → cond b [] x ≡ []
-          either true x e = refl
-          either false x e = e
-
-      pub ended-more : (s t : List ℕ) (n : ℕ) → let r = fed_all p (reading w l over) (newline ∷ []) in
-          r.over ≡ false
-          → PutDone (fed_all_printed p (reading w l over) (newline ∷ []) ++ p.finish r.state) s 0 t n → PutDone (end_printed p (reading w l over)) s 0 t n
-      ended-more s t n z d =
-          ended-line s t n (subst (λ (bs : List ℕ). PutDone (fed_all_printed p (reading w l over) (newline ∷ []) ++ bs) s 0 t n) (sym (cond-false _ _ _ z)) d)
-
-  -- ---- from a place of the input to the end of its line
-  module _ (input : List ℕ) (from end : ℕ) (inside : from < length input) (is : end ≡ from + length (first_line (drop from input))) where
+  -- ---- up to the end of a line
+  module _ (input : List ℕ) (end : ℕ) (is : end ≡ 0 + length (first_line input)) where
     pub end-inside : end ≤ length input
-    end-inside =
-        let h : length (first_line (drop from input)) ≤ length (drop from input) = first-length newline (drop from input) in
-        let k : length (drop from input) ≡ length input - from = length-drop from input in
-        omega arith
+    end-inside = omega (arith, is, first-length newline input)
 
-    line_taken : take (end - from) (drop from input) ≡ first_line (drop from input)
-    line_taken =
-        let e : end - from ≡ length (first_line (drop from input)) = omega arith in
-        ap (λ (n : ℕ). take n (drop from input)) e ∙ first-is newline (drop from input)
+    pub newline-inside : (end ≡ length input → ⊥) → end < length input
+    newline-inside other = omega (arith, end-inside, other)
 
-    line-part : part from (end - from) input ≡ first_line (drop from input)
-    unfolding part
-    line-part = line_taken
+    line-taken : take end input ≡ first_line input
+    line-taken = ap (λ (n : ℕ). take n input) (is ∙ zero-add (length (first_line input))) ∙ first-is newline input
 
-    line-ended : end < length input → part from (end + 1 - from) input ≡ first_line (drop from input) ++ (newline ∷ [])
-    unfolding part
+    line-ended : end < length input → take (end + 1) input ≡ first_line input ++ (newline ∷ [])
     line-ended h =
-        let k : length (drop from input) ≡ length input - from = length-drop from input in
-        let e : end + 1 - from ≡ suc (length (first_line (drop from input))) = omega arith in
-        ap (λ (n : ℕ). take n (drop from input)) e ∙ first-line-ended (drop from input) (omega arith)
+        let e : end + 1 ≡ suc (length (first_line input)) = omega arith in
+        ap (λ (n : ℕ). take n input) e ∙ first-line-ended input (omega arith)
 
-    module _ (w : S) (l line : L) (over : Bool) (still : over ≡ false) (kept : line ≡ kept_all p.line_with l (take (end - from) (drop from input))) where
-      kept-first : reading w line false ≡ fed_all p (reading w l false) (first_line (drop from input))
-      kept-first = ap (λ (m : L). reading w m false) (kept ∙ ap (kept_all p.line_with l) line_taken) ∙ sym (fed-line p w l (drop from input))
+    module _ (w : S) (l line : L) (over : Bool) (still : over ≡ false) (kept : line ≡ kept_all p.line_with l (take end input)) where
+      pub line-fed : reading w line over ≡ fed_all p (reading w l over) (take end input)
+      line-fed = rw (still, line-taken) (ap (λ (m : L). reading w m false) (kept ∙ ap (kept_all p.line_with l) line-taken) ∙ sym (fed-line p w l input))
 
-      pub line-fed : reading w line false ≡ fed_all p (reading w l over) (part from (end - from) input)
-      line-fed = rw (still, line-part) kept-first
+      pub line-put : (s : List ℕ) (at : ℕ) → PutDone (fed_all_printed p (reading w l over) (take end input)) s at s at
+      line-put s at = rw (still, line-taken, printed-line p w l input) (put-done-none s at)
 
-      pub line-put : (s : List ℕ) (at : ℕ) → PutDone (fed_all_printed p (reading w l over) (part from (end - from) input)) s at s at
-      line-put s at = rw (still, line-part, printed-line p w l (drop from input)) (put-done-none s at)
+      kept-first : reading w line over ≡ fed_all p (reading w l over) (first_line input)
+      kept-first = line-fed ∙ ap (fed_all p (reading w l over)) line-taken
 
-      pub ended-fed : (r : Reading S L) → end < length input → r ≡ fed_all p (reading w line false) (newline ∷ []) → r ≡ fed_all p (reading w l over) (part from (end + 1 - from) input)
-      ended-fed r h e = rw (still, line-ended h, fed-append p (reading w l false) (first_line (drop from input)) (newline ∷ [])) (e ∙ ap (λ (m : Reading S L). fed_all p m (newline ∷ [])) kept-first)
+      -- and behind its newline
+      pub ended-fed : (r : Reading S L) → end < length input → r ≡ fed_all p (reading w line over) (newline ∷ []) → r ≡ fed_all p (reading w l over) (take (end + 1) input)
+      ended-fed r h e =
+          e ∙ ap (λ (m : Reading S L). fed_all p m (newline ∷ [])) kept-first
+          ∙ sym (fed-append p (reading w l over) (first_line input) (newline ∷ [])) ∙ ap (fed_all p (reading w l over)) (sym (line-ended h))
 
-      pub ended-put : (s t : List ℕ) (at n : ℕ) → end < length input → PutDone (fed_all_printed p (reading w line false) (newline ∷ [])) s at t n → PutDone (fed_all_printed p (reading w l over) (part from (end + 1 - from) input)) s at t n
+      pub ended-put : (s t : List ℕ) (at n : ℕ) → end < length input → PutDone (fed_all_printed p (reading w line over) (newline ∷ [])) s at t n → PutDone (fed_all_printed p (reading w l over) (take (end + 1) input)) s at t n
       ended-put s t at n h d =
-          rw (still, line-ended h, printed-append p (reading w l false) (first_line (drop from input)) (newline ∷ []), printed-line p w l (drop from input))
-          (subst (λ (m : Reading S L). PutDone (fed_all_printed p m (newline ∷ [])) s at t n) kept-first d)
+          let none : fed_all_printed p (reading w l over) (first_line input) ≡ [] = rw (still, printed-line p w l input) in
+          let q : fed_all_printed p (reading w l over) (take (end + 1) input) ≡ fed_all_printed p (reading w line over) (newline ∷ []) =
+          ap (fed_all_printed p (reading w l over)) (line-ended h)
+          ∙ printed-append p (reading w l over) (first_line input) (newline ∷ [])
+          ∙ ap (λ (x : List ℕ). x ++ fed_all_printed p (fed_all p (reading w l over) (first_line input)) (newline ∷ [])) none
+          ∙ ap (λ (m : Reading S L). fed_all_printed p m (newline ∷ [])) (sym kept-first) in
+          subst (λ (bs : List ℕ). PutDone bs s at t n) (sym q) d
 
   -- ---- the loop over the lines of a part: what is read and what is printed so far, at most most bytes for each line
   module _ (most : ℕ) where
     pub record Progress (first : Reading S L) (input before : List ℕ) (now : Reading S L) (read : ℕ) (after : List ℕ) (written : ℕ) : Type 0 where
       pub inside : read ≤ length input
       pub room : written ≤ read * most
+      pub fits : written ≤ length before
       pub long : length after ≡ length before
       pub reading-is : now ≡ fed_all p first (take read input)
       pub done : PutDone (fed_all_printed p first (take read input)) before 0 after written
 
-    -- in a part of at most part-most bytes, into a buffer with room for as many lines
-    module _ (part-most : ℕ) (first : Reading S L) (input before : List ℕ) (small : length input ≤ part-most) (large : part-most * most ≤ length before) where
+    module _ (first : Reading S L) (input before : List ℕ) where
       pub progress-none : Progress first input before first 0 before 0
       unfolding fed_all fed_all_printed
-      progress-none = record { inside = omega arith; room = omega arith; long = refl; reading-is = refl; done = put-done-none before 0 }
+      progress-none = record { inside = omega arith; room = omega arith; fits = omega arith; long = refl; reading-is = refl; done = put-done-none before 0 }
 
       module _ (now : Reading S L) (read : ℕ) (after : List ℕ) (written : ℕ) (g : Progress first input before now read after written) where
-        pub progress-room : read < length input → written + most ≤ length after
-        progress-room h =
-            let k : suc read * most ≤ part-most * most = mul-le-mul_right most (omega arith) in
-            omega (arith, g.room, g.long, suc-mul read most)
-
-        pub progress-fits : written ≤ length after
-        progress-fits =
-            let i : read ≤ length input = g.inside in
-            let k : read * most ≤ part-most * most = mul-le-mul_right most (omega arith) in
-            omega (arith, g.room, g.long)
-
-        pub progress-more : (next : Reading S L) (to : ℕ) (then : List ℕ) (total : ℕ) → read < to → to ≤ length input → total ≤ written + most
-            → next ≡ fed_all p now (part read (to - read) input) → PutDone (fed_all_printed p now (part read (to - read) input)) after written then total → Progress first input before next to then total
-        unfolding part
-        progress-more next to then total h k m e d =
-            let b = take (to - read) (drop read input) in
-            let n : read + (to - read) ≡ to = omega arith in
-            let t : take to input ≡ take read input ++ b = ap (λ (j : ℕ). take j input) (sym n) ∙ take-add read (to - read) input in
+        pub progress-more : (left : List ℕ) → left ≡ drop read input → (next : Reading S L) (n : ℕ) (then : List ℕ) (total : ℕ) → 0 < n → n ≤ length left → total ≤ written + most
+            → written + most ≤ length after → next ≡ fed_all p now (take n left) → PutDone (fed_all_printed p now (take n left)) after written then total → Progress first input before next (read + n) then total
+        progress-more left left-is next n then total h kl m room el dl =
+            let b = take n (drop read input) in
+            let k : n ≤ length (drop read input) = rw left-is at kl in
+            let e : next ≡ fed_all p now b = rw left-is at el in
+            let d : PutDone (fed_all_printed p now b) after written then total = rw left-is at dl in
+            let t : take (read + n) input ≡ take read input ++ b = take-add read n input in
             let r : now ≡ fed_all p first (take read input) = g.reading-is in
-            let long-printed : written ≡ 0 + length (fed_all_printed p first (take read input)) = g.done.position in
-            let q : 0 + length (fed_all_printed p first (take read input)) ≤ length before = omega (arith, progress-fits, g.long) in
+            let q : 0 + length (fed_all_printed p first (take read input)) ≤ length before = omega (arith, g.done.position, g.fits) in
             let f : PutDone (fed_all_printed p (fed_all p first (take read input)) b) after written then total = subst (λ (x : Reading S L). PutDone (fed_all_printed p x b) after written then total) r d in
             let j : PutDone (fed_all_printed p first (take read input ++ b)) before 0 then total =
             subst (λ (bs : List ℕ). PutDone bs before 0 then total) (sym (printed-append p first (take read input) b)) (put-done-more _ _ _ _ _ _ _ _ q g.done f) in
-            let o = progress-room (omega arith) in
             let u : total ≡ written + length (fed_all_printed p now b) = d.position in
-            let v : suc read * most ≤ to * most = mul-le-mul_right most (omega arith) in
+            let v : suc read * most ≤ (read + n) * most = mul-le-mul_right most (omega arith) in
+            let left : length (drop read input) ≡ length input - read = length-drop read input in
             record {
-              inside = k;
+              inside = omega (arith, g.inside);
               room = omega (arith, g.room, suc-mul read most);
+              fits = omega (arith, g.long);
               long = put-done-length _ _ _ _ _ (omega arith) d ∙ g.long;
               reading-is = e ∙ ap (λ (x : Reading S L). fed_all p x b) r ∙ sym (fed-append p first (take read input) b) ∙ ap (fed_all p first) (sym t);
               done = subst (λ (l : List ℕ). PutDone (fed_all_printed p first l) before 0 then total) (sym t) j;
             }
 
-        -- after the last line, or at the end of the part
-        pub progress-over : (w : S) (l : L) → now ≡ reading w l true → (now ≡ fed_all p first input) × PutDone (fed_all_printed p first input) before 0 after written
-        progress-over w l e =
+        -- where there is no room for one more answer, something was read
+        pub progress-some : most ≤ length before → length before < written + most → 0 < read
+        progress-some large full = ⊎_elim (λ (h : 0 < read). h) (λ (h : read ≤ 0). absurd (none h)) (lt-or-ge 0 read)
+          where
+            none : read ≤ 0 → ⊥
+            none h = omega (arith, mul-le-mul_right {m = read} {n = 0} most h, zero-mul most, g.room)
+
+        -- nor is anything left where there is room for as many answers as the part has bytes
+        pub progress-whole : length input * most ≤ length before → length before < written + most → length input ≤ read
+        progress-whole large full = ⊎_elim (λ (h : read < length input). absurd (none h)) (λ (h : length input ≤ read). h) (lt-or-ge read (length input))
+          where
+            none : read < length input → ⊥
+            none h =
+                let k : suc read * most ≤ length input * most = mul-le-mul_right most (omega arith) in
+                omega (arith, g.room, suc-mul read most)
+
+        -- after the last line the rest is not looked at
+        pub progress-over : now.over ≡ true → (now ≡ fed_all p first (take (length input) input)) × PutDone (fed_all_printed p first (take (length input) input)) before 0 after written
+        progress-over over =
             let a = take read input in
             let b = drop read input in
-            let t : a ++ b ≡ input = take-append-drop read input in
-            let r : fed_all p first a ≡ reading w l true = sym g.reading-is ∙ e in
-            let f : fed_all p first (a ++ b) ≡ now = fed-append p first a b ∙ ap (λ (x : Reading S L). fed_all p x b) r ∙ fed-over p w l b ∙ sym e in
+            let t : take (length input) input ≡ a ++ b = take_all (length input) input (omega arith) ∙ sym (take-append-drop read input) in
+            let e : now ≡ reading now.state now.line true = λ i. reading now.state now.line (over i) in
+            let r : fed_all p first a ≡ reading now.state now.line true = sym g.reading-is ∙ e in
+            let f : fed_all p first (a ++ b) ≡ now = fed-append p first a b ∙ ap (λ (x : Reading S L). fed_all p x b) r ∙ fed-over p now.state now.line b ∙ sym e in
             let j : fed_all_printed p first (a ++ b) ≡ fed_all_printed p first a =
-            printed-append p first a b ∙ ap (λ (x : Reading S L). fed_all_printed p first a ++ fed_all_printed p x b) r ∙ ap (λ (x : List ℕ). fed_all_printed p first a ++ x) (printed-over p w l b) ∙ append-nil (fed_all_printed p first a) in
-            (sym f ∙ ap (fed_all p first) t, subst (λ (x : List ℕ). PutDone x before 0 after written) (sym j ∙ ap (fed_all_printed p first) t) g.done)
-
-        pub progress-end : length input ≤ read → (now ≡ fed_all p first input) × PutDone (fed_all_printed p first input) before 0 after written
-        progress-end h =
-            let t : take read input ≡ input = take_all read input h in
-            (rw t at g.reading-is, rw t at g.done)
+            printed-append p first a b ∙ ap (λ (x : Reading S L). fed_all_printed p first a ++ fed_all_printed p x b) r
+            ∙ ap (λ (x : List ℕ). fed_all_printed p first a ++ x) (printed-over p now.state now.line b) ∙ append-nil (fed_all_printed p first a) in
+            (sym f ∙ ap (fed_all p first) (sym t), subst (λ (x : List ℕ). PutDone x before 0 after written) (sym j ∙ ap (fed_all_printed p first) (sym t)) g.done)

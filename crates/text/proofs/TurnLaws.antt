@@ -1,17 +1,17 @@
 -- Turn after turn: what a program writes of an input in parts, and where it ends. Assumes nothing.
-use Prim.Native.Nat.{ℕ, ◌+◌, ◌-◌, ◌<◌}
+use Prim.Native.Nat.{ℕ}
 use mathlib.Core.Path.{◌≡◌, refl, sym, ap, ap₂, subst, ◌∙◌}
-use mathlib.Core.Logic.{inl, inr, ⊎_elim}
-use mathlib.Core.Bool.{Bool, true, false, cond, not, ◌&&◌, true≢false, false≢true}
+use mathlib.Core.Logic.{⊎_elim}
+use mathlib.Core.Bool.{Bool, true, false, cond, not, ◌&&◌, false≢true}
 use mathlib.Core.List.{List, [], ◌∷◌, ◌++◌, append_assoc, append-nil, flatten}
 use native.Mathlib.Omega.{arith}
-use lib.ListN.{length, length-append}
+use lib.ListN.{length}
 use borrow.Author.Tests.{eq-eqb, ne_eqb, not-true, not-false}
 use Rattle.lists.specs.Part.{PutDone}
-use Rattle.lists.proofs.TestLaws.{by-test, both, not-both, eq-or-ne, cond-true, cond-false}
+use Rattle.lists.proofs.TestLaws.{both, not-both, eq-or-ne, cond-true, cond-false}
 use Rattle.text.specs.Line.{is_empty}
 use Rattle.text.specs.Feed.{Program, KeptRight, Reading, reading, first_reading, fed_all, fed_all_printed, end_printed}
-use Rattle.text.specs.Turns.{turn_next, turn_printed, turn_more, all_next, all_printed, all_more, is_none, ends_after, SomeTurn, SomeTurns, TurnsMade, most_turns, none_empty, RunRight}
+use Rattle.text.specs.Turns.{turn_next, turn_printed, turn_more, all_next, all_printed, all_more, is_none, ends_after, none_empty, RunRight}
 use Rattle.text.proofs.FeedLaws.{output-fed, over-fed, over-printed}
 use Rattle.text.proofs.FeedPartLaws.{fed-append, printed-append, fed-over}
 
@@ -152,12 +152,12 @@ module _ {S L : Type 0} (p : Program S L) where
       }
 
   -- ---- one turn more, where more was to be read
-  next_more : (parts : List (List ℕ)) (r : Reading S L) (part : List ℕ) → all_next p r (parts ++ part ∷ []) ≡ turn_next p (all_next p r parts) part
+  pub next_more : (parts : List (List ℕ)) (r : Reading S L) (part : List ℕ) → all_next p r (parts ++ part ∷ []) ≡ turn_next p (all_next p r parts) part
   unfolding all_next
   next_more [] r part = refl
   next_more (q ∷ parts) r part = next_more parts (turn_next p r q) part
 
-  more-more : (parts : List (List ℕ)) (r : Reading S L) (part : List ℕ) → all_more p r parts ≡ true → all_more p r (parts ++ part ∷ []) ≡ turn_more p (all_next p r parts) part
+  pub more-more : (parts : List (List ℕ)) (r : Reading S L) (part : List ℕ) → all_more p r parts ≡ true → all_more p r (parts ++ part ∷ []) ≡ turn_more p (all_next p r parts) part
   unfolding all_next all_more
   more-more [] r part e = and-true (turn_more p r part)
     where
@@ -168,7 +168,7 @@ module _ {S L : Type 0} (p : Program S L) where
       let f = both (turn_more p r q) (all_more p (turn_next p r q) parts) e in
       ap (λ (b : Bool). b && all_more p (turn_next p r q) (parts ++ part ∷ [])) f.0 ∙ more-more parts (turn_next p r q) part f.1
 
-  ends_more : (parts : List (List ℕ)) (r : Reading S L) (part : List ℕ) → all_more p r parts ≡ true → ends_after p r (parts ++ part ∷ []) ≡ not (turn_more p (all_next p r parts) part)
+  pub ends_more : (parts : List (List ℕ)) (r : Reading S L) (part : List ℕ) → all_more p r parts ≡ true → ends_after p r (parts ++ part ∷ []) ≡ not (turn_more p (all_next p r parts) part)
   unfolding all_next all_more ends_after
   ends_more [] r part e = by (turn_more p r part)
     where
@@ -179,50 +179,17 @@ module _ {S L : Type 0} (p : Program S L) where
       let f = both (turn_more p r q) (all_more p (turn_next p r q) parts) e in
       ap (λ (b : Bool). cond b (ends_after p (turn_next p r q) (parts ++ part ∷ [])) (is_none (parts ++ part ∷ []))) f.0 ∙ ends_more parts (turn_next p r q) part f.1
 
-  -- ---- the loop: the turns so far
-  pub record Going (first now : Reading S L) (more : Bool) (turns : ℕ) : Type 0 where
-    pub parts : List (List ℕ)
-    pub now-is : now ≡ all_next p first parts
-    pub count : length parts + turns ≡ most_turns
-    pub on : more ≡ true → all_more p first parts ≡ true
-    pub off : more ≡ false → ends_after p first parts ≡ true
-
-  pub going-none : (r : Reading S L) → Going r r true most_turns
-  unfolding all_next all_more
-  going-none r = record { parts = []; now-is = refl; count = refl; on = λ e. refl; off = λ e. absurd (true≢false e) }
-
-  module _ (first now : Reading S L) (was : Bool) (turns : ℕ) (g : Going first now was turns) where
-    pub going_more : (next : Reading S L) (more : Bool) → 0 < turns → was ≡ true → SomeTurn p now next more → Going first next more (turns - 1)
-    going_more next more h w t =
-        let is : turn_more p (all_next p first g.parts) t.part ≡ more = ap (λ (r : Reading S L). turn_more p r t.part) (sym g.now-is) ∙ sym t.more_is in
-        let long : length (g.parts ++ t.part ∷ []) ≡ length g.parts + 1 = length-append g.parts (t.part ∷ []) in
-        let count : length g.parts + turns ≡ most_turns = g.count in
-        record {
-          parts = g.parts ++ t.part ∷ [];
-          now-is = t.next_is ∙ ap (λ (r : Reading S L). turn_next p r t.part) g.now-is ∙ sym (next_more g.parts first t.part);
-          count = omega arith;
-          on = λ e. more-more g.parts first t.part (g.on w) ∙ is ∙ e;
-          off = λ e. ends_more g.parts first t.part (g.on w) ∙ ap not (is ∙ e);
-        }
-
-    -- whether or not more is to be read
-    pub going-made : TurnsMade p first now
-    going-made =
-        record {
-          parts = g.parts;
-          last_is = g.now-is;
-          so_far = ⊎_elim (λ (w : was ≡ true). inr (g.on w)) (λ (w : was ≡ false). inl (g.off w)) (by-test was);
-        }
-
-    -- no more is to be read
-    pub going-ended : was ≡ false → SomeTurns p first now
-    going-ended w = record { parts = g.parts; last_is = g.now-is; all_made = inl (g.off w) }
-
-    -- no turn is left
-    pub going-out : turns ≡ 0 → SomeTurns p first now
-    going-out z =
-        let count : length g.parts + turns ≡ most_turns = g.count in
-        ⊎_elim
-        (λ (w : was ≡ true). record { parts = g.parts; last_is = g.now-is; all_made = inr (g.on w, omega arith) })
-        (λ (w : was ≡ false). going-ended w)
-        (by-test was)
+  pub printed_more : (parts : List (List ℕ)) (r : Reading S L) (part : List ℕ) → all_more p r parts ≡ true
+      → all_printed p r (parts ++ part ∷ []) ≡ all_printed p r parts ++ turn_printed p (all_next p r parts) part
+  unfolding all_next all_more all_printed
+  printed_more [] r part e = by (turn_more p r part)
+    where
+      by : (b : Bool) → turn_printed p r part ++ cond b [] [] ≡ turn_printed p r part
+      by true = append-nil (turn_printed p r part)
+      by false = append-nil (turn_printed p r part)
+  printed_more (q ∷ parts) r part e =
+      let f = both (turn_more p r q) (all_more p (turn_next p r q) parts) e in
+      ap (λ (b : Bool). turn_printed p r q ++ cond b (all_printed p (turn_next p r q) (parts ++ part ∷ [])) []) f.0
+      ∙ ap (λ (bs : List ℕ). turn_printed p r q ++ bs) (printed_more parts (turn_next p r q) part f.1)
+      ∙ sym (append_assoc (turn_printed p r q) (all_printed p (turn_next p r q) parts) (turn_printed p (all_next p (turn_next p r q) parts) part))
+      ∙ ap (λ (b : Bool). (turn_printed p r q ++ cond b (all_printed p (turn_next p r q) parts) []) ++ turn_printed p (all_next p (turn_next p r q) parts) part) (sym f.0)

@@ -1,28 +1,55 @@
 // Printing a number.
-ghost use Rattle.std.specs.Prelude.{◌≡◌, ◌+◌, ◌%◌, ◌≤◌, length, drop};
+ghost use Rattle.std.specs.Prelude.{◌≡◌, ◌+◌, ◌%◌, ◌≤◌, ◌<◌, length};
 ghost use Rattle.text.specs.Decimal.{decimal, zero_digit};
 
-use crate::Digits;
+use std::marker::Model;
+
+// A number's decimal digits: the bytes from start on. A contract sees them as a list.
+#[derive(Drop)]
+pub struct Digits {
+    bytes: [u8; 20],
+    start: usize,
+}
+
+impl Model for Digits {
+    ghost use Rattle.std.specs.Prelude.{ℕ, List, ◌≤◌, drop};
+
+    ghost Value = { List ℕ };
+
+    ghost view = { λ d. drop d.start d.bytes };
+
+    ghost invariant = { λ d. d.start ≤ 19 };
+}
+
+impl Digits {
+    pub fn as_slice(&self) -> &[u8]
+        ensures digits { result.now ≡ self.now }
+        ensures count { (0 < length result.now) × (length result.now ≤ 20) }
+    {
+        &self.bytes[self.start..]
+    }
+}
 
 // The byte of the last digit of n.
 fn last_digit(n: u64) -> u8
     ensures { result ≡ zero_digit + n % 10 }
 {
     let digit = n % 10;
-    48 + digit as u8
+    b'0' + digit as u8
 }
 
 // The decimal digits of n, without leading zeros.
 pub fn digits_of(n: u64) -> Digits
-    ensures { (drop result.start result.bytes ≡ decimal n) × (result.start ≤ 19) × (length result.bytes ≡ 20) }
+    ensures { result ≡ decimal n }
 {
-    let mut bytes: [u8; 20] = [0; 20];
+    // The last digit comes first, and how many there are shows at the end: an iterator over the places is no plainer.
+    let mut bytes = [0; 20];
     let mut start: usize = 20;
     let mut rest = n;
     while 10 <= rest {
         start -= 1;
         bytes[start] = last_digit(rest);
-        rest = rest / 10;
+        rest /= 10;
     }
     start -= 1;
     bytes[start] = last_digit(rest);

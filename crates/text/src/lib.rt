@@ -1,4 +1,5 @@
-// Decimal numbers and lines, a byte at a time: nothing is kept of a line but what its command depends on, so it may be of any length.
+// Decimal numbers and lines, a byte at a time: nothing is kept of a line but what its command depends on, so it may be
+// of any length.
 #![tactic(auto)]
 
 pub mod decimal;
@@ -7,7 +8,8 @@ pub mod lines;
 pub mod printing;
 pub mod rows;
 
-// What is kept of a word that may be a number.
+// What is kept of a word that may be a number: three facts, which the laws kept-some, kept-digits and kept-number
+// (proofs/NumberLaws.antt) tie to the whole word one by one, and of which `traces` names the one that fails.
 #[derive(Clone, Copy)]
 pub struct Number {
     // whether the word has a byte, and whether all its bytes are digits
@@ -22,7 +24,7 @@ pub struct Number {
 pub struct Line {
     // how many words, at most 4
     pub words: usize,
-    // how many bytes the first word has, at most 2, and the first of them
+    // how many bytes the first word has, at most 2, and the first of them: no Option, since one byte and more differ
     pub letters: usize,
     pub letter: u8,
     // the first word, as a number
@@ -30,11 +32,4 @@ pub struct Line {
     // the second word and the third
     pub first: Number,
     pub second: Number,
-}
-
-// A number's decimal digits: the bytes from start on.
-#[derive(Clone, Copy)]
-pub struct Digits {
-    pub bytes: [u8; 20],
-    pub start: usize,
 }

@@ -32,11 +32,7 @@ pub fn put_number(out: &mut [u8], at: usize, n: u64) -> usize
     ensures put_done { PutDone (decimal n) out.old at out.new result }
     ensures lower_bound { (at < result) × (result ≤ at + 20) }
 {
-    let d = digits_of(n);
-    let start = d.start;
-    let bytes = d.bytes;
-    lists::copy_into(out, at, &bytes[start..]);
-    at + (20 - start)
+    put_text(out, at, digits_of(n).as_slice())
 }
 
 // n spaces from at on; the position behind them.
@@ -45,22 +41,8 @@ pub fn put_spaces(out: &mut [u8], at: usize, n: usize) -> usize
     ensures put_done { PutDone (replicate n space) out.old at out.new result }
     ensures value { result ≡ at + n }
 {
-    let mut i = 0;
-    while i < n {
-        out[at + i] = b' ';
-        i += 1;
-    }
+    out[at..at + n].fill(b' ');
     at + n
-}
-
-// How many spaces fill a column of this width that has used bytes already.
-fn gap(width: usize, used: usize) -> usize
-    ensures { result ≡ width - used }
-{
-    if width < used {
-        return 0;
-    }
-    width - used
 }
 
 // Spaces behind what stands from `from` to at, so that a column of this width is full; the position behind them.
@@ -69,9 +51,7 @@ pub fn pad(out: &mut [u8], from: usize, at: usize, width: usize) -> usize
     ensures put_done { PutDone (replicate (width - (at - from)) space) out.old at out.new result }
     ensures value { result ≡ at + (width - (at - from)) }
 {
-    let used = at - from;
-    let n = gap(width, used);
-    put_spaces(out, at, n)
+    put_spaces(out, at, width.saturating_sub(at - from))
 }
 
 // A number at the right of a column; the position behind it.
@@ -81,11 +61,7 @@ pub fn put_right(out: &mut [u8], at: usize, width: usize, n: u64) -> usize
     ensures lower_bound { (at ≤ result) × (result ≤ at + 20) }
 {
     let d = digits_of(n);
-    let start = d.start;
-    let bytes = d.bytes;
-    let used = 20 - start;
-    let spaces = gap(width, used);
-    let a = put_spaces(out, at, spaces);
-    lists::copy_into(out, a, &bytes[start..]);
-    a + used
+    let digits = d.as_slice();
+    let behind = put_spaces(out, at, width.saturating_sub(digits.len()));
+    put_text(out, behind, digits)
 }

@@ -12,21 +12,8 @@ const MOST_NUMBER: u64 = 4294967295;
 pub fn is_row(l: Line) -> bool
     ensures { result ≡ is_row_kept l }
 {
-    let words = l.words;
-    let lead = l.lead;
-    let first = l.first;
-    let second = l.second;
-    if words != 3 {
-        return false;
-    }
-    if !number_is(MOST_NUMBER, lead) {
-        return false;
-    }
-    if !number_is(MOST_NUMBER, first) {
-        return false;
-    }
-    if !number_is(MOST_NUMBER, second) {
-        return false;
-    }
-    true
+    (l.words == 3)
+        & number_is(MOST_NUMBER, l.lead)
+        & number_is(MOST_NUMBER, l.first)
+        & number_is(MOST_NUMBER, l.second)
 }

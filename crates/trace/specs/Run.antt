@@ -1,16 +1,9 @@
--- What the program keeps, as the byte-by-byte reading of text/specs/Feed.antt says it, and what its turns come to.
--- Assumes nothing.
+-- What the turns of the program come to. Assumes nothing.
 use Rattle.std.specs.Prelude.{ℕ, ◌≡◌, true, not}
 use mathlib.Core.List.{List, [], ◌∷◌, ◌++◌, flatten}
-use Rattle.traces.specs.declared.TraceLine.{TraceLine}
-use Rattle.text.specs.Feed.{ended_lines, any_last, Reading, reading, first_reading}
+use Rattle.text.specs.Feed.{ended_lines, any_last, first_reading}
 use Rattle.text.specs.Turns.{all_printed, all_more, ends_after, none_empty}
-use Rattle.traces.specs.Output.{Trace, trace_program, trace_output}
-use Rattle.traces.specs.Site.{trace_of}
-use Rattle.trace.specs.declared.Run.{Run}
-
-abbrev pub reading_of : Run → Reading Trace TraceLine
-reading_of r = reading (trace_of r.trace) r.line r.over
+use Rattle.traces.specs.Output.{trace_program, trace_output}
 
 -- what is claimed of the program over any parts of its input
 pub record RunRight (parts : List (List ℕ)) : Type 0 where

@@ -1,236 +1,82 @@
-// The program `trace`: reads commands on standard input, to its end or to `k`, and prints a header line and a row for each.
+// The program `trace`: reads commands on standard input, to its end or to `k`, and prints a header line and a row for
+// each.
 #![tactic(auto)]
 
-ghost use Rattle.std.specs.Prelude.{◌≡◌, false, [], ◌∷◌, ◌+◌, ◌-◌, ◌≤◌, ◌<◌, length, IfOk};
-ghost use Rattle.lists.specs.Part.{part, PutDone};
-ghost use Rattle.text.specs.Line.{newline};
-ghost use Rattle.text.specs.Feed.{fed_all, fed_all_printed, end_printed, first_reading};
-ghost use Rattle.text.specs.Turns.{turn_next, turn_printed, turn_more, SomeTurn, SomeTurns, TurnsMade};
-ghost use Rattle.traces.specs.Output.{trace_program};
-ghost use Rattle.trace.specs.Run.{reading_of};
+ghost use Rattle.std.specs.Prelude.{◌≡◌, ◌+◌, ◌≤◌, length};
+ghost use Rattle.traces.specs.declared.TraceLine.{TraceLine};
+ghost use Rattle.traces.specs.Output.{Trace, trace_program};
+ghost use Rattle.traces.specs.Site.{trace_of};
+ghost use Rattle.traces.proofs.KeptLaws.{kept-right};
 
+use console::LineProgram;
+use console::buffers::zeros;
+use console::input::Input;
+use console::turns::run;
 use std::io;
-use std::io::{Read, Write};
-use traces::{TraceLine, TraceSite};
+use text::printing::put_text;
+use traces::{ANSWER_BYTES, TraceLine, TraceSite};
 
-// What is kept between two parts of the input.
+// What is kept between two lines.
 #[derive(Clone, Copy)]
-struct Run {
-    trace: TraceSite,
-    line: TraceLine,
-    over: bool,
-}
+struct TraceProgram(TraceSite);
 
-// After a part of the input: what is kept, how far the part is read, and how many bytes are to be printed.
-#[derive(Clone, Copy)]
-struct Step {
-    run: Run,
-    read: usize,
-    written: usize,
-}
+impl LineProgram for TraceProgram {
+    type Line = TraceLine;
 
-// After a turn: what is kept, how many bytes are to be written, and whether more is to be read.
-#[derive(Clone, Copy)]
-struct Next {
-    run: Run,
-    written: usize,
-    more: bool,
-}
+    ghost State = { Trace };
 
-// The newline of a line: its answer goes into out from written on.
-fn answered(run: Run, out: &mut [u8], written: usize) -> Step
-    requires { (run.over ≡ false) × (written + 1200 ≤ length out.old) }
-    ensures run_value { reading_of result.run ≡ fed_all trace_program (reading_of run) (newline ∷ []) }
-    ensures put_done { PutDone (fed_all_printed trace_program (reading_of run) (newline ∷ [])) out.old written out.new result.written }
-    ensures written_bound { result.written ≤ written + 1200 }
-{
-    let trace = run.trace;
-    let line = run.line;
-    let a = traces::answer::answer(trace, line);
-    let n = a.length;
-    let bytes = a.bytes;
-    lists::copy_into(out, written, &bytes[..n]);
-    let after = a.after;
-    let over = a.last;
-    let none = traces::kept::no_trace_line();
-    let next = Run {
-        trace: after,
-        line: none,
-        over,
-    };
-    Step {
-        run: next,
-        read: 0,
-        written: written + n,
+    ghost Kept = { TraceLine };
+
+    ghost program = { trace_program };
+
+    ghost state_of = { λ p. trace_of p.0 };
+
+    ghost line_of = { λ l. l };
+
+    ghost ANSWER_BYTES = { 1200 };
+
+    const ANSWER_BYTES: usize = ANSWER_BYTES;
+
+    ghost FINISH_BYTES = { 200 };
+
+    const FINISH_BYTES: usize = 200;
+
+    ghost right = { kept-right };
+
+    fn start() -> Self {
+        TraceProgram(traces::answer::first_site())
+    }
+
+    fn no_line() -> TraceLine {
+        traces::kept::no_trace_line()
+    }
+
+    fn line_with_all(line: TraceLine, bytes: &[u8]) -> TraceLine {
+        traces::kept::trace_line_with_all(line, bytes)
+    }
+
+    fn is_empty_line(line: TraceLine) -> bool {
+        text::kept::is_empty_line(line.line)
+    }
+
+    fn answer(self, line: TraceLine, out: &mut [u8], at: usize) -> (Self, usize, bool) {
+        let answered = traces::answer::answer(self.0, line);
+        let end = put_text(out, at, &answered.bytes[..answered.length]);
+        (TraceProgram(answered.after), end, answered.last)
+    }
+
+    fn put_finish(self, out: &mut [u8], at: usize) -> usize {
+        traces::answer::put_finish(out, at, self.0)
     }
 }
 
-// From one place of a part of the input to behind the next newline, or to its end.
-fn fed_line(run: Run, input: &[u8], from: usize, out: &mut [u8], written: usize) -> Step
-    requires { (run.over ≡ false) × (from < length input.now) × (written + 1200 ≤ length out.old) × (length input.now ≤ 512) }
-    ensures from_lt_read { (from < result.read) × (result.read ≤ length input.now) × (result.written ≤ written + 1200) }
-    ensures run_value { reading_of result.run ≡ fed_all trace_program (reading_of run) (part from (result.read - from) input.now) }
-    ensures put_done { PutDone (fed_all_printed trace_program (reading_of run) (part from (result.read - from) input.now)) out.old written out.new result.written }
-{
-    let trace = run.trace;
-    let end = text::lines::line_end(input, from);
-    let begun = run.line;
-    let line = traces::kept::trace_line_with_all(begun, &input[from..end]);
-    let next = Run {
-        trace,
-        line,
-        over: false,
-    };
-    if end >= input.len() {
-        return Step {
-            run: next,
-            read: end,
-            written,
-        };
-    }
-    let last = answered(next, out, written);
-    let after = last.run;
-    let total = last.written;
-    Step {
-        run: after,
-        read: end + 1,
-        written: total,
-    }
-}
-
-// A part of the input, of at most 512 bytes: what is printed of it, at most 1200 bytes for each newline, goes to the head of out.
-fn fed(run: Run, input: &[u8], out: &mut [u8]) -> Step
-    requires { (length input.now ≤ 512) × (614400 ≤ length out.old) }
-    ensures run_value { reading_of result.run ≡ fed_all trace_program (reading_of run) input.now }
-    ensures put_done { PutDone (fed_all_printed trace_program (reading_of run) input.now) out.old 0 out.new result.written }
-    ensures written_in_bounds { result.written ≤ length out.new }
-{
-    let mut run = run;
-    let mut over = run.over;
-    let mut read = 0;
-    let mut written = 0;
-    while read < input.len() && !over {
-        let next = fed_line(run, input, read, out, written);
-        run = next.run;
-        read = next.read;
-        written = next.written;
-        over = run.over;
-    }
-    Step { run, read, written }
-}
-
-// The end of the input: a last line without its newline is answered too; where there was no line, the header line is printed.
-fn ended(run: Run, out: &mut [u8]) -> usize
-    requires { 1400 ≤ length out.old }
-    ensures put_done { PutDone (end_printed trace_program (reading_of run)) out.old 0 out.new result }
-    ensures upper_bound { result ≤ length out.new }
-{
-    let line = run.line;
-    let over = run.over;
-    if over {
-        return 0;
-    }
-    let words = line.line;
-    if text::kept::is_empty_line(words) {
-        return traces::answer::put_finish(out, 0, run.trace);
-    }
-    let last = answered(run, out, 0);
-    let written = last.written;
-    let after = last.run;
-    let done = after.over;
-    if done {
-        return written;
-    }
-    traces::answer::put_finish(out, written, after.trace)
-}
-
-// A turn: a part of the input, or its end, which is an empty part. What is to be written goes to the head of out; no more
-// is read after the end of the input nor after `k`.
-fn turn(run: Run, input: &[u8], out: &mut [u8]) -> Next
-    requires { (length input.now ≤ 512) × (614400 ≤ length out.old) }
-    ensures run_value { reading_of result.run ≡ turn_next trace_program (reading_of run) input.now }
-    ensures put_done { PutDone (turn_printed trace_program (reading_of run) input.now) out.old 0 out.new result.written }
-    ensures written_in_bounds { result.written ≤ length out.new }
-    ensures more_value { result.more ≡ turn_more trace_program (reading_of run) input.now }
-{
-    if input.len() == 0 {
-        let written = ended(run, out);
-        return Next {
-            run,
-            written,
-            more: false,
-        };
-    }
-    let after = fed(run, input, out);
-    let next = after.run;
-    let over = next.over;
-    let written = after.written;
-    Next {
-        run: next,
-        written,
-        more: !over,
-    }
-}
-
-// Before any input: both ends started, no line begun.
-fn first() -> Run
-    ensures { reading_of result ≡ first_reading trace_program }
-{
-    let trace = traces::answer::first_site();
-    let line = traces::kept::no_trace_line();
-    Run {
-        trace,
-        line,
-        over: false,
-    }
-}
-
-// A buffer for what is printed of a part of the input; what it holds before is not looked at.
-fn output_buffer() -> [u8; 614400]
-    ensures { 614400 ≡ length result }
-{
-    [0; 614400]
-}
-
-// Reads a part of the input, makes its turn and writes what that gives; a read that gives nothing or fails is the end of
-// the input. The turn is made too where the write fails, which is the one error. No contract of read or write says which
-// bytes they move: that the part is what was read, and that the head of out is written, is to be seen here.
-fn next_part(rt: HostRuntime, run: Run) -> (Next, io::Result<()>)
-    ensures { SomeTurn trace_program (reading_of run) (reading_of result.0.run) result.0.more }
-{
-    let mut input = [0u8; 512];
-    let mut out = output_buffer();
-    let got = rt.stdin().read(&mut input);
-    let n = got.unwrap_or(0);
-    let next = turn(run, &input[..n], &mut out);
-    let written = next.written;
-    let put = rt.stdout().write_all(&out[..written]);
-    (next, put)
-}
-
-// Part after part, while more is to be read and no write fails; the bound on the turns is the largest number, since a
-// loop has to end. Beside what is kept stands whether all was written: a write that fails is the one error.
-fn all(rt: HostRuntime, run: Run) -> (Run, io::Result<()>)
-    ensures made { TurnsMade trace_program (reading_of run) (reading_of result.0) }
-    ensures whole { IfOk result.1 (λ _. SomeTurns trace_program (reading_of run) (reading_of result.0)) }
-{
-    let mut run = run;
-    let mut more = true;
-    let mut turns = u64::MAX;
-    while turns > 0 && more {
-        let (next, put) = next_part(rt, run);
-        run = next.run;
-        more = next.more;
-        turns -= 1;
-        if let Err(e) = put {
-            return (run, Err(e));
-        }
-    }
-    (run, Ok(()))
-}
-
-// What all that is written comes to is RunRight (specs/Run.antt), of any parts.
+// What is read at once is at most 512 bytes, and there is room for the answers of as many lines.
 fn main(rt: HostRuntime) -> io::Result<()> {
-    let (_run, put) = all(rt, first());
-    put
+    let mut out = zeros::<614400>();
+    run::<TraceProgram, _, _, 512>(
+        &mut Input::new(),
+        &mut rt.stdin(),
+        &mut rt.stdout(),
+        &mut out,
+    )
 }

@@ -14,6 +14,11 @@ abbrev pub header_line : List ℕ
 header_line =
     ascii "command  answer                           value  open acked received    primary pages   primary blocks    standby pages   standby blocks held waiting link staged due\n"
 
+-- numbers, each at the right of a column of its width
+unfoldable pub in_columns : List (ℕ × ℕ) → List ℕ
+in_columns [] = []
+in_columns (c ∷ cs) = right c.0 (decimal c.1) ++ in_columns cs
+
 -- the first byte of each page of a memory, or of each block of a disk
 abbrev pub head_at : List ℕ → ℕ → List ℕ
 head_at s i = decimal (get_or s (i * pair_settings.u) 0)

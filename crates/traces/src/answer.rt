@@ -32,8 +32,7 @@ pub fn put_finish(out: &mut [u8], at: usize, t: TraceSite) -> usize
     ensures put_done { PutDone (finished (trace_of t)) out.old at out.new result }
     ensures upper_bound { result ≤ at + 200 }
 {
-    let headed = t.headed;
-    if headed {
+    if t.headed {
         return at;
     }
     put_header(out, at)
@@ -52,22 +51,15 @@ fn put_lines(
     ensures put_done { PutDone (header_if t.headed ++ row_of (command_words c) (answer_words c fault done.number) done.value (world_of done.site) damaged) out.old 0 out.new result }
     ensures upper_bound { result ≤ answer_bytes }
 {
-    let site = done.site;
-    let number = done.number;
-    let value = done.value;
     let a = put_finish(out, 0, t);
-    put_row(out, a, c, fault, number, value, site, damaged)
+    put_row(out, a, c, fault, done, damaged)
 }
 
 // Whether a byte on the link was changed, by now.
 fn damaged_by(t: TraceSite, c: TraceCommand, done: Performed) -> bool
     ensures { result ≡ (t.damaged || is_damage c (done_of done)) }
 {
-    let damaged = t.damaged;
-    if damaged {
-        return true;
-    }
-    is_damage(c, done)
+    t.damaged || is_damage(c, done)
 }
 
 // The answer to a line: what is kept after it, and what is printed.
@@ -79,18 +71,16 @@ pub fn answer(t: TraceSite, l: TraceLine) -> TraceAnswer
     let done = perform(t.site, c);
     let damaged = damaged_by(t, c, done);
     let mut bytes = [0u8; ANSWER_BYTES];
-    let n = put_lines(&mut bytes, t, c, fault, done, damaged);
-    let site = done.site;
-    let last = done.last;
+    let length = put_lines(&mut bytes, t, c, fault, done, damaged);
     let after = TraceSite {
-        site,
+        site: done.site,
         damaged,
         headed: true,
     };
     TraceAnswer {
         after,
         bytes,
-        length: n,
-        last,
+        length,
+        last: done.last,
     }
 }

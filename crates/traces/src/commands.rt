@@ -9,7 +9,7 @@ ghost use Rattle.script.specs.Site.{world_of, done_of};
 ghost use Rattle.traces.specs.Command.{trace_command_of_line, trace_letter_of, with_link, set_done, traced, is_damage};
 
 use crate::TraceCommand;
-use records::number::OUT_OF_RANGE;
+use records::refusal::Refusal;
 use script::commands::{MOST_BYTE, MOST_NUMBER, command_of};
 use script::link::{drain_record, in_link, nothing_there};
 use script::primary_commands::primary_tick;
@@ -26,27 +26,23 @@ fn is_kept_line(letter: u8, words: usize, l: Line) -> bool
 }
 
 // The command of what is kept of a line: `x i v`, `p`, or one of `pair`.
+#[tactic(auto, unfolding(crate::specs::Command::trace_command_of_line))]
 pub fn trace_command_of(l: Line) -> TraceCommand
     ensures { result ≡ trace_command_of_line l }
 {
-    let first = l.first;
-    let second = l.second;
-    let named = is_kept_line(b'x', 3, l);
-    let place = number_is(MOST_NUMBER, first);
-    let value = number_is(MOST_BYTE, second);
-    if named & place & value {
-        let at = first.value;
-        let byte = second.value;
+    let numbers = number_is(MOST_NUMBER, l.first) & number_is(MOST_BYTE, l.second);
+    if is_kept_line(b'x', 3, l) & numbers {
         return TraceCommand::Set {
-            at,
-            byte: byte as u8,
+            at: l.first.value,
+            byte: l.second.value as u8,
         };
     }
     if is_kept_line(b'p', 1, l) {
         return TraceCommand::Tick;
     }
-    let command = command_of(l);
-    TraceCommand::Pair { command }
+    TraceCommand::Pair {
+        command: command_of(l),
+    }
 }
 
 // The letter that is printed.
@@ -55,7 +51,7 @@ pub fn trace_letter_of(c: TraceCommand) -> u8
 {
     match c {
         TraceCommand::Pair { command } => letter_of(command),
-        TraceCommand::Set { at, byte } => b'x',
+        TraceCommand::Set { at: _, byte: _ } => b'x',
         TraceCommand::Tick => b'p',
     }
 }
@@ -69,7 +65,7 @@ fn set_in(s: Site, d: Site, at: u64, byte: u8) -> Performed
     if count <= place {
         return Performed {
             site: s,
-            number: OUT_OF_RANGE,
+            number: Refusal::OutOfRange.number(),
             value: 0,
             last: false,
         };
@@ -77,10 +73,8 @@ fn set_in(s: Site, d: Site, at: u64, byte: u8) -> Performed
     let mut link = d.link;
     let old = link[place];
     link[place] = byte;
-    let mut next = d;
-    next.link = link;
     Performed {
-        site: next,
+        site: Site { link, ..d },
         number: 0,
         value: old as u64,
         last: false,
@@ -91,17 +85,10 @@ fn set_in(s: Site, d: Site, at: u64, byte: u8) -> Performed
 pub fn set_byte(s: Site, at: u64, byte: u8) -> Performed
     ensures { done_of result ≡ set_done (world_of s) at byte }
 {
-    let linked = s.linked;
-    let p = s.primary;
-    let state = p.state;
-    let waiting = state.waiting;
-    if linked == 0 {
-        if waiting == 0 {
-            return nothing_there(s);
-        }
+    if s.linked == 0 && s.primary.state.waiting == 0 {
+        return nothing_there(s);
     }
-    let d = drain_record(s);
-    set_in(s, d, at, byte)
+    set_in(s, drain_record(s), at, byte)
 }
 
 // What a command does.
@@ -119,11 +106,8 @@ pub fn perform(s: Site, c: TraceCommand) -> Performed
 pub fn is_damage(c: TraceCommand, p: Performed) -> bool
     ensures { result ≡ is_damage c (done_of p) }
 {
-    let number = p.number;
-    let value = p.value;
     match c {
-        TraceCommand::Pair { command } => false,
-        TraceCommand::Set { at, byte } => (number == 0) & (value != byte as u64),
-        TraceCommand::Tick => false,
+        TraceCommand::Set { at: _, byte } => (p.number == 0) & (p.value != byte as u64),
+        TraceCommand::Pair { command: _ } | TraceCommand::Tick => false,
     }
 }

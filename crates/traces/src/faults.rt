@@ -1,58 +1,29 @@
 // Why a line is no command.
-ghost use Rattle.std.specs.Prelude.{◌≡◌, ◌≤◌, cond, not, ltb};
+ghost use Rattle.std.specs.Prelude.{◌≡◌, ◌≤◌, cond, not, ltb, Some, None, IfSome};
 ghost use Rattle.script.specs.Command.{most_byte};
 ghost use Rattle.traces.specs.declared.LineFault.TheVariants.{Digits, Large};
-ghost use Rattle.traces.specs.Fault.{with_two, with_one, with_none, is_letter, wanted_of, most_first, in_digits, fault_of};
+ghost use Rattle.traces.specs.Fault.{has_letter, wanted_of, most_first, in_digits, fault_of};
 
 use crate::{LineFault, TraceLine};
 use script::commands::{MOST_BYTE, MOST_NUMBER};
-use text::Number;
 use text::kept::is_empty_line;
+use text::{Line, Number};
 
-// Whether two numbers follow this letter.
-fn with_two(letter: u8) -> bool
-    ensures { result ≡ with_two letter }
+// How many numbers follow the letter of a line, if it is the letter of a command.
+#[tactic(auto, unfolding(crate::specs::Fault::wanted_of, crate::specs::Fault::is_letter))]
+fn wanted_of(l: Line) -> Option<usize>
+    ensures value { result ≡ cond (has_letter l) (Some (wanted_of l.letter)) None }
+    ensures bound { IfSome result (λ n. n ≤ 2) }
 {
-    (letter == b'w') | (letter == b'd') | (letter == b'x')
-}
-
-// Whether one does.
-fn with_one(letter: u8) -> bool
-    ensures { result ≡ with_one letter }
-{
-    (letter == b's') | (letter == b'c')
-}
-
-// Whether none does.
-fn with_none(letter: u8) -> bool
-    ensures { result ≡ with_none letter }
-{
-    (letter == b'm')
-        | (letter == b'a')
-        | (letter == b't')
-        | (letter == b'f')
-        | (letter == b'k')
-        | (letter == b'p')
-}
-
-// Whether this is the letter of a command.
-fn is_letter(letter: u8) -> bool
-    ensures { result ≡ is_letter letter }
-{
-    with_two(letter) | with_one(letter) | with_none(letter)
-}
-
-// How many numbers follow it.
-fn wanted_of(letter: u8) -> usize
-    ensures { (result ≡ wanted_of letter) × (result ≤ 2) }
-{
-    if with_two(letter) {
-        return 2;
+    if l.letters != 1 {
+        return None;
     }
-    if with_one(letter) {
-        return 1;
+    match l.letter {
+        b'w' | b'd' | b'x' => Some(2),
+        b's' | b'c' => Some(1),
+        b'm' | b'a' | b't' | b'f' | b'k' | b'p' => Some(0),
+        _ => None,
     }
-    0
 }
 
 // The largest first number.
@@ -60,9 +31,10 @@ fn most_first(letter: u8) -> u64
     ensures { result ≡ most_first letter }
 {
     if letter == b'c' {
-        return MOST_BYTE;
+        MOST_BYTE
+    } else {
+        MOST_NUMBER
     }
-    MOST_NUMBER
 }
 
 // Whether a word is of digits, one or more.
@@ -76,12 +48,11 @@ fn in_digits(n: Number) -> bool
 fn number_fault(letter: u8, first: Number, second: Number) -> LineFault
     ensures { result ≡ cond (not (in_digits first)) (Digits 1) (cond (ltb (most_first letter) first.value) (Large 1 (most_first letter)) (cond (not (in_digits second)) (Digits 2) (Large 2 most_byte))) }
 {
-    let value = first.value;
-    let most = most_first(letter);
     if !in_digits(first) {
         return LineFault::Digits { which: 1 };
     }
-    if most < value {
+    let most = most_first(letter);
+    if most < first.value {
         return LineFault::Large { which: 1, most };
     }
     if !in_digits(second) {
@@ -94,29 +65,24 @@ fn number_fault(letter: u8, first: Number, second: Number) -> LineFault
 }
 
 // The first that is wrong with a line that is no command.
+#[tactic(auto, unfolding(crate::specs::Fault::fault_of))]
 pub fn fault_of(k: TraceLine) -> LineFault
     ensures { result ≡ fault_of k }
 {
     let l = k.line;
-    let last = k.last;
-    let words = l.words;
-    let letters = l.letters;
-    let letter = l.letter;
     if is_empty_line(l) {
         return LineFault::Empty;
     }
-    if last == b'\r' {
+    if k.last == b'\r' {
         return LineFault::Return;
     }
-    let known = is_letter(letter);
-    if !((letters == 1) & known) {
+    let Some(wanted) = wanted_of(l) else {
         return LineFault::Letter;
-    }
-    let wanted = wanted_of(letter);
-    if words != wanted + 1 {
+    };
+    if l.words != wanted + 1 {
         return LineFault::Count {
             wanted: wanted as u64,
         };
     }
-    number_fault(letter, l.first, l.second)
+    number_fault(l.letter, l.first, l.second)
 }

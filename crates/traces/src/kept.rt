@@ -9,20 +9,22 @@ use crate::TraceLine;
 pub fn no_trace_line() -> TraceLine
     ensures { result ≡ no_trace_line }
 {
-    let line = text::kept::no_line();
-    TraceLine { line, last: 0 }
+    TraceLine {
+        line: text::kept::no_line(),
+        last: 0,
+    }
 }
 
 // The bytes of a part, one after another.
 pub fn trace_line_with_all(l: TraceLine, bytes: &[u8]) -> TraceLine
     ensures { result ≡ kept_all trace_line_with l bytes.now }
 {
-    let begun = l.line;
     let n = bytes.len();
     if n == 0 {
         return l;
     }
-    let line = text::kept::line_with_all(begun, bytes);
-    let last = bytes[n - 1];
-    TraceLine { line, last }
+    TraceLine {
+        line: text::kept::line_with_all(l.line, bytes),
+        last: bytes[n - 1],
+    }
 }

@@ -28,6 +28,7 @@ pub struct TraceLine {
 
 // Why a line is no command: it is empty, ends with a carriage return, its letter is not known, it has not so many
 // numbers, its first or second number is not in digits, or is larger than the most.
+// No Result of the command: a line that is none is performed as by `pair` (`EveryPairLine`, traces/specs/Runs.antt).
 #[derive(Clone, Copy)]
 pub enum LineFault {
     Empty,
@@ -54,6 +55,7 @@ pub const ROW_BYTES: usize = 1000;
 pub const ANSWER_BYTES: usize = 1200;
 
 // A line's answer: what is kept after it, the bytes printed, at the head of an array, and whether it is the last.
+// An array with its length, and no Vec: a program's memory is fixed (docs/DECISIONS.md).
 #[derive(Clone, Copy)]
 pub struct TraceAnswer {
     pub after: TraceSite,

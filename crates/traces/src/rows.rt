@@ -1,19 +1,19 @@
 // A row of the table: a command, its answer, and what is at both ends after it.
-ghost use Rattle.std.specs.Prelude.{◌≡◌, cond, [], ◌∷◌, ◌++◌, ◌+◌, ◌≤◌, ◌<◌, length, get_or};
+ghost use Rattle.std.specs.Prelude.{◌≡◌, cond, [], ◌∷◌, ◌++◌, ◌+◌, ◌*◌, ◌≤◌, length, All};
 ghost use Rattle.lists.specs.Part.{PutDone};
 ghost use Rattle.text.specs.Line.{space};
 ghost use Rattle.text.specs.Decimal.{decimal};
 ghost use Rattle.text.specs.Column.{left, right};
 ghost use Rattle.script.specs.Site.{world_of};
 ghost use Rattle.traces.specs.Words.{command_words, answer_words};
-ghost use Rattle.traces.specs.Row.{header_line, heads, epoch_columns, head_columns, count_columns, mode_remark, remarks, row_of};
+ghost use Rattle.traces.specs.Row.{header_line, in_columns, heads, epoch_columns, head_columns, count_columns, mode_remark, remarks, row_of};
 ghost use Rattle.traces.specs.Site.{row_bytes};
 
 use crate::words::{put_answer, put_command};
 use crate::{LineFault, TraceCommand};
 use rules::Mode;
-use script::Site;
 use script::link::in_link;
+use script::{Performed, Site};
 use text::printing::{pad, put_byte, put_right, put_text};
 
 // The header line.
@@ -29,14 +29,17 @@ pub(crate) fn put_header(out: &mut [u8], at: usize) -> usize
     )
 }
 
-// A byte at the right of its column.
-fn put_head(out: &mut [u8], at: usize, width: usize, s: &[u8], place: usize) -> usize
-    requires { (width ≤ 20) × (at + 20 ≤ length out.old) × (place < length s.now) }
-    ensures put_done { PutDone (right width (decimal (get_or s.now place 0))) out.old at out.new result }
-    ensures upper_bound { result ≤ at + 20 }
+// Numbers, each at the right of a column of its width.
+fn put_columns(out: &mut [u8], at: usize, columns: &[(usize, u64)]) -> usize
+    requires { All (λ c. c.0 ≤ 20) columns.now × (at + 20 * length columns.now ≤ length out.old) }
+    ensures put_done { PutDone (in_columns columns.now) out.old at out.new result }
+    ensures upper_bound { result ≤ at + 20 * length columns.now }
 {
-    let head = s[place];
-    put_right(out, at, width, head as u64)
+    let mut next = at;
+    for (width, number) in columns {
+        next = put_right(out, next, *width, *number);
+    }
+    next
 }
 
 // The first byte of each of the four pages of a memory, or blocks of a disk.
@@ -45,10 +48,13 @@ fn put_heads(out: &mut [u8], at: usize, s: &[u8]) -> usize
     ensures put_done { PutDone (heads s.now) out.old at out.new result }
     ensures upper_bound { result ≤ at + 80 }
 {
-    let a = put_head(out, at, 5, s, 0);
-    let b = put_head(out, a, 4, s, 64);
-    let c = put_head(out, b, 4, s, 128);
-    put_head(out, c, 4, s, 192)
+    let columns = [
+        (5, s[0] as u64),
+        (4, s[64] as u64),
+        (4, s[128] as u64),
+        (4, s[192] as u64),
+    ];
+    put_columns(out, at, &columns)
 }
 
 // The first bytes of both ends.
@@ -57,16 +63,10 @@ fn put_head_columns(out: &mut [u8], at: usize, site: Site) -> usize
     ensures put_done { PutDone (head_columns (world_of site)) out.old at out.new result }
     ensures upper_bound { result ≤ at + 320 }
 {
-    let p = site.primary;
-    let s = site.standby;
-    let primary_memory = p.memory;
-    let primary_disk = p.disk;
-    let standby_memory = s.memory;
-    let standby_disk = s.disk;
-    let a = put_heads(out, at, &primary_memory);
-    let b = put_heads(out, a, &primary_disk);
-    let c = put_heads(out, b, &standby_memory);
-    put_heads(out, c, &standby_disk)
+    let a = put_heads(out, at, &site.primary.memory);
+    let b = put_heads(out, a, &site.primary.disk);
+    let c = put_heads(out, b, &site.standby.memory);
+    put_heads(out, c, &site.standby.disk)
 }
 
 // The open, the acknowledged and the received epoch.
@@ -75,37 +75,13 @@ fn put_epochs(out: &mut [u8], at: usize, site: Site) -> usize
     ensures put_done { PutDone (epoch_columns (world_of site)) out.old at out.new result }
     ensures upper_bound { result ≤ at + 60 }
 {
-    let p = site.primary;
-    let s = site.standby;
-    let primary = p.state;
-    let standby = s.state;
-    let epoch = primary.epoch;
-    let acknowledged = primary.acknowledged;
-    let received = standby.received;
-    let a = put_right(out, at, 6, epoch as u64);
-    let b = put_right(out, a, 6, acknowledged as u64);
-    put_right(out, b, 9, received as u64)
-}
-
-// Five counts, each at the right of its column.
-fn put_five(
-    out: &mut [u8],
-    at: usize,
-    held: usize,
-    waiting: usize,
-    linked: usize,
-    staged: usize,
-    due: usize,
-) -> usize
-    requires { at + 100 ≤ length out.old }
-    ensures put_done { PutDone (right 5 (decimal held) ++ right 8 (decimal waiting) ++ right 5 (decimal linked) ++ right 7 (decimal staged) ++ right 4 (decimal due)) out.old at out.new result }
-    ensures upper_bound { result ≤ at + 100 }
-{
-    let a = put_right(out, at, 5, held as u64);
-    let b = put_right(out, a, 8, waiting as u64);
-    let c = put_right(out, b, 5, linked as u64);
-    let d = put_right(out, c, 7, staged as u64);
-    put_right(out, d, 4, due as u64)
+    let primary = site.primary.state;
+    let columns = [
+        (6, primary.epoch as u64),
+        (6, primary.acknowledged as u64),
+        (9, site.standby.state.received as u64),
+    ];
+    put_columns(out, at, &columns)
 }
 
 // Packets held, bytes waiting and on the link, slots staged and due.
@@ -114,46 +90,35 @@ fn put_counts(out: &mut [u8], at: usize, site: Site) -> usize
     ensures put_done { PutDone (count_columns (world_of site)) out.old at out.new result }
     ensures upper_bound { result ≤ at + 100 }
 {
-    let p = site.primary;
-    let s = site.standby;
-    let primary = p.state;
-    let standby = s.state;
-    let queue = primary.queue;
-    let slots = standby.slots;
-    let linked = in_link(site.linked);
-    put_five(
-        out,
-        at,
-        queue.count,
-        primary.waiting,
-        linked,
-        slots.staged,
-        slots.due,
-    )
+    let primary = site.primary.state;
+    let slots = site.standby.state.slots;
+    let columns = [
+        (5, primary.queue.count as u64),
+        (8, primary.waiting as u64),
+        (5, in_link(site.linked) as u64),
+        (7, slots.staged as u64),
+        (4, slots.due as u64),
+    ];
+    put_columns(out, at, &columns)
 }
 
 // A text, where it is shown.
-fn put_shown(out: &mut [u8], at: usize, shown: bool, text: &[u8]) -> usize
-    requires { at + length text.now ≤ length out.old }
-    ensures put_done { PutDone (cond shown text.now []) out.old at out.new result }
-    ensures upper_bound { result ≤ at + length text.now }
+fn shown(shown: bool, text: &'static [u8]) -> &'static [u8]
+    ensures value { result.now ≡ cond shown text.now [] }
+    ensures bound { length result.now ≤ length text.now }
 {
-    if shown {
-        return put_text(out, at, text);
-    }
-    at
+    if shown { text } else { b"" }
 }
 
 // The standby's mode, where it does not receive.
-fn put_mode(out: &mut [u8], at: usize, mode: Mode) -> usize
-    requires { at + 21 ≤ length out.old }
-    ensures put_done { PutDone (mode_remark mode) out.old at out.new result }
-    ensures upper_bound { result ≤ at + 21 }
+fn mode_words(mode: Mode) -> &'static [u8]
+    ensures value { result.now ≡ mode_remark mode }
+    ensures bound { length result.now ≤ 21 }
 {
     match mode {
-        Mode::Receiving => at,
-        Mode::TakingOver => put_text(out, at, b"  standby taking over"),
-        Mode::Active => put_text(out, at, b"  standby active"),
+        Mode::Receiving => b"",
+        Mode::TakingOver => b"  standby taking over",
+        Mode::Active => b"  standby active",
     }
 }
 
@@ -163,57 +128,45 @@ fn put_remarks(out: &mut [u8], at: usize, site: Site, damaged: bool) -> usize
     ensures put_done { PutDone (remarks (world_of site) damaged) out.old at out.new result }
     ensures upper_bound { result ≤ at + 73 }
 {
-    let p = site.primary;
-    let s = site.standby;
-    let primary = p.state;
-    let standby = s.state;
-    let alone = primary.alone;
-    let mode = standby.mode;
-    let a = put_shown(out, at, alone, b"  primary alone");
-    let b = put_mode(out, a, mode);
-    put_shown(out, b, damaged, b"  no run of document 01: link damaged")
+    let alone = shown(site.primary.state.alone, b"  primary alone");
+    let mode = mode_words(site.standby.state.mode);
+    let no_run = shown(damaged, b"  no run of document 01: link damaged");
+    let a = put_text(out, at, alone);
+    let b = put_text(out, a, mode);
+    put_text(out, b, no_run)
 }
 
 // The command, its answer and the value.
-fn put_said(
-    out: &mut [u8],
-    at: usize,
-    c: TraceCommand,
-    fault: LineFault,
-    number: u64,
-    value: u64,
-) -> usize
+fn put_said(out: &mut [u8], at: usize, c: TraceCommand, fault: LineFault, done: Performed) -> usize
     requires { at + 142 ≤ length out.old }
-    ensures put_done { PutDone (left 9 (command_words c ++ (space ∷ [])) ++ left 33 (answer_words c fault number) ++ right 5 (decimal value)) out.old at out.new result }
+    ensures put_done { PutDone (left 9 (command_words c ++ (space ∷ [])) ++ left 33 (answer_words c fault done.number) ++ right 5 (decimal done.value)) out.old at out.new result }
     ensures upper_bound { result ≤ at + 142 }
 {
     let a = put_command(out, at, c);
     let s = put_byte(out, a, b' ');
     let b = pad(out, at, s, 9);
-    let d = put_answer(out, b, c, fault, number);
+    let d = put_answer(out, b, c, fault, done.number);
     let e = pad(out, b, d, 33);
-    put_right(out, e, 5, value)
+    put_right(out, e, 5, done.value)
 }
 
-// A row, with its newline.
+// A row, with its newline: of a command that was performed.
 pub(crate) fn put_row(
     out: &mut [u8],
     at: usize,
     c: TraceCommand,
     fault: LineFault,
-    number: u64,
-    value: u64,
-    site: Site,
+    done: Performed,
     damaged: bool,
 ) -> usize
     requires { at + row_bytes ≤ length out.old }
-    ensures put_done { PutDone (row_of (command_words c) (answer_words c fault number) value (world_of site) damaged) out.old at out.new result }
+    ensures put_done { PutDone (row_of (command_words c) (answer_words c fault done.number) done.value (world_of done.site) damaged) out.old at out.new result }
     ensures upper_bound { result ≤ at + row_bytes }
 {
-    let a = put_said(out, at, c, fault, number, value);
-    let b = put_epochs(out, a, site);
-    let d = put_head_columns(out, b, site);
-    let e = put_counts(out, d, site);
-    let f = put_remarks(out, e, site, damaged);
+    let a = put_said(out, at, c, fault, done);
+    let b = put_epochs(out, a, done.site);
+    let d = put_head_columns(out, b, done.site);
+    let e = put_counts(out, d, done.site);
+    let f = put_remarks(out, e, done.site, damaged);
     put_byte(out, f, b'\n')
 }

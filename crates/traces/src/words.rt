@@ -1,5 +1,5 @@
 // A command and its answer in words.
-ghost use Rattle.std.specs.Prelude.{cond, ◌∷◌, ◌++◌, ◌+◌, ◌≤◌, ◌<◌, eqb, length};
+ghost use Rattle.std.specs.Prelude.{◌≡◌, cond, ◌∷◌, ◌++◌, ◌+◌, ◌≤◌, eqb, length};
 ghost use Rattle.lists.specs.Part.{PutDone};
 ghost use Rattle.text.specs.Line.{space};
 ghost use Rattle.text.specs.Decimal.{decimal};
@@ -71,78 +71,54 @@ pub(crate) fn put_command(out: &mut [u8], at: usize, c: TraceCommand) -> usize
     ensures put_done { PutDone (command_words c) out.old at out.new result }
     ensures upper_bound { result ≤ at + 43 }
 {
-    let letter = trace_letter_of(c);
-    let a = put_byte(out, at, letter);
+    let a = put_byte(out, at, trace_letter_of(c));
     put_trace_numbers(out, a, c)
 }
 
 // 18, of a command with this letter.
-fn put_nothing(out: &mut [u8], at: usize, letter: u8) -> usize
-    requires { at + 32 ≤ length out.old }
-    ensures put_done { PutDone (nothing_words letter) out.old at out.new result }
-    ensures upper_bound { result ≤ at + 32 }
+#[tactic(auto, unfolding(crate::specs::Words::nothing_words))]
+fn nothing_words(letter: u8) -> &'static [u8]
+    ensures value { result.now ≡ nothing_words letter }
+    ensures bound { length result.now ≤ 32 }
 {
     match letter {
-        b'm' => put_text(out, at, b"no record on its way"),
-        b'x' => put_text(out, at, b"no record on its way"),
-        b'a' => put_text(out, at, b"no ACK to read"),
-        _ => put_text(out, at, b"nothing may be handed out yet"),
-    }
-}
-
-// The numbers from 17 on.
-fn put_high(out: &mut [u8], at: usize, letter: u8, number: u64) -> usize
-    requires { (at + 32 ≤ length out.old) × (16 < number) }
-    ensures put_done { PutDone (number_words letter number) out.old at out.new result }
-    ensures upper_bound { result ≤ at + 32 }
-{
-    match number {
-        17 => put_text(out, at, b"slots for blocks are full"),
-        18 => put_nothing(out, at, letter),
-        19 => put_text(out, at, b"the last epoch is open"),
-        20 => put_text(out, at, b"blocks are still due"),
-        23 => put_text(out, at, b"no such port"),
-        256 => put_text(out, at, b"cut short"),
-        _ => put_text(out, at, b"refused"),
-    }
-}
-
-// The numbers from 9 on.
-fn put_middle(out: &mut [u8], at: usize, letter: u8, number: u64) -> usize
-    requires { (at + 32 ≤ length out.old) × (8 < number) }
-    ensures put_done { PutDone (number_words letter number) out.old at out.new result }
-    ensures upper_bound { result ≤ at + 32 }
-{
-    match number {
-        9 => put_text(out, at, b"out of order in its checkpoint"),
-        10 => put_text(out, at, b"counts not those received"),
-        11 => put_text(out, at, b"ACK old, or of an open epoch"),
-        12 => put_text(out, at, b"record area not valid"),
-        13 => put_text(out, at, b"not in this mode"),
-        14 => put_text(out, at, b"the epoch has all its blocks"),
-        15 => put_text(out, at, b"no space in the stream"),
-        16 => put_text(out, at, b"no space for the packet"),
-        _ => put_high(out, at, letter, number),
+        b'm' | b'x' => b"no record on its way",
+        b'a' => b"no ACK to read",
+        _ => b"nothing may be handed out yet",
     }
 }
 
 // What a number says, of a command with this letter.
-fn put_meaning(out: &mut [u8], at: usize, letter: u8, number: u64) -> usize
-    requires { at + 32 ≤ length out.old }
-    ensures put_done { PutDone (number_words letter number) out.old at out.new result }
-    ensures upper_bound { result ≤ at + 32 }
+#[tactic(auto, unfolding(crate::specs::Words::number_words))]
+fn number_words(letter: u8, number: u64) -> &'static [u8]
+    ensures value { result.now ≡ number_words letter number }
+    ensures bound { length result.now ≤ 32 }
 {
     match number {
-        0 => put_text(out, at, b"accepted"),
-        1 => put_text(out, at, b"no such byte on the link"),
-        2 => put_text(out, at, b"no such page or block"),
-        3 => put_text(out, at, b"not within a page, or no block"),
-        4 => put_text(out, at, b"packet not of 1 to 1514 bytes"),
-        5 => put_text(out, at, b"reply or destination too short"),
-        6 => put_text(out, at, b"kind not for this end"),
-        7 => put_text(out, at, b"length not its kind's"),
-        8 => put_text(out, at, b"epoch not the next one"),
-        _ => put_middle(out, at, letter, number),
+        0 => b"accepted",
+        1 => b"no such byte on the link",
+        2 => b"no such page or block",
+        3 => b"not within a page, or no block",
+        4 => b"packet not of 1 to 1514 bytes",
+        5 => b"reply or destination too short",
+        6 => b"kind not for this end",
+        7 => b"length not its kind's",
+        8 => b"epoch not the next one",
+        9 => b"out of order in its checkpoint",
+        10 => b"counts not those received",
+        11 => b"ACK old, or of an open epoch",
+        12 => b"record area not valid",
+        13 => b"not in this mode",
+        14 => b"the epoch has all its blocks",
+        15 => b"no space in the stream",
+        16 => b"no space for the packet",
+        17 => b"slots for blocks are full",
+        18 => nothing_words(letter),
+        19 => b"the last epoch is open",
+        20 => b"blocks are still due",
+        23 => b"no such port",
+        256 => b"cut short",
+        _ => b"refused",
     }
 }
 
@@ -204,7 +180,7 @@ fn put_reason(out: &mut [u8], at: usize, letter: u8, fault: LineFault, number: u
     if letter == b'?' {
         return put_fault(out, at, fault);
     }
-    put_meaning(out, at, letter, number)
+    put_text(out, at, number_words(letter, number))
 }
 
 // The answer to a command: its number, and in words what it is.
@@ -219,8 +195,7 @@ pub(crate) fn put_answer(
     ensures put_done { PutDone (answer_words c fault number) out.old at out.new result }
     ensures upper_bound { result ≤ at + 78 }
 {
-    let letter = trace_letter_of(c);
     let a = put_number(out, at, number);
     let b = put_byte(out, a, b' ');
-    put_reason(out, b, letter, fault, number)
+    put_reason(out, b, trace_letter_of(c), fault, number)
 }

@@ -1,15 +1,9 @@
--- What the program keeps, as the byte-by-byte reading of text/specs/Feed.antt says it, and what its turns come to. Assumes nothing.
+-- What the turns of the program come to. Assumes nothing.
 use Rattle.std.specs.Prelude.{ℕ, ◌≡◌, true, not}
 use mathlib.Core.List.{List, [], ◌∷◌, ◌++◌, flatten}
-use Rattle.text.specs.declared.Line.{Line}
-use Rattle.text.specs.Feed.{ended_lines, any_last, Reading, reading, first_reading}
+use Rattle.text.specs.Feed.{ended_lines, any_last, first_reading}
 use Rattle.text.specs.Turns.{all_printed, all_more, ends_after, none_empty}
-use Rattle.trials.specs.Output.{Stage, trial_program, trial_output}
-use Rattle.trials.specs.Site.{stage_of}
-use Rattle.trial.specs.declared.Run.{Run}
-
-abbrev pub reading_of : Run → Reading Stage Line
-reading_of r = reading (stage_of r.stage) r.line r.over
+use Rattle.trials.specs.Output.{trial_program, trial_output}
 
 -- what is claimed of the program over any parts of its input
 pub record RunRight (parts : List (List ℕ)) : Type 0 where

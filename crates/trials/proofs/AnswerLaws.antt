@@ -1,22 +1,22 @@
 -- Laws of a line's answer. Assumes nothing.
 use Prim.Native.Nat.{ℕ, ◌+◌, ◌≤◌, ◌<◌}
 use mathlib.Core.Path.{◌≡◌, refl, sym, ap, ap₂, subst, ◌∙◌}
-use mathlib.Core.Bool.{Bool, true, false, cond, ◌&&◌}
+use mathlib.Core.Bool.{Bool, true, false, ◌&&◌}
 use mathlib.Core.List.{List, []}
 use native.Mathlib.Omega.{arith}
 use lib.Dec.{ltb}
 use lib.ListN.{length, take, replicate}
+use Rattle.std.specs.Prelude.{Option, Some}
 use borrow.Author.Tests.{eq-eqb, ne_eqb, lt-ltb, le-ltb}
 use Rattle.lists.specs.Part.{PutDone}
 use Rattle.lists.specs.Refusal.{refusal}
 use Rattle.lists.proofs.PartLaws.{put-done-length, put-done-more, put-done-none}
 use Rattle.lists.proofs.TestLaws.{join, and-false, cond-true, cond-false}
 use Rattle.records.specs.Number.{out_of_range}
-use Rattle.text.specs.declared.Line.{Line}
 use Rattle.text.specs.Decimal.{most_number}
 use Rattle.text.specs.Kept.{no_line, line_with_all}
 use Rattle.text.specs.Feed.{Answered, KeptRight}
-use Rattle.text.specs.Row.{is_row, is_row_kept}
+use Rattle.text.specs.Row.{is_row}
 use Rattle.text.proofs.KeptLaws.{empty-line}
 use Rattle.text.proofs.RunLaws.{taken-put}
 use Rattle.text.proofs.RowLaws.{row_is, row-values}
@@ -28,14 +28,12 @@ use Rattle.script.specs.Pair.{settings_with, started_with, zero_buffers, process
 use Rattle.script.specs.Site.{world_of}
 use Rattle.script.specs.Output.{printed}
 use Rattle.trials.specs.declared.TrialSite.{TrialSite}
-use Rattle.trials.specs.declared.TrialCourse.{TrialCourse}
-use Rattle.trials.specs.declared.TrialStage.{TrialStage}
 use Rattle.trials.specs.declared.TrialAnswer.{TrialAnswer}
-use Rattle.trials.specs.Trial.{ended, longest}
+use Rattle.trials.specs.Trial.{ended}
 use Rattle.trials.specs.Tick.{tick}
-use Rattle.trials.specs.Output.{Stage, unbegun, begun, tick_line, last_line, plan_refusal, first_trial, answer_plan, tick_course, answer_course, answer_row, finished, trial_program, last_answered, plan_tests, plan_refused}
+use Rattle.trials.specs.Output.{Stage, unbegun, begun, last_line, plan_refusal, first_trial, answer_plan, tick_course, answer_row, trial_program, last_answered, plan_tests, plan_refused}
 use Rattle.trials.specs.Answer.{AnswerDone, most_bytes}
-use Rattle.trials.specs.Site.{trial_of, course_of, stage_of}
+use Rattle.trials.specs.Site.{trial_of, stage_of}
 use Rattle.trials.proofs.QueueLaws.{held_count, start-held}
 
 -- ---- what a writer left at the head of an array is the answer's
@@ -52,7 +50,7 @@ answer-done a before r next last put-it low room =
     }
 
 -- a step that ends the run, then the last line
-pub last_done : (s : TrialStage) (letter number value most n end : ℕ) (before bytes after : List ℕ) → length before ≡ most_bytes → n ≤ 0 + 44 → end ≤ n + 21
+pub last_done : (s : Option TrialSite) (letter number value most n end : ℕ) (before bytes after : List ℕ) → length before ≡ most_bytes → n ≤ 0 + 44 → end ≤ n + 21
     → PutDone (printed letter (outcome number value)) before 0 bytes n → PutDone (last_line most) bytes n after end
     → AnswerDone (last_answered (stage_of s) letter (outcome number value) most) (record { stage = s; bytes = after; length = end; last = true })
 last_done s letter number value most n end before bytes after room h k p q =
@@ -74,9 +72,9 @@ module _ (t : ℕ) where
     number_is = is
 
     pub plan-begun : (trial : TrialSite) → number ≡ 0 → trial_of trial ≡ first_trial interval rate t
-        → AnswerDone (answer_plan true interval rate t) (record { stage = record { begun = true; trial = trial }; bytes = replicate 65 0; length = 0; last = false })
+        → AnswerDone (answer_plan true interval rate t) (record { stage = Some trial; bytes = replicate 65 0; length = 0; last = false })
     plan-begun trial z e =
-        let r : TrialAnswer = record { stage = record { begun = true; trial = trial }; bytes = replicate 65 0; length = 0; last = false } in
+        let r : TrialAnswer = record { stage = Some trial; bytes = replicate 65 0; length = 0; last = false } in
         let is : answer_plan true interval rate t ≡ record { next = begun (first_trial interval rate t); printed = []; last = false } =
         cond-true _ _ _ (eq-eqb (plan_refusal interval rate t) 0 (sym number_is ∙ z)) in
         subst (λ (a : Answered Stage). AnswerDone a r) (sym is) (answer-done _ (replicate 65 0) r (ap begun e) refl (put-done-none _ 0) (omega arith) refl)
@@ -87,24 +85,7 @@ module _ (t : ℕ) where
         cond-false _ _ _ (ne_eqb (plan_refusal interval rate t) 0 (λ e. z (number_is ∙ e))) ∙ ap plan_refused (sym number_is) in
         subst (λ (a : Answered Stage). AnswerDone a r) (sym is) d
 
--- ---- a course
-module _ (c : TrialCourse) (r : TrialAnswer) where
-  -- that is over: the step that ended it, then the last line
-  pub course-over : (most : ℕ) → c.over ≡ true → most ≡ longest (trial_of c.trial)
-      → AnswerDone (last_answered (begun (trial_of c.trial)) c.letter (outcome c.number c.value) most) r → AnswerDone (answer_course (course_of c)) r
-  course-over most e m d =
-      let step = outcome c.number c.value in
-      let is : answer_course (course_of c) ≡ last_answered (begun (trial_of c.trial)) c.letter step most =
-      ap answer_course (cond-true _ _ _ e) ∙ ap (last_answered (begun (trial_of c.trial)) c.letter step) (sym m) in
-      subst (λ (a : Answered Stage). AnswerDone a r) (sym is) d
-
-  -- that goes on: the tick's line
-  pub course-on : c.over ≡ false → AnswerDone (record { next = begun (trial_of c.trial); printed = tick_line (world_of c.trial.site); last = false }) r
-      → AnswerDone (answer_course (course_of c)) r
-  unfolding trial_of
-  course-on e d = subst (λ (a : Answered Stage). AnswerDone a r) (sym (ap answer_course (cond-false _ _ _ e))) d
-
--- a tick's line that is bad, one after the last tick, and one that begins a tick
+-- ---- a tick's line that is bad, one after the last tick, and one that begins a tick
 module _ (t : TrialSite) (good : Bool) (pages blocks packets : ℕ) where
   pub tick-bad : good ≡ false → tick_course good pages blocks packets (trial_of t) ≡ ended (trial_of t) question_mark (outcome out_of_range 0)
   tick-bad e = rw e
@@ -116,39 +97,6 @@ module _ (t : TrialSite) (good : Bool) (pages blocks packets : ℕ) where
   pub tick-good : good ≡ true → t.tick < most_number → tick_course good pages blocks packets (trial_of t) ≡ (tick pages blocks packets).course (trial_of t)
   unfolding trial_of
   tick-good e h = cond-true _ _ _ (join good (ltb t.tick most_number) e (lt-ltb t.tick most_number h))
-
--- ---- a line, by the stage
-module _ (s : TrialStage) (l : Line) (good : Bool) (r : TrialAnswer) (row : good ≡ is_row_kept l) where
-  abbrev row-answer : Bool → Answered Stage
-  row-answer b = answer_row (cond b (begun (trial_of s.trial)) unbegun) good l.lead.value l.first.value l.second.value
-
-  row-answer-is : (b : Bool) (e : s.begun ≡ b) → trial_program.answer_kept (stage_of s) l ≡ row-answer b
-  row-answer-is b e = λ i. answer_row (cond (e i) (begun (trial_of s.trial)) unbegun) (sym row i) l.lead.value l.first.value l.second.value
-
-  pub answer-tick : (c : TrialCourse) → s.begun ≡ true → course_of c ≡ tick_course good l.lead.value l.first.value l.second.value (trial_of s.trial)
-      → AnswerDone (answer_course (course_of c)) r → AnswerDone (trial_program.answer_kept (stage_of s) l) r
-  answer-tick c e is d = subst (λ (a : Answered Stage). AnswerDone a r) (ap answer_course is ∙ sym (row-answer-is true e)) d
-
-  pub answer-bad : s.begun ≡ false → good ≡ false → AnswerDone (plan_refused out_of_range) r → AnswerDone (trial_program.answer_kept (stage_of s) l) r
-  answer-bad e g d =
-      let is : row-answer false ≡ plan_refused out_of_range = ap (λ (b : Bool). answer_plan b l.lead.value l.first.value l.second.value) g in
-      subst (λ (a : Answered Stage). AnswerDone a r) (sym (row-answer-is false e ∙ is)) d
-
-  pub answer-good : s.begun ≡ false → good ≡ true → AnswerDone (answer_plan true l.lead.value l.first.value l.second.value) r
-      → AnswerDone (trial_program.answer_kept (stage_of s) l) r
-  answer-good e g d =
-      let is : row-answer false ≡ answer_plan true l.lead.value l.first.value l.second.value
-      = ap (λ (b : Bool). answer_plan b l.lead.value l.first.value l.second.value) g in
-      subst (λ (a : Answered Stage). AnswerDone a r) (sym (row-answer-is false e ∙ is)) d
-
--- ---- the end of the input
-module _ (st : TrialStage) (s t : List ℕ) (at n : ℕ) where
-  pub finish-begun : (most : ℕ) → st.begun ≡ true → most ≡ longest (trial_of st.trial) → PutDone (last_line most) s at t n → PutDone (finished (stage_of st)) s at t n
-  finish-begun most e m d =
-      subst (λ (bs : List ℕ). PutDone bs s at t n) (ap last_line m ∙ sym (ap finished (cond-true _ _ _ e))) d
-
-  pub finish-unbegun : st.begun ≡ false → PutDone (last_line 0) s at t n → PutDone (finished (stage_of st)) s at t n
-  finish-unbegun e d = subst (λ (bs : List ℕ). PutDone bs s at t n) (sym (ap finished (cond-false _ _ _ e))) d
 
 -- ---- what is kept of a line gives the answer of the line: the numbers of a row are its own, and of another line they do not matter
 same_answer : (s : Stage) (good : Bool) (a b c a' b' c' : ℕ) → (good ≡ true → (a ≡ a') × (b ≡ b') × (c ≡ c')) → answer_row s good a b c ≡ answer_row s good a' b' c'

@@ -1,4 +1,5 @@
 -- The bounds of reading, of ACKs and of takes are enough: each turn uses up what the bound counts. Assumes nothing.
+use Rattle.std.specs.Prelude.{Result, Err}
 use Prim.Native.Nat.{ℕ, suc, ◌-◌, ◌<◌, min}
 use mathlib.Core.Path.{◌≡◌, refl, ap, ◌∙◌}
 use mathlib.Core.Bool.{Bool, true, false, cond}
@@ -8,7 +9,8 @@ use lib.Dec.{eqb}
 use lib.ListN.{length, take, replicate, length-drop, length-take}
 use borrow.Author.Tests.{eqb-true, eqb-false, not-true}
 use Rattle.records.specs.declared.Record.{Record}
-use Rattle.records.specs.declared.Record.TheVariants.{Refused}
+use Rattle.records.specs.declared.Unread.{Unread}
+use Rattle.records.specs.declared.Unread.TheVariants.{Refused}
 use Rattle.records.specs.declared.Reader.{Reader}
 use Rattle.records.specs.declared.Reader.TheVariants as reader
 use Rattle.records.specs.Kind.{record_length}
@@ -41,10 +43,10 @@ use Rattle.trials.proofs.PartLaws.{bound-enough, bound-done}
 use Rattle.trials.proofs.QueueLaws.{held_count, step-take}
 
 -- ---- a record that is accepted uses bytes
-abbrev Uses : Record → Type 0
+abbrev Uses : Result Record Unread → Type 0
 Uses r = number_of (answer_of r) ≡ 0 → 0 < used_of (answer_of r)
 
-uses-refused : (n : ℕ) → (n ≡ 0 → ⊥) → Uses (Refused n)
+uses-refused : (n : ℕ) → (n ≡ 0 → ⊥) → Uses (Err (Refused n))
 uses-refused n h e = absurd (h e)
 
 uses-read : (reader : Reader) (u : ℕ) (s : List ℕ) → Uses (read_record reader u s)
@@ -64,10 +66,10 @@ ack-uses : (p : Primary) (bytes : List ℕ) → number_of (ack_reply p bytes).an
 unfolding ack_reply ack_judged
 ack-uses p bytes = go (primary_ok p) (protected p)
   where
-    read : Record
+    read : Result Record Unread
     read = read_record reader.Primary p.settings.u bytes
 
-    go : (a b : Bool) → Uses (cond a (cond b (unless_refused (ack_refusal p read) read) (Refused wrong_mode)) (Refused out_of_range))
+    go : (a b : Bool) → Uses (cond a (cond b (unless_refused (ack_refusal p read) read) (Err (Refused wrong_mode))) (Err (Refused out_of_range)))
     go false b = uses-refused out_of_range (λ e. omega arith)
     go true false = uses-refused wrong_mode (λ e. omega arith)
     go true true = unless-cases (ack_refusal p read) read Uses (λ z. uses-read reader.Primary p.settings.u bytes) (λ z. uses-refused (ack_refusal p read) z)

@@ -1,12 +1,12 @@
 -- What the code keeps of a trial, after a call of the ends. Assumes nothing.
 use Prim.Native.Nat.{ℕ, ◌+◌, ◌-◌, max}
-use mathlib.Core.Path.{◌≡◌, refl, sym, ap, ap₂, ◌∙◌}
-use mathlib.Core.Bool.{Bool, true, false, cond}
+use mathlib.Core.Path.{◌≡◌, sym, ap, ap₂, ◌∙◌}
+use mathlib.Core.Bool.{Bool, true, false}
 use mathlib.Core.List.{List, [], ◌∷◌, ◌++◌}
-use native.Mathlib.Omega.{arith}
 use lib.ListN.{take, drop, get_or}
 use lib.Seq.{get_or-take}
 use borrow.Author.Tests.{eq-eqb, ne_eqb}
+use Rattle.std.specs.Prelude.{None, Some}
 use Rattle.queue.specs.declared.Queue.{Queue}
 use Rattle.rules.specs.World.{World, Call}
 use Rattle.rules.specs.World as call
@@ -17,38 +17,14 @@ use Rattle.script.specs.Command.{letter_k}
 use Rattle.script.specs.Pair.{Done, done}
 use Rattle.script.specs.Site.{world_of, done_of}
 use Rattle.trials.specs.declared.TrialSite.{TrialSite}
-use Rattle.trials.specs.declared.TrialCourse.{TrialCourse}
-use Rattle.trials.specs.Trial.{Trial, Course, and_then, with_world, with_sent, with_taken}
+use Rattle.trials.specs.Trial.{Trial, Course, with_world, with_sent, with_taken}
 use Rattle.trials.specs.Trial as course
-use Rattle.trials.specs.Part.{unless_refused, must_note, must, quiet}
+use Rattle.trials.specs.Part.{Part, unless_refused, must_note, must, quiet}
 use Rattle.trials.specs.Tick.{detectors, taken_over}
 use Rattle.trials.specs.Waits.{neither, on_packets}
-use Rattle.trials.specs.Site.{trial_of, course_of, kept_with}
+use Rattle.trials.specs.Site.{trial_of, kept_with, turn}
 use Rattle.trials.proofs.QueueLaws.{held_count, step-queue, step-packet, step-take, step-take-high}
 use Rattle.trials.proofs.CountLaws.{taken-first}
-
--- ---- by whether the trial is over
-module _ (c : TrialCourse) (f : Trial → Course) where
-  pub over-stays : c.over ≡ true → course_of c ≡ and_then (course_of c) f
-  over-stays e = rw e
-
-  pub goes_on : c.over ≡ false → and_then (course_of c) f ≡ f (trial_of c.trial)
-  goes_on e = rw e
-
-  -- one that goes on is not over
-  pub not-over : (u : Trial) → course_of c ≡ course.on u → c.over ≡ false
-  not-over u e = by c.over refl e
-    where
-      never : (v : Trial) (o : Outcome) → course.ended v c.letter o ≡ course.on u → ⊥
-      never v o q = let z : ◌≡◌ {A = ℕ} 0 1 = cc in omega arith
-
-      by : (b : Bool) → c.over ≡ b → cond b (course.ended (trial_of c.trial) c.letter (outcome c.number c.value)) (course.on (trial_of c.trial)) ≡ course.on u → c.over ≡ false
-      by true o q = absurd (never (trial_of c.trial) (outcome c.number c.value) q)
-      by false o q = o
-
-  -- where there is nothing to do
-  pub on-stays : c.over ≡ false → f (trial_of c.trial) ≡ course.on (trial_of c.trial) → course_of c ≡ and_then (course_of c) f
-  on-stays e n = rw e (sym n)
 
 -- ---- a call that neither sends nor takes a packet leaves their count
 module _ (s : Site) (c : Call) (other : on_packets c ≡ neither) where
@@ -60,33 +36,31 @@ module _ (s : Site) (c : Call) (other : on_packets c ≡ neither) where
   done-count d e = site-count d.site (ap (λ (x : Done). x.next) e)
 
 -- ---- a call, by what the code has of it
-module _ (c : Trial → Call) (t next : TrialSite) (x : Course) where
-  pub must-done : (letter : ℕ) (d : Performed) → done_of d ≡ done (step (world_of t.site) (c (trial_of t))) → trial_of next ≡ with_world (trial_of t) (world_of d.site)
-      → x ≡ unless_refused letter (λ u. u) (trial_of next) (outcome d.number d.value) → x ≡ (must letter c).course (trial_of t)
+module _ (c : Trial → Call) (t : TrialSite) where
+  pub must-done : (letter : ℕ) (d : Performed) (x : Course) → done_of d ≡ done (step (world_of t.site) (c (trial_of t)))
+      → x ≡ unless_refused letter (λ u. u) (with_world (trial_of t) (world_of d.site)) (outcome d.number d.value) → x ≡ (must letter c).course (trial_of t)
   unfolding trial_of
-  must-done letter d e f g =
-      g
-      ∙ ap₂ (unless_refused letter (λ u. u)) (f ∙ ap (λ (x : Done). with_world (trial_of t) x.next) e) (ap (λ (x : Done). x.outcome) e)
+  must-done letter d x e f = f ∙ ap (λ (y : Done). unless_refused letter (λ u. u) (with_world (trial_of t) y.next) y.outcome) e
 
-  pub quiet-done : (s : Site) → world_of s ≡ (step (world_of t.site) (c (trial_of t))).next → trial_of next ≡ with_world (trial_of t) (world_of s)
-      → x ≡ course.on (trial_of next) → x ≡ (quiet c).course (trial_of t)
+  pub quiet-done : (next : TrialSite) (s : Site) → world_of s ≡ (step (world_of t.site) (c (trial_of t))).next → trial_of next ≡ with_world (trial_of t) (world_of s)
+      → course.on (trial_of next) ≡ (quiet c).course (trial_of t)
   unfolding trial_of
-  quiet-done s e f g = g ∙ ap (λ (u : Trial). course.on u) (f ∙ ap (with_world (trial_of t)) e)
+  quiet-done next s e f = ap (λ (u : Trial). course.on u) (f ∙ ap (with_world (trial_of t)) e)
 
 -- ---- two calls, one after the other
-module _ (t next : TrialSite) (x : Course) (one : Site) where
+module _ (t next : TrialSite) (one : Site) where
   pub detectors-done : (two : Site) → world_of one ≡ (step (world_of t.site) call.primary_tick).next → world_of two ≡ (step (world_of one) call.standby_tick).next
-      → trial_of next ≡ with_world (trial_of t) (world_of two) → x ≡ course.on (trial_of next) → x ≡ detectors.course (trial_of t)
+      → trial_of next ≡ with_world (trial_of t) (world_of two) → course.on (trial_of next) ≡ detectors.course (trial_of t)
   unfolding trial_of
-  detectors-done two e f g h =
+  detectors-done two e f g =
       let w : world_of two ≡ (step (step (world_of t.site) call.primary_tick).next call.standby_tick).next = f ∙ ap (λ (v : World). (step v call.standby_tick).next) e in
-      h ∙ ap (λ (u : Trial). course.on u) (g ∙ ap (with_world (trial_of t)) w)
+      ap (λ (u : Trial). course.on u) (g ∙ ap (with_world (trial_of t)) w)
 
-  pub takeover-done : (d : Performed) → world_of one ≡ (step (world_of t.site) (call.flush (world_of t.site).standby.state.slots.due)).next
+  pub takeover-done : (x : Course) (d : Performed) → world_of one ≡ (step (world_of t.site) (call.flush (world_of t.site).standby.state.slots.due)).next
       → world_of d.site ≡ (step (world_of one) call.activation).next → outcome d.number d.value ≡ (step (world_of one) call.activation).outcome
       → trial_of next ≡ with_world (trial_of t) (world_of d.site) → x ≡ course.ended (trial_of next) letter_k (outcome d.number d.value) → x ≡ taken_over.course (trial_of t)
   unfolding trial_of
-  takeover-done d e f o g h =
+  takeover-done x d e f o g h =
       let s = (step (world_of t.site) (call.flush (world_of t.site).standby.state.slots.due)).next in
       let w : world_of d.site ≡ (step s call.activation).next = f ∙ ap (λ (v : World). (step v call.activation).next) e in
       let a : outcome d.number d.value ≡ (step s call.activation).outcome = o ∙ ap (λ (v : World). (step v call.activation).outcome) e in
@@ -139,3 +113,11 @@ module _ (t : TrialSite) (d : Performed) (x : Course) (letter : ℕ) where
       ap (λ (i : ℕ). take i sent) k ∙ taken-first t.sent sent count (step-take-high (world_of t.site) port destination n) l in
       rw (eq-eqb _ _ n)
       (g ∙ (λ i. course.on (record { interval = t.interval; rate = t.rate; world = w i; tick = t.tick; sent = r i; most = m i })))
+
+-- ---- one turn, by whether the test holds
+module _ (test : Trial → Bool) (part : Part) (t : Trial) where
+  pub turn-made : {x : Course} → test t ≡ true → x ≡ part.course t → Some x ≡ turn test part t
+  turn-made e f = rw e (ap (λ (y : Course). Some y) f)
+
+  pub turn-none : test t ≡ false → None ≡ turn test part t
+  turn-none e = rw e

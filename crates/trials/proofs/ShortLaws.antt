@@ -1,4 +1,5 @@
 -- A read that is cut short leaves less than a record on the link. Assumes nothing.
+use Rattle.std.specs.Prelude.{Result, Ok, Err}
 use Prim.Native.Nat.{ℕ, ◌≤◌, ◌<◌}
 use mathlib.Core.Path.{◌≡◌, sym, subst}
 use mathlib.Core.Logic.{⊎_elim}
@@ -9,7 +10,9 @@ use lib.ListN.{length}
 use Rattle.lists.specs.LittleEndian.{le_at}
 use Rattle.lists.specs.Refusal.{Test, refusal}
 use Rattle.records.specs.declared.Record.{Record}
-use Rattle.records.specs.declared.Record.TheVariants.{Page, Block, State, Commit, Ack, Short, Refused}
+use Rattle.records.specs.declared.Unread.{Unread}
+use Rattle.records.specs.declared.Record.TheVariants.{Page, Block, State, Commit, Ack}
+use Rattle.records.specs.declared.Unread.TheVariants.{Short, Refused}
 use Rattle.records.specs.declared.Reader.{Reader}
 use Rattle.records.specs.declared.Reader.TheVariants.{Test as test}
 use Rattle.records.specs.Kind.{is_for, body_length, record_length}
@@ -39,15 +42,15 @@ refusal-low (t ∷ ts) l = by t.holds (refusal-low ts l.1)
     by false h = l.0
 
 module _ (s : Standby) (reply : ℕ) (bytes : List ℕ) where
-  refused-low : (r : Record) → ReadFacts (reader_of s) s.settings.u bytes r → record_refusal s reply r < cut_short
+  refused-low : (r : Result Record Unread) → ReadFacts (reader_of s) s.settings.u bytes r → record_refusal s reply r < cut_short
   unfolding page_refusal block_refusal state_refusal commit_refusal
-  refused-low (Page w e p c) f = refusal-low (page_tests s e p) (omega arith, (omega arith, (omega arith, tt)))
-  refused-low (Block e n c) f = refusal-low (block_tests s (free_for s) e n) (omega arith, (omega arith, (omega arith, (omega arith, (omega arith, tt)))))
-  refused-low (State e c) f = refusal-low (state_tests s e) (omega arith, (omega arith, tt))
-  refused-low (Commit w e p b c) f = refusal-low (commit_tests s reply e p b) (omega arith, (omega arith, (omega arith, (omega arith, tt))))
-  refused-low (Ack e c) f = omega arith
-  refused-low (Short n) f = omega arith
-  refused-low (Refused n) f = let h = refused-number s.settings.u n f in omega arith
+  refused-low (Ok (Page w e p c)) f = refusal-low (page_tests s e p) (omega arith, (omega arith, (omega arith, tt)))
+  refused-low (Ok (Block e n c)) f = refusal-low (block_tests s (free_for s) e n) (omega arith, (omega arith, (omega arith, (omega arith, (omega arith, tt)))))
+  refused-low (Ok (State e c)) f = refusal-low (state_tests s e) (omega arith, (omega arith, tt))
+  refused-low (Ok (Commit w e p b c)) f = refusal-low (commit_tests s reply e p b) (omega arith, (omega arith, (omega arith, (omega arith, tt))))
+  refused-low (Ok (Ack e c)) f = omega arith
+  refused-low (Err (Short n)) f = omega arith
+  refused-low (Err (Refused n)) f = let h = refused-number s.settings.u n f in omega arith
 
 -- ---- with U 64 no record has more than 76 bytes
 record-short : (kind : ℕ) → is_for test kind ≡ true → record_length 64 kind ≤ 76
@@ -57,10 +60,10 @@ record-short =
     (λ w. let n = width-range w in omega (arith, page-length 64 w)) (omega arith) (omega arith) (λ w. let n = width-range w in omega (arith, commit-length 64 w)) (omega arith)
 
 module _ (reader : Reader) (bytes : List ℕ) where
-  abbrev Left : Record → Type 0
+  abbrev Left : Result Record Unread → Type 0
   Left r = number_of (answer_of r) ≡ cut_short → length bytes ≤ 75
 
-  left-refused : (n : ℕ) → n < cut_short → Left (Refused n)
+  left-refused : (n : ℕ) → n < cut_short → Left (Err (Refused n))
   left-refused n h e = absurd (omega arith)
 
   left-short : (n : ℕ) → ShortFacts reader 64 bytes n → length bytes ≤ 75
@@ -79,10 +82,10 @@ pub read_short : (s : Standby) (l : ReadLent) (bytes : List ℕ) → s.settings.
 unfolding read_reply judged
 read_short s l bytes unit = go (standby_ok s && read_lent_ok s l) (is_receiving s.mode)
   where
-    read : Record
+    read : Result Record Unread
     read = read_record (reader_of s) s.settings.u bytes
 
-    go : (a b : Bool) → Left (reader_of s) bytes (cond a (cond b (unless_refused (record_refusal s l.reply read) read) (Refused wrong_mode)) (Refused out_of_range))
+    go : (a b : Bool) → Left (reader_of s) bytes (cond a (cond b (unless_refused (record_refusal s l.reply read) read) (Err (Refused wrong_mode))) (Err (Refused out_of_range)))
     go false b = left-refused (reader_of s) bytes out_of_range (omega arith)
     go true false = left-refused (reader_of s) bytes wrong_mode (omega arith)
     go true true =

@@ -1,21 +1,13 @@
 -- What the code keeps, as the definitions say it. Assumes nothing.
-use Rattle.std.specs.Prelude.{ℕ, Bool, cond, List, take, length}
+use Rattle.std.specs.Prelude.{ℕ, ◌≡◌, ◌<◌, Bool, cond, List, take, Option, Some, None, Result, Ok, Err}
 use Rattle.rules.specs.Step.{outcome}
 use Rattle.script.specs.declared.Site.{Site}
 use Rattle.script.specs.Site.{world_of}
 use Rattle.trials.specs.declared.TrialSite.{TrialSite}
-use Rattle.trials.specs.declared.TrialCourse.{TrialCourse}
-use Rattle.trials.specs.declared.TrialStage.{TrialStage}
-use Rattle.trials.specs.declared.Work.{Work}
-use Rattle.trials.specs.declared.Work.TheVariants.{Pages, Blocks, Packets}
-use Rattle.trials.specs.declared.Repeated.{Repeated}
-use Rattle.trials.specs.declared.Repeated.TheVariants.{Reading, Acks, Takes}
-use Rattle.trials.specs.Trial.{Trial, Course}
-use Rattle.trials.specs.Trial as course
+use Rattle.trials.specs.declared.TrialEnd.{TrialEnd}
+use Rattle.trials.specs.Trial.{Trial, Course, on, ended}
 use Rattle.trials.specs.Part.{Part}
-use Rattle.trials.specs.Tick.{write_page, write_block, send_packet, reads_on, read_turn, acks_unread, ack_turn, may_take, take_turn}
-use Rattle.trials.specs.Output.{Stage}
-use Rattle.trials.specs.Output as stage
+use Rattle.trials.specs.Output.{Stage, unbegun, begun}
 
 -- one tick is kept for each packet held
 unfoldable pub trial_of : TrialSite → Trial
@@ -33,34 +25,32 @@ trial_of t =
 abbrev pub kept_with : TrialSite → Site → List ℕ → ℕ → TrialSite
 kept_with t s sent most = record { interval = t.interval; rate = t.rate; site = s; tick = t.tick; sent = sent; most = most }
 
-abbrev pub course_of : TrialCourse → Course
-course_of c =
-    cond c.over (course.ended (trial_of c.trial) c.letter (outcome c.number c.value)) (course.on (trial_of c.trial))
+-- the step that ended it
+abbrev pub end_of : TrialEnd → Course
+end_of e = ended (trial_of e.trial) e.letter (outcome e.number e.value)
 
-abbrev pub stage_of : TrialStage → Stage
-stage_of s = cond s.begun (stage.begun (trial_of s.trial)) stage.unbegun
+abbrev pub course_of : Result TrialSite TrialEnd → Course
+course_of (Ok t) = on (trial_of t)
+course_of (Err e) = end_of e
 
--- ---- the parts that are made several times
+abbrev pub stage_of : Option TrialSite → Stage
+stage_of None = unbegun
+stage_of (Some t) = begun (trial_of t)
 
--- for each number
-abbrev pub work_part : Work → ℕ → Part
-work_part Pages = write_page
-work_part Blocks = write_block
-work_part Packets = send_packet
+-- ---- what is done several times in a tick
 
--- while a test holds
-abbrev pub turn_test : Repeated → Trial → Bool
-turn_test Reading = reads_on
-turn_test Acks = acks_unread
-turn_test Takes = may_take
+-- for each number: what it leaves of any trial, at the numbers below n, is the course of the part of that number
+abbrev pub DoesAt : ℕ → (TrialSite → ℕ → Result TrialSite TrialEnd → Type 0) → (ℕ → Part) → Type 0
+DoesAt n does part = (t : TrialSite) (i : ℕ) (r : Result TrialSite TrialEnd) → i < n → does t i r → course_of r ≡ (part i).course (trial_of t)
 
-abbrev pub turn_part : Repeated → Part
-turn_part Reading = read_turn
-turn_part Acks = ack_turn
-turn_part Takes = take_turn
+-- while a test holds: a turn gives nothing where the test doesn't hold, else the part's course
+abbrev pub turn_of : Result (Option TrialSite) TrialEnd → Option Course
+turn_of (Ok None) = None
+turn_of (Ok (Some t)) = Some (on (trial_of t))
+turn_of (Err e) = Some (end_of e)
 
--- as often as this and once more at the most
-abbrev pub turn_bound : Repeated → Trial → ℕ
-turn_bound Reading t = length t.world.link
-turn_bound Acks t = length t.world.acks
-turn_bound Takes t = t.world.primary.state.queue.count
+abbrev pub turn : (Trial → Bool) → Part → Trial → Option Course
+turn test part t = cond (test t) (Some (part.course t)) None
+
+abbrev pub Turns : (TrialSite → Result (Option TrialSite) TrialEnd → Type 0) → (Trial → Bool) → Part → Type 0
+Turns does test part = (t : TrialSite) (r : Result (Option TrialSite) TrialEnd) → does t r → turn_of r ≡ turn test part (trial_of t)

@@ -2,17 +2,18 @@
 ghost use Rattle.std.specs.Prelude.{◌≡◌, true, ◌+◌, ◌≤◌, length, replicate};
 ghost use Rattle.lists.specs.Part.{PutDone};
 ghost use Rattle.lists.specs.Refusal.{refusal};
+ghost use Rattle.records.specs.Number.{number_in};
 ghost use Rattle.rules.specs.Step.{outcome};
 ghost use Rattle.trials.specs.Output.{unbegun, last_answered, plan_tests, plan_refused, answer_plan, tick_course, answer_course, trial_program, finished};
 ghost use Rattle.trials.specs.Answer.{AnswerDone};
-ghost use Rattle.trials.specs.Site.{trial_of, course_of, stage_of};
+ghost use Rattle.trials.specs.Trial.{on};
+ghost use Rattle.trials.specs.Site.{trial_of, end_of, course_of, stage_of};
 
 use crate::counts::longest_of;
-use crate::courses::ending;
 use crate::printing::{put_last, put_tick};
 use crate::ticks::tick;
-use crate::{TrialAnswer, TrialCourse, TrialSite, TrialStage};
-use records::number::{NO_PLAN, OUT_OF_RANGE};
+use crate::{TrialAnswer, TrialCourse, TrialEnd, TrialSite, TrialStage};
+use records::refusal::Refusal;
 use script::Site;
 use script::printing::print;
 use settings::MOST_PACKETS;
@@ -40,43 +41,35 @@ fn first_trial(interval: u64, rate: u64, site: Site) -> TrialSite
 pub fn unbegun_stage() -> TrialStage
     ensures { stage_of result ≡ unbegun }
 {
-    let site = script::sites::started();
-    let trial = first_trial(0, 0, site);
-    TrialStage {
-        begun: false,
-        trial,
-    }
+    None
 }
 
 // A step that ends the run, and the last line.
-fn last_answer(s: TrialStage, letter: u8, number: u64, value: u64, most: u64) -> TrialAnswer
-    ensures { AnswerDone (last_answered (stage_of s) letter (outcome number value) most) result }
+fn last_answer(stage: TrialStage, letter: u8, number: u64, value: u64, most: u64) -> TrialAnswer
+    ensures { AnswerDone (last_answered (stage_of stage) letter (outcome number value) most) result }
 {
     let mut bytes = [0u8; 65];
     let n = print(&mut bytes, 0, letter, number, value);
-    let end = put_last(&mut bytes, n, most);
+    let length = put_last(&mut bytes, n, most);
     TrialAnswer {
-        stage: s,
+        stage,
         bytes,
-        length: end,
+        length,
         last: true,
     }
 }
 
-// The number of the first line's three numbers, by start's number: 1, then 27.
-fn plan_refusal(started: u64, interval: u64, rate: u64) -> u64
-    ensures { result ≡ refusal (plan_tests started interval rate) }
+// Whether the first line's three numbers are refused, by start's number: 1, then 27.
+fn check_plan(started: u64, interval: u64, rate: u64) -> Result<(), Refusal>
+    ensures { number_in result ≡ refusal (plan_tests started interval rate) }
 {
     if started != 0 {
-        return OUT_OF_RANGE;
+        return Err(Refusal::OutOfRange);
     }
-    if interval == 0 {
-        return NO_PLAN;
+    if interval == 0 || rate == 0 {
+        return Err(Refusal::NoPlan);
     }
-    if rate == 0 {
-        return NO_PLAN;
-    }
-    0
+    Ok(())
 }
 
 // A first line that is refused.
@@ -91,13 +84,10 @@ fn answer_plan(interval: u64, rate: u64, t: u32) -> TrialAnswer
     ensures { AnswerDone (answer_plan true interval rate t) result }
 {
     let started = script::sites::started_with(t);
-    let number = plan_refusal(started.number, interval, rate);
-    if number != 0 {
-        return plan_refused(number);
+    if let Err(refusal) = check_plan(started.number, interval, rate) {
+        return plan_refused(refusal.number());
     }
-    let site = started.site;
-    let trial = first_trial(interval, rate, site);
-    let stage = TrialStage { begun: true, trial };
+    let stage = Some(first_trial(interval, rate, started.site));
     TrialAnswer {
         stage,
         bytes: [0u8; 65],
@@ -106,37 +96,44 @@ fn answer_plan(interval: u64, rate: u64, t: u32) -> TrialAnswer
     }
 }
 
-// What is printed of a course.
-fn answer_course(c: TrialCourse) -> TrialAnswer
-    ensures { AnswerDone (answer_course (course_of c)) result }
+// What is printed of a tick that the trial went on after.
+fn answer_tick(t: TrialSite) -> TrialAnswer
+    ensures { AnswerDone (answer_course (on (trial_of t))) result }
 {
-    let trial = c.trial;
-    let over = c.over;
-    let stage = TrialStage { begun: true, trial };
-    if over {
-        let most = longest_of(trial);
-        return last_answer(stage, c.letter, c.number, c.value, most);
-    }
     let mut bytes = [0u8; 65];
-    let length = put_tick(&mut bytes, 0, trial.site);
+    let length = put_tick(&mut bytes, 0, t.site);
     TrialAnswer {
-        stage,
+        stage: Some(t),
         bytes,
         length,
         last: false,
     }
 }
 
+// What is printed of the step that ended the trial.
+fn answer_end(e: TrialEnd) -> TrialAnswer
+    ensures { AnswerDone (answer_course (end_of e)) result }
+{
+    last_answer(
+        Some(e.trial),
+        e.letter,
+        e.number,
+        e.value,
+        longest_of(e.trial),
+    )
+}
+
 // A tick's line.
 fn course_of(t: TrialSite, good: bool, pages: u64, blocks: u64, packets: u64) -> TrialCourse
     ensures { course_of result ≡ tick_course good pages blocks packets (trial_of t) }
 {
-    let begun = t.tick;
-    if !good {
-        return ending(t, b'?', OUT_OF_RANGE, 0);
-    }
-    if LAST_TICK <= begun {
-        return ending(t, b'?', OUT_OF_RANGE, 0);
+    if !good || LAST_TICK <= t.tick {
+        return Err(TrialEnd {
+            trial: t,
+            letter: b'?',
+            number: Refusal::OutOfRange.number(),
+            value: 0,
+        });
     }
     tick(t, pages, blocks, packets)
 }
@@ -145,20 +142,17 @@ fn course_of(t: TrialSite, good: bool, pages: u64, blocks: u64, packets: u64) ->
 pub fn answer(s: TrialStage, l: Line) -> TrialAnswer
     ensures { AnswerDone (trial_program.answer_kept (stage_of s) l) result }
 {
-    let begun = s.begun;
     let good = is_row(l);
-    let lead = l.lead;
-    let first = l.first;
-    let second = l.second;
-    if begun {
-        let trial = s.trial;
-        return answer_course(course_of(trial, good, lead.value, first.value, second.value));
+    let Some(trial) = s else {
+        if !good {
+            return plan_refused(Refusal::OutOfRange.number());
+        }
+        return answer_plan(l.lead.value, l.first.value, l.second.value as u32);
+    };
+    match course_of(trial, good, l.lead.value, l.first.value, l.second.value) {
+        Ok(next) => answer_tick(next),
+        Err(end) => answer_end(end),
     }
-    if !good {
-        return plan_refused(OUT_OF_RANGE);
-    }
-    let t = second.value;
-    answer_plan(lead.value, first.value, t as u32)
 }
 
 // At the end of the input: the last line, from at on; the position behind it.
@@ -167,10 +161,6 @@ pub fn put_finish(out: &mut [u8], at: usize, s: TrialStage) -> usize
     ensures put_done { PutDone (finished (stage_of s)) out.old at out.new result }
     ensures upper_bound { result ≤ at + 21 }
 {
-    let begun = s.begun;
-    if begun {
-        let most = longest_of(s.trial);
-        return put_last(out, at, most);
-    }
-    put_last(out, at, 0)
+    let most = s.map_or(0, longest_of);
+    put_last(out, at, most)
 }

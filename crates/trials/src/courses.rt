@@ -2,55 +2,42 @@
 ghost use Rattle.std.specs.Prelude.{◌≡◌};
 ghost use Rattle.rules.specs.Step.{outcome};
 ghost use Rattle.script.specs.Site.{world_of};
-ghost use Rattle.trials.specs.Trial.{on, ended, with_world};
+ghost use Rattle.trials.specs.Trial.{with_world};
 ghost use Rattle.trials.specs.Part.{unless_refused};
 ghost use Rattle.trials.specs.Site.{trial_of, course_of};
 
-use crate::{TrialCourse, TrialSite};
-use script::Site;
+use crate::{TrialCourse, TrialEnd, TrialSite};
+use script::{Performed, Site};
 
 // The trial with another site, which holds as many packets.
-pub(crate) fn with_site(t: TrialSite, s: Site) -> TrialSite
-    requires { s.primary.state.queue.count ≡ t.site.primary.state.queue.count }
-    ensures { trial_of result ≡ with_world (trial_of t) (world_of s) }
+#[tactic(auto, unfolding(crate::specs::Site::trial_of))]
+pub(crate) fn with_site(t: TrialSite, site: Site) -> TrialSite
+    requires { site.primary.state.queue.count ≡ t.site.primary.state.queue.count }
+    ensures { trial_of result ≡ with_world (trial_of t) (world_of site) }
 {
-    let mut next = t;
-    next.site = s;
-    next
+    TrialSite { site, ..t }
 }
 
-// The trial goes on.
-pub(crate) fn going(t: TrialSite) -> TrialCourse
-    ensures { course_of result ≡ on (trial_of t) }
+// A step ends the trial.
+pub(crate) fn ending(trial: TrialSite, letter: u8, step: Performed) -> TrialEnd
+    ensures { result ≡ record { trial = trial; letter = letter; number = step.number; value = step.value } }
 {
-    TrialCourse {
-        trial: t,
-        over: false,
-        letter: 0,
-        number: 0,
-        value: 0,
-    }
-}
-
-// The trial ends with a step.
-pub(crate) fn ending(t: TrialSite, letter: u8, number: u64, value: u64) -> TrialCourse
-    ensures { course_of result ≡ ended (trial_of t) letter (outcome number value) }
-{
-    TrialCourse {
-        trial: t,
-        over: true,
+    TrialEnd {
+        trial,
         letter,
-        number,
-        value,
+        number: step.number,
+        value: step.value,
     }
 }
 
-// "A step refused .. ends the run".
-pub(crate) fn unless_refused(t: TrialSite, letter: u8, number: u64, value: u64) -> TrialCourse
-    ensures { course_of result ≡ unless_refused letter (λ t. t) (trial_of t) (outcome number value) }
+// The trial after a step that neither sends nor takes a packet: "A step refused .. ends the run".
+pub(crate) fn unless_refused(t: TrialSite, letter: u8, step: Performed) -> TrialCourse
+    requires { step.site.primary.state.queue.count ≡ t.site.primary.state.queue.count }
+    ensures { course_of result ≡ unless_refused letter (λ u. u) (with_world (trial_of t) (world_of step.site)) (outcome step.number step.value) }
 {
-    if number == 0 {
-        return going(t);
+    let trial = with_site(t, step.site);
+    if step.number != 0 {
+        return Err(ending(trial, letter, step));
     }
-    ending(t, letter, number, value)
+    Ok(trial)
 }

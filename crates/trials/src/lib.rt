@@ -1,4 +1,4 @@
-// Trials of settings (document 02, Job 12): the two ends of `pair`, stepped tick by tick through the functions of `script`.
+// Trials of settings (document 02, Job 12): the two ends of `pair`, stepped tick by tick through functions of `script`.
 #![tactic(auto)]
 
 use script::Site;
@@ -21,53 +21,33 @@ pub struct TrialSite {
     pub site: Site,
     // the last tick begun, 0 before the first
     pub tick: u64,
-    // the first entries, one for each packet held, are the ticks in which these were sent; the others say nothing
+    // the first entries, one for each packet held, are the ticks in which these were sent; the others say nothing: an
+    // array beside the primary's queue, since that is what the rules have (rules/specs/PrimaryState.antt), and no heap
     pub sent: [u64; MOST_PACKETS],
     // the most ticks from a packet's sending to its take, of those taken
     pub most: u64,
 }
 
-// A trial that goes on or, where it is over, the letter, number and value of the step that ended it.
+// The step that ended a trial: its letter, number and value, and the trial after it.
 #[derive(Clone, Copy)]
-pub struct TrialCourse {
+pub struct TrialEnd {
     pub trial: TrialSite,
-    pub over: bool,
     pub letter: u8,
     pub number: u64,
     pub value: u64,
 }
 
-// What the guest does a given number of times in a tick.
-#[derive(Clone, Copy)]
-pub enum Work {
-    Pages,
-    Blocks,
-    Packets,
-}
+// A trial that goes on, or its end.
+pub type TrialCourse = Result<TrialSite, TrialEnd>;
 
-// What is done again and again in a tick.
-#[derive(Clone, Copy)]
-pub enum Repeated {
-    Reading,
-    Acks,
-    Takes,
-}
+// After one turn of what is done again and again: the trial, where there was anything to do, or its end.
+pub type Turn = Result<Option<TrialSite>, TrialEnd>;
 
-// After one turn of what is repeated: the trial, and whether there was anything to do.
-#[derive(Clone, Copy)]
-pub struct Turn {
-    pub course: TrialCourse,
-    pub more: bool,
-}
-
-// Before the first line, where no trial has begun, and after it.
-#[derive(Clone, Copy)]
-pub struct TrialStage {
-    pub begun: bool,
-    pub trial: TrialSite,
-}
+// The trial that has begun; before the first line there is none.
+pub type TrialStage = Option<TrialSite>;
 
 // A line's answer: what is kept after it, the bytes printed, at the head of an array, and whether it is the last.
+// An array with its length, and no Vec: a program's memory is fixed (docs/DECISIONS.md).
 #[derive(Clone, Copy)]
 pub struct TrialAnswer {
     pub stage: TrialStage,

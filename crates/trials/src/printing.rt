@@ -13,17 +13,12 @@ pub(crate) fn put_tick(out: &mut [u8], at: usize, s: Site) -> usize
     ensures put_done { PutDone (tick_line (world_of s)) out.old at out.new result }
     ensures upper_bound { result ≤ at + 63 }
 {
-    let p = s.primary;
-    let state = p.state;
-    let queue = state.queue;
-    let epoch = state.epoch;
-    let count = queue.count;
-    let waiting = state.waiting;
-    let a = put_number(out, at, epoch as u64);
+    let state = s.primary.state;
+    let a = put_number(out, at, state.epoch as u64);
     let b = put_byte(out, a, b' ');
-    let c = put_number(out, b, count as u64);
+    let c = put_number(out, b, state.queue.count as u64);
     let d = put_byte(out, c, b' ');
-    let e = put_number(out, d, waiting as u64);
+    let e = put_number(out, d, state.waiting as u64);
     put_byte(out, e, b'\n')
 }
 

@@ -1,150 +1,107 @@
 // The parts of a tick that are repeated: reading, ACKs and takes.
-ghost use Rattle.std.specs.Prelude.{◌≡◌, false, suc, ◌-◌, max, take, drop, get_or};
-ghost use Rattle.trials.specs.Trial.{on, and_then};
-ghost use Rattle.trials.specs.Part.{when, whilst, bounded};
-ghost use Rattle.trials.specs.Tick.{reads_on, read_turn, acks_unread, ack_turn, may_take, take_turn};
-ghost use Rattle.trials.specs.Site.{trial_of, course_of, kept_with, turn_test, turn_part, turn_bound};
+ghost use Rattle.std.specs.Prelude.{◌≡◌, suc, ◌-◌, Bool, max, take, drop, get_or};
+ghost use Rattle.trials.specs.Trial.{Trial};
+ghost use Rattle.trials.specs.Part.{Part, whilst};
+ghost use Rattle.trials.specs.Tick.{reads_on, read_turn, reading, acks_unread, ack_turn, acks, may_take, take_turn, takes};
+ghost use Rattle.trials.specs.Site.{trial_of, course_of, kept_with, turn_of, turn, Turns};
 
 use crate::counts::{most_with, without_first};
-use crate::courses::{ending, going, unless_refused, with_site};
-use crate::{Repeated, TrialCourse, TrialSite, Turn};
+use crate::courses::{ending, unless_refused};
+use crate::{TrialCourse, TrialSite, Turn};
 use records::CUT_SHORT;
-use records::number::NOTHING_FREE;
+use records::refusal::Refusal;
 use script::link::{acknowledge, in_link, read_link, unread_bytes};
 use script::{Site, primary_commands};
 
-// There is nothing to do.
-fn enough(t: TrialSite) -> Turn
-    ensures course_value { course_of result.course ≡ on (trial_of t) }
-    ensures more_value { result.more ≡ false }
-{
-    let course = going(t);
-    Turn {
-        course,
-        more: false,
-    }
-}
-
 // A record is read, where it has wholly come.
 fn read_one(t: TrialSite) -> Turn
-    ensures course_value { course_of result.course ≡ (when reads_on read_turn).course (trial_of t) }
-    ensures more_value { result.more ≡ reads_on (trial_of t) }
+    ensures { turn_of result ≡ turn reads_on read_turn (trial_of t) }
 {
-    let d = read_link(t.site);
-    let number = d.number;
-    let site = d.site;
-    if number == CUT_SHORT {
-        return enough(t);
+    let step = read_link(t.site);
+    if step.number == CUT_SHORT {
+        return Ok(None);
     }
-    let course = unless_refused(with_site(t, site), b'm', number, d.value);
-    Turn { course, more: true }
+    Ok(Some(unless_refused(t, b'm', step)?))
 }
 
 // An ACK is read, where one is unread.
 fn ack_one(t: TrialSite) -> Turn
-    ensures course_value { course_of result.course ≡ (when acks_unread ack_turn).course (trial_of t) }
-    ensures more_value { result.more ≡ acks_unread (trial_of t) }
+    ensures { turn_of result ≡ turn acks_unread ack_turn (trial_of t) }
 {
-    let before = t.site;
-    if unread_bytes(before) == 0 {
-        return enough(t);
+    if unread_bytes(t.site) == 0 {
+        return Ok(None);
     }
-    let d = acknowledge(before);
-    let site = d.site;
-    let course = unless_refused(with_site(t, site), b'a', d.number, d.value);
-    Turn { course, more: true }
+    Ok(Some(unless_refused(t, b'a', acknowledge(t.site))?))
 }
 
 // The trial after a take: the oldest packet's tick leaves.
-fn taken(t: TrialSite, s: Site) -> TrialSite
-    ensures value { result ≡ kept_with t s result.sent result.most }
+fn taken(t: TrialSite, site: Site) -> TrialSite
+    ensures value { result ≡ kept_with t site result.sent result.most }
     ensures sent_value { take 63 result.sent ≡ drop 1 t.sent }
     ensures most_value { result.most ≡ max t.most (t.tick - get_or t.sent 0 0) }
 {
-    let sent = t.sent;
-    let most = most_with(sent, t.tick, t.most);
-    let ticks = without_first(sent);
-    let mut next = t;
-    next.site = s;
-    next.sent = ticks;
-    next.most = most;
-    next
+    let sent = without_first(t.sent);
+    let most = most_with(t.sent, t.tick, t.most);
+    TrialSite {
+        site,
+        sent,
+        most,
+        ..t
+    }
 }
 
 // A packet is taken, where one may leave.
 fn take_one(t: TrialSite) -> Turn
-    ensures course_value { course_of result.course ≡ (when may_take take_turn).course (trial_of t) }
-    ensures more_value { result.more ≡ may_take (trial_of t) }
+    ensures { turn_of result ≡ turn may_take take_turn (trial_of t) }
 {
-    let d = primary_commands::take(t.site);
-    let number = d.number;
-    let site = d.site;
-    if number == NOTHING_FREE {
-        return enough(t);
+    let step = primary_commands::take(t.site);
+    if step.number == Refusal::NothingFree.number() {
+        return Ok(None);
     }
-    if number != 0 {
-        let mut next = t;
-        next.site = site;
-        let course = ending(next, b't', number, d.value);
-        return Turn { course, more: true };
+    if step.number != 0 {
+        let trial = TrialSite {
+            site: step.site,
+            ..t
+        };
+        return Err(ending(trial, b't', step));
     }
-    let course = going(taken(t, site));
-    Turn { course, more: true }
-}
-
-// One turn.
-fn turn(t: TrialSite, k: Repeated) -> Turn
-    ensures course_value { course_of result.course ≡ (when (turn_test k) (turn_part k)).course (trial_of t) }
-    ensures more_value { result.more ≡ turn_test k (trial_of t) }
-{
-    match k {
-        Repeated::Reading => read_one(t),
-        Repeated::Acks => ack_one(t),
-        Repeated::Takes => take_one(t),
-    }
-}
-
-// One turn fewer than are needed at the most.
-fn bound(t: TrialSite, k: Repeated) -> u64
-    ensures { result ≡ turn_bound k (trial_of t) }
-{
-    let site = t.site;
-    let p = site.primary;
-    let state = p.state;
-    let queue = state.queue;
-    let count = queue.count;
-    match k {
-        Repeated::Reading => in_link(site.linked) as u64,
-        Repeated::Acks => unread_bytes(site),
-        Repeated::Takes => count as u64,
-    }
+    Ok(Some(taken(t, step.site)))
 }
 
 // A turn, and n more at the most, while there is something to do.
-fn repeated(t: TrialSite, k: Repeated, n: u64) -> TrialCourse
-    ensures { course_of result ≡ (whilst (turn_test k) (turn_part k) (suc n)).course (trial_of t) }
+fn repeat<F: Fn(TrialSite) -> Turn>(t: TrialSite, n: u64, turn: F) -> TrialCourse
+    requires { F.IsAlwaysCallable turn }
+    ensures { (test : Trial → Bool) (part : Part) → Turns (F.post turn) test part → course_of result ≡ (whilst test part (suc n)).course (trial_of t) }
 {
-    let first = turn(t, k);
-    let mut course = first.course;
-    let mut more = first.more & !course.over;
+    let mut trial = t;
     let mut left = n;
-    while left > 0 && more {
-        let next = turn(course.trial, k);
-        course = next.course;
-        more = next.more & !course.over;
+    while let Some(next) = turn(trial)? {
+        trial = next;
+        if left == 0 {
+            return Ok(trial);
+        }
         left -= 1;
     }
-    course
+    Ok(trial)
 }
 
-// "reading", "ACKs", "takes".
-pub(crate) fn repeat(c: TrialCourse, k: Repeated) -> TrialCourse
-    ensures { course_of result ≡ and_then (course_of c) (bounded (λ u. suc (turn_bound k u)) (whilst (turn_test k) (turn_part k))).course }
+// "reading": all unread bytes, until they are cut short; each turn that goes on reads at least one.
+pub(crate) fn reading(t: TrialSite) -> TrialCourse
+    ensures { course_of result ≡ reading.course (trial_of t) }
 {
-    let over = c.over;
-    let t = c.trial;
-    if over {
-        return c;
-    }
-    repeated(t, k, bound(t, k))
+    repeat(t, in_link(t.site.linked) as u64, read_one)
+}
+
+// "ACKs", until none is unread.
+pub(crate) fn acks(t: TrialSite) -> TrialCourse
+    ensures { course_of result ≡ acks.course (trial_of t) }
+{
+    repeat(t, unread_bytes(t.site), ack_one)
+}
+
+// "takes", until 18.
+pub(crate) fn takes(t: TrialSite) -> TrialCourse
+    ensures { course_of result ≡ takes.course (trial_of t) }
+{
+    repeat(t, t.site.primary.state.queue.count as u64, take_one)
 }

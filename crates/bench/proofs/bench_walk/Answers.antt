@@ -1,20 +1,13 @@
-use Prim.Native.Nat.{◌-◌, ◌≤◌, ◌<◌}
+-- `bench::bench_walk` is safe: it counts no more pages than there are.
+use mathlib.Core.Path.{ap, ◌∙◌}
+use mathlib.Core.Logic.{inl}
 use native.Mathlib.Omega.{arith}
-use borrow.Author.Rules.{rules}
-use Rattle.marks.proofs.PlaceLaws.{Behind}
+use lib.ListN.{length}
+use Rattle.marks.proofs.MarkLaws.{count-le}
+use Rattle.marks.proofs.WalkLaws.{length-marked-pages}
 use Rattle.bench.proofs.bench_walk.Goals as goal
 
-pub loop-place-init : goal.loop-place-init
-loop-place-init c = (omega arith, c.marked_from-place.ensures.1)
-
-pub overflow_add-passed : goal.overflow_add-passed
-overflow_add-passed c = omega (arith, c.loop-place.invariant.0)
-
-pub marked_after-place-requires : goal.marked_after-place-requires
-marked_after-place-requires c = (c.loop-place-test.true, c.loop-place.invariant.1 c.loop-place-test.true)
-
-pub loop-place-smaller : goal.loop-place-smaller
-loop-place-smaller c = omega (arith, c.marked_after-place.ensures.0.up)
-
-pub loop-place-preserved : goal.loop-place-preserved
-loop-place-preserved c = (omega (arith, c.loop-place.invariant.0, c.marked_after-place.ensures.0.up), c.marked_after-place.ensures.1)
+pub count-requires-clause-fits : goal.count-requires-clause-fits
+count-requires-clause-fits c =
+    let a = c.args in
+    inl (omega (arith, ap length c.marked.ensures ∙ length-marked-pages a.marks.now a.m, count-le a.marks.now a.m))

@@ -1,35 +1,30 @@
-use mathlib.Core.Path.{◌≡◌, refl, sym, ◌∙◌}
+-- `marks::clear` meets its contract: the whole words are filled with 0, then the low bits of the next word are shifted out.
+use Prim.Native.Nat.{◌*◌}
+use mathlib.Core.Path.{◌≡◌, ap, ◌∙◌}
+use mathlib.Core.List.{◌++◌}
 use native.Mathlib.Omega.{arith}
-use lib.ListN.{length-set, length}
-use Rattle.marks.proofs.MarkLaws.{cleared-none}
-use Rattle.marks.proofs.WordLaws.{clear_whole, clear-last, clear-all}
+use borrow.Author.Rules.{rules}
+use lib.ListN.{length, drop}
+use Rattle.marks.specs.Mark.{cleared}
+use Rattle.marks.proofs.MarkLaws.{length-cleared}
+use Rattle.marks.proofs.WordLaws.{clear-words, clear-last, clear-all}
 use Rattle.marks.proofs.clear.Goals as goal
+use Rattle.marks.proofs.clear.Goals.{After-fill}
 
-pub loop-i-init : goal.loop-i-init
-loop-i-init c = (omega arith, refl, sym (cleared-none _))
+words : (c : After-fill) → c.fill.new.self ++ drop c.min-whole.result c.args.ws.now ≡ cleared c.args.ws.now (64 * c.min-whole.result)
+words c = clear-words c.args.ws.now c.min-whole.result c.fill.new.self (omega arith) (λ j. search rules) (c.fill.ensures.after (λ y e. e))
 
-pub loop-i-preserved : goal.loop-i-preserved
-loop-i-preserved c =
+pub returns-then-whole-ws : goal.returns-then-whole-ws
+returns-then-whole-ws c =
     let ws = c.args.ws.now in
-    let at = c.loop-i in
-    (omega arith, simp length-set at.invariant.1, rw at.invariant.2 (clear_whole ws at.i (λ j. (c.slice_known-1.given j).fits)))
+    let i = c.min-whole.result in
+    let done = words (goal.at.returns-then-whole-ws c).After-fill in
+    rw done (clear-last ws i c.args.m (omega (arith, ap length done ∙ length-cleared ws (64 * i))) (λ j. search rules))
 
-pub shape_of-ws-then-ws-whole : goal.shape_of-ws-then-ws-whole
-shape_of-ws-then-ws-whole c = c.loop-i.invariant.1
-
-pub returns-then-ws-whole : goal.returns-then-ws-whole
-returns-then-ws-whole c =
-    let a = c.args in
-    let at = c.loop-i in
-    let e : at.i ≡ length a.ws.now = omega arith in
-    rw e at at.invariant.2 ∙ clear-all a.ws.now a.m (omega arith) (λ j. (c.slice_known-1.given j).fits)
-
-pub shape_of-ws : goal.shape_of-ws
-shape_of-ws c = simp length-set c.loop-i.invariant.1
-
-pub returns : goal.returns
-returns c =
-    let a = c.args in
-    let at = c.loop-i in
-    let e : at.i ≡ c.least-whole.result = omega arith in
-    rw (rw e at at.invariant.2) (clear-last a.ws.now c.least-whole.result a.m (omega arith) (λ j. (c.slice_known-1.given j).fits))
+pub returns-else-whole-ws : goal.returns-else-whole-ws
+returns-else-whole-ws c =
+    let ws = c.args.ws.now in
+    let i = c.min-whole.result in
+    let done = words (goal.at.returns-else-whole-ws c).After-fill in
+    let all : i ≡ length ws = omega (arith, ap length done ∙ length-cleared ws (64 * i)) in
+    done ∙ rw all (clear-all ws c.args.m (omega arith) (λ j. search rules))

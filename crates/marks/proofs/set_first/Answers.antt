@@ -1,41 +1,36 @@
-use Prim.Native.Nat.{◌%◌}
-use mathlib.Core.Path.{◌≡◌, refl, sym, ◌∙◌}
+-- `marks::set_first` meets its contract: the whole words are filled with ones, then the low bits of the next word are set.
+use Prim.Native.Nat.{◌%◌, ◌*◌}
+use mathlib.Core.Path.{◌≡◌, ap, ◌∙◌}
+use mathlib.Core.List.{◌++◌}
 use native.Mathlib.Omega.{arith}
 use lib.Pow.{pow_pos}
-use lib.ListN.{length-set, length}
+use borrow.Author.Rules.{rules}
+use lib.ListN.{length, drop}
+use Rattle.marks.specs.Mark.{all_marked}
 use Rattle.marks.proofs.BitLaws.{shifted_one}
-use Rattle.marks.proofs.SetLaws.{all-marked-none}
-use Rattle.marks.proofs.WordLaws.{set-whole, set_last, set_all}
+use Rattle.marks.proofs.SetLaws.{length-all-marked}
+use Rattle.marks.proofs.WordLaws.{set-words, set_last, set_all}
 use Rattle.marks.proofs.set_first.Goals as goal
+use Rattle.marks.proofs.set_first.Goals.{After-fill}
 
-pub loop-i-init : goal.loop-i-init
-loop-i-init c = (omega arith, refl, sym (all-marked-none _))
-
-pub loop-i-preserved : goal.loop-i-preserved
-loop-i-preserved c =
-    let ws = c.args.ws.now in
-    let at = c.loop-i in
-    (omega arith, simp length-set at.invariant.1, rw at.invariant.2 (set-whole ws at.i (c.slice_known-1.given at.i).fits))
-
-pub shape_of-ws-then-ws-whole : goal.shape_of-ws-then-ws-whole
-shape_of-ws-then-ws-whole c = c.loop-i.invariant.1
-
-pub returns-then-ws-whole : goal.returns-then-ws-whole
-returns-then-ws-whole c =
-    let a = c.args in
-    let at = c.loop-i in
-    let e : at.i ≡ length a.ws.now = omega arith in
-    rw e at at.invariant.2 ∙ set_all a.ws.now a.m (omega arith)
+words : (c : After-fill) → c.fill.new.self ++ drop c.min-whole.result c.args.ws.now ≡ all_marked c.args.ws.now (64 * c.min-whole.result)
+words c = set-words c.args.ws.now c.min-whole.result c.fill.new.self (omega arith) (λ j. search rules) (c.fill.ensures.after (λ y e. e))
 
 pub overflow_sub-ws : goal.overflow_sub-ws
 overflow_sub-ws c = rw (shifted_one (c.args.m % 64) (omega arith)) (pow_pos _)
 
-pub shape_of-ws : goal.shape_of-ws
-shape_of-ws c = simp length-set c.loop-i.invariant.1
+pub returns-then-whole-ws : goal.returns-then-whole-ws
+returns-then-whole-ws c =
+    let ws = c.args.ws.now in
+    let i = c.min-whole.result in
+    let done = words (goal.at.returns-then-whole-ws c).After-fill in
+    let size = ap length done ∙ length-all-marked ws (64 * i) in
+    rw done (set_last ws i c.args.m (omega (arith, size)) (omega (arith, size)))
 
-pub returns : goal.returns
-returns c =
-    let a = c.args in
-    let at = c.loop-i in
-    let e : at.i ≡ c.least-whole.result = omega arith in
-    rw (rw e at at.invariant.2) (set_last a.ws.now c.least-whole.result a.m (omega arith) (omega arith))
+pub returns-else-whole-ws : goal.returns-else-whole-ws
+returns-else-whole-ws c =
+    let ws = c.args.ws.now in
+    let i = c.min-whole.result in
+    let done = words (goal.at.returns-else-whole-ws c).After-fill in
+    let all : i ≡ length ws = omega (arith, ap length done ∙ length-all-marked ws (64 * i)) in
+    done ∙ rw all (set_all ws c.args.m (omega arith))

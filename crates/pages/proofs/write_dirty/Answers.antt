@@ -1,80 +1,61 @@
-use mathlib.Core.Path.{◌≡◌, refl, ◌∙◌}
+use mathlib.Core.Path.{◌≡◌, ◌∙◌, sym}
+use mathlib.Core.List.{[], ◌∷◌, ◌++◌, append_assoc, append-nil}
 use Prim.Native.Nat.{◌+◌, ◌*◌, ◌^◌, ◌≤◌, ◌<◌}
 use native.Mathlib.Omega.{arith}
 use lib.ListN.{length}
-use Rattle.lists.specs.Part.{PutDone}
-use Rattle.lists.specs.Page.{page}
+use Rattle.lists.proofs.PartLaws.{put-done-none}
 use Rattle.lists.proofs.PageLaws.{page-end}
 use Rattle.records.specs.Kind.{page_kind, number_width, record_length}
-use Rattle.records.specs.Write.{page_record}
-use Rattle.pages.proofs.DirtyLaws.{writing_start, writing-room, writing_more, writing-end}
+use Rattle.marks.specs.Next.{marked_pages}
+use Rattle.marks.proofs.WalkLaws.{PageOf, page-of}
+use Rattle.pages.proofs.DirtyLaws.{next-room, next-done, all-done}
 use Rattle.pages.proofs.write_dirty.Goals as goal
-use Rattle.pages.proofs.write_dirty.Goals.{In-loop-place, Joined-wide, then-wide, else-wide}
+use Rattle.pages.proofs.write_dirty.Goals.{In-Some}
 
-pub marked_from-place-requires : goal.marked_from-place-requires
-marked_from-place-requires c = tt
+pub loop-page-init : goal.loop-page-init
+loop-page-init c = (sym (c.into_iter-page-iterator.ensures.into_iter_gives ∙ c.marked-page-items.ensures), put-done-none c.args.out.now 0)
 
-pub loop-place-init : goal.loop-place-init
-loop-place-init c =
+-- the page of a turn
+this : (c : In-Some) → PageOf c.args.dirty.now c.args.m c.loop-page.yielded c.in-Some.page
+this c = page-of c.args.dirty.now c.args.m c.loop-page.yielded c.next.new.self c.in-Some.page (rw c.in-Some.ensures.steps at c.loop-page.invariant.0)
+
+-- its record has room, in the width that is asked for
+requires : (c : In-Some) → let a = c.args in let at = c.loop-page in
+    (at.at + record_length a.u (page_kind a.wide) ≤ length at.out) × (c.in-Some.page * a.u + a.u ≤ length a.memory.now) × (c.in-Some.page < 256 ^ number_width a.wide) × (a.u + (4 + number_width a.wide) < 2 ^ 16)
+requires c =
     let a = c.args in
-    let first = c.marked_from-place in
-    (refl, writing_start a.memory.now a.dirty.now a.wide a.u a.epoch a.m a.out.now first.result.page first.ensures.0, first.ensures.1)
-
--- the next record has room, in the width that is asked for
-module _ (c : In-loop-place) where
-  next-requires : let start = c in let a = start.args in let at = c.loop-place in
-      (at.at + record_length a.u (page_kind a.wide) ≤ length at.out) × (at.place.page * a.u + a.u ≤ length a.memory.now) × (at.place.page < 256 ^ number_width a.wide) × (a.u + (4 + number_width a.wide) < 2 ^ 16)
-  next-requires =
-      let start = c in
-      let a = start.args in
-      let at = c.loop-place in
-      let l = c.loop-place-test.true in
-      let e = page-end at.place.page a.m a.u l in
-      let room = writing-room a.memory.now a.dirty.now a.wide a.u a.epoch a.m a.out.now start.requires.0 start.requires.3 at.out at.at at.place.page at.invariant.1 l in
-      (omega (arith, room, at.invariant.0), omega (arith, e, start.requires.0), omega (arith, l, start.requires.1), start.requires.2)
+    let at = c.loop-page in
+    let page = this c in
+    let room = next-room a.memory.now a.dirty.now a.wide a.u a.epoch a.m a.out.now c.requires.0 c.requires.3 at.yielded at.out at.at c.in-Some.page page at.invariant.1 in
+    (omega (arith, room), omega (arith, page-end c.in-Some.page a.m a.u page.within, c.requires.0), omega (arith, page.within, c.requires.1), c.requires.2)
 
 pub write_one-at-requires : goal.write_one-at-requires
-write_one-at-requires c = rw c.if-wide.true at (next-requires (goal.at.write_one-at-requires c).In-loop-place)
+write_one-at-requires c = rw c.if-wide.true at (requires (goal.at.write_one-at-requires c).In-Some)
 
 pub write_one-at-requires-else-wide : goal.write_one-at-requires-else-wide
-write_one-at-requires-else-wide c = rw c.if-wide.false at (next-requires (goal.at.write_one-at-requires-else-wide c).In-loop-place)
+write_one-at-requires-else-wide c = rw c.if-wide.false at (requires (goal.at.write_one-at-requires-else-wide c).In-Some)
 
--- whichever arm it was, the record is written in the width that is asked for
-one-done : (c : Joined-wide) → let a = c.args in let at = c.loop-place in
-    (length c.if-wide.out ≡ length at.out) × PutDone (page_record a.wide a.epoch at.place.page (page a.u a.memory.now at.place.page)) at.out at.at c.if-wide.out c.if-wide.at
-one-done c =
-    elim c.if-wide.branch [
-      | then-wide w ↦ rw (w.out-is, w.at-is, w.if-wide.true) (w.write_one-at.auto.out, w.write_one-at.ensures)
-      | else-wide w ↦ rw (w.out-is, w.at-is, w.if-wide.false) (w.write_one-at-else-wide.auto.out, w.write_one-at-else-wide.ensures)
-    ]
+-- the pages so far, with this one
+more : (c : In-Some) → marked_pages c.args.dirty.now c.args.m ≡ (c.loop-page.yielded ++ c.in-Some.page ∷ []) ++ c.next.new.self
+more c = rw append_assoc (rw c.in-Some.ensures.steps at c.loop-page.invariant.0)
 
-pub marked_after-place-requires : goal.marked_after-place-requires
-marked_after-place-requires c =
-    let l = c.loop-place-test.true in
-    (l, c.loop-place.invariant.2 l)
+pub loop-page-preserved-then-wide : goal.loop-page-preserved-then-wide
+loop-page-preserved-then-wide c =
+    let a = c.args in
+    let at = c.loop-page in
+    let turn = (goal.at.loop-page-preserved-then-wide c).In-Some in
+    (more turn, next-done a.memory.now a.dirty.now a.wide a.u a.epoch a.m a.out.now c.requires.0 c.requires.3 at.yielded at.out at.at c.in-Some.page (this turn) at.invariant.1 _ _ (rw c.if-wide.true c.write_one-at.ensures))
 
-pub loop-place-smaller : goal.loop-place-smaller
-loop-place-smaller c = omega (arith, c.marked_after-place.ensures.0.up)
-
-pub loop-place-preserved : goal.loop-place-preserved
-loop-place-preserved c =
-    let start = c in
-    let a = start.args in
-    let at = c.loop-place in
-    let one = one-done (goal.at.loop-place-preserved c).Joined-wide in
-    let next = c.marked_after-place in (
-      one.0 ∙ at.invariant.0,
-      writing_more a.memory.now a.dirty.now a.wide a.u a.epoch a.m a.out.now start.requires.0 start.requires.3 at.out at.at at.place.page at.invariant.1 c.if-wide.out c.if-wide.at next.result.page
-          c.loop-place-test.true one.1 next.ensures.0,
-      next.ensures.1,
-    )
-
-pub shape_of-out : goal.shape_of-out
-shape_of-out c = c.loop-place.invariant.0
+pub loop-page-preserved : goal.loop-page-preserved
+loop-page-preserved c =
+    let a = c.args in
+    let at = c.loop-page in
+    let turn = (goal.at.loop-page-preserved c).In-Some in
+    (more turn, next-done a.memory.now a.dirty.now a.wide a.u a.epoch a.m a.out.now c.requires.0 c.requires.3 at.yielded at.out at.at c.in-Some.page (this turn) at.invariant.1 _ _ (rw c.if-wide.false c.write_one-at-else-wide.ensures))
 
 pub returns : goal.returns
 returns c =
-    let start = c in
-    let a = start.args in
-    let at = c.loop-place in
-    writing-end a.memory.now a.dirty.now a.wide a.u a.epoch a.m a.out.now start.requires.0 start.requires.3 at.out at.at at.place.page at.invariant.1 (omega arith)
+    let a = c.args in
+    let at = c.loop-page in
+    let all = rw (c.in-None.ensures.steps.0, append-nil) at at.invariant.0 in
+    all-done a.memory.now a.dirty.now a.wide a.u a.epoch a.m a.out.now c.requires.0 c.requires.3 at.yielded at.out at.at (sym all) at.invariant.1

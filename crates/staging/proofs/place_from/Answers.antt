@@ -9,36 +9,21 @@ use Rattle.lists.proofs.SelectLaws.{search-passed, search-found, search-end}
 use Rattle.staging.proofs.place_from.Goals as goal
 
 pub loop-i-init : goal.loop-i-init
-loop-i-init c = (omega arith, omega arith, refl)
-
-pub offset_bounds-numbers-i : goal.offset_bounds-numbers-i
-offset_bounds-numbers-i c = omega arith
-
-pub bounds-numbers-i : goal.bounds-numbers-i
-bounds-numbers-i c = omega arith
+loop-i-init c = refl
 
 pub returns-then-numbers-i : goal.returns-then-numbers-i
 returns-then-numbers-i c =
     let w = c.loop-i in
     let a = c.args in
     let h : length a.numbers ≡ 64 = search rules in
-    sym (search-found (λ (m : ℕ). eqb m a.n) a.numbers 0 w.i a.end (omega arith) (omega arith) (eq-eqb _ a.n (omega arith))) ∙ w.invariant.2
-
-pub overflow_add-i : goal.overflow_add-i
-overflow_add-i c = omega arith
-
-pub loop-i-smaller : goal.loop-i-smaller
-loop-i-smaller c = omega arith
+    sym (search-found (λ (m : ℕ). eqb m a.n) a.numbers 0 w.i a.end (omega arith) (omega arith) (eq-eqb _ a.n (omega arith))) ∙ w.invariant
 
 pub loop-i-preserved : goal.loop-i-preserved
 loop-i-preserved c =
     let w = c.loop-i in
     let a = c.args in
-    let h : length a.numbers ≡ 64 = search rules in (
-      omega arith,
-      omega arith,
-      sym (search-passed (λ (m : ℕ). eqb m a.n) a.numbers 0 w.i a.end (omega arith) (omega arith) (ne_eqb _ a.n (λ z. omega arith))) ∙ w.invariant.2,
-    )
+    let h : length a.numbers ≡ 64 = search rules in
+    sym (search-passed (λ (m : ℕ). eqb m a.n) a.numbers 0 w.i a.end (omega arith) (omega arith) (ne_eqb _ a.n (λ z. omega arith))) ∙ w.invariant
 
 pub returns : goal.returns
 returns c =
@@ -46,4 +31,4 @@ returns c =
     let a = c.args in
     let h : length a.numbers ≡ 64 = search rules in
     let e = search-end (λ (m : ℕ). eqb m a.n) a.numbers 0 w.i a.end (omega arith) (omega arith) in
-    omega (arith, w.invariant.2)
+    omega (arith, w.invariant)

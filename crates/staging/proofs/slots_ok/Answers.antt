@@ -13,8 +13,8 @@ use Rattle.staging.proofs.slots_ok.Goals as goal
 pub returns-then-s-staged : goal.returns-then-s-staged
 returns-then-s-staged c = refuted _ (λ e. let f = slots-tests _ _ _ e in omega arith)
 
-pub returns-then-staged-due : goal.returns-then-staged-due
-returns-then-staged-due c = refuted _ (λ e. let f = slots-tests _ _ _ e in omega arith)
+pub returns-then-staged-k : goal.returns-then-staged-k
+returns-then-staged-k c = refuted _ (λ e. let f = slots-tests _ _ _ e in omega arith)
 
 pub returns-then-staged-gt-MOST_SLOTS : goal.returns-then-staged-gt-MOST_SLOTS
 unfolding slots_ok

@@ -7,33 +7,18 @@ use Rattle.staging.proofs.ArrayLaws.{fill-turn, fill_end}
 use Rattle.staging.proofs.zeroed.Goals as goal
 
 pub loop-i-init : goal.loop-i-init
-loop-i-init c = (omega arith, refl, paste-zero c.args.numbers c.args.at (replicate c.args.n 0))
-
-pub overflow_add-out : goal.overflow_add-out
-overflow_add-out c = omega arith
-
-pub offset_bounds-out-at : goal.offset_bounds-out-at
-offset_bounds-out-at c = omega arith
-
-pub bounds-out-at : goal.bounds-out-at
-bounds-out-at c = omega arith
-
-pub overflow_add-i : goal.overflow_add-i
-overflow_add-i c = omega arith
-
-pub loop-i-smaller : goal.loop-i-smaller
-loop-i-smaller c = omega arith
+loop-i-init c = (refl, paste-zero c.args.numbers c.args.at (replicate c.args.n 0))
 
 pub loop-i-preserved : goal.loop-i-preserved
 loop-i-preserved c =
     let w = c.loop-i in
     let a = c.args in
     let h : length a.numbers ≡ 64 = search rules in
-    (omega arith, simp length-set w.invariant.1, rw w.invariant.2 (fill-turn a.numbers a.at a.n w.i 0 (omega arith) (omega arith)))
+    (simp length-set w.invariant.0, rw w.invariant.1 (fill-turn a.numbers a.at a.n w.i 0 (omega arith) (omega arith)))
 
 pub returns : goal.returns
 returns c =
     let w = c.loop-i in
     let a = c.args in
     let e : w.i ≡ a.n = omega arith in
-    rw e at w.invariant.2 ∙ fill_end a.numbers a.at a.n 0
+    rw e at w.invariant.1 ∙ fill_end a.numbers a.at a.n 0

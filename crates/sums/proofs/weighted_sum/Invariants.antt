@@ -1,11 +1,6 @@
 -- `sums::weighted_sum` meets its contract. Assumes nothing.
-use Prim.Native.Nat.{◌-◌}
-use lib.ListN.{length}
 use Rattle.sums.proofs.PageSumLaws.{Added}
 use Rattle.sums.proofs.weighted_sum.Given as goal
 
 abbrev pub invariant-loop-i : goal.invariant-loop-i
 invariant-loop-i l = Added l.a l.bytes l.total l.placed l.i
-
-abbrev pub decreases-loop-i : goal.decreases-loop-i
-decreases-loop-i l = length l.bytes - l.i

@@ -1,34 +1,12 @@
 -- `primary_calls::primary_acknowledge` meets its contract. Assumes nothing.
-use mathlib.Core.Path.{◌≡◌, sym, ap, ◌∙◌}
-use mathlib.Core.Bool.{true, false}
-use Rattle.capi.specs.PrimaryWords.{primary_words_ok}
-use Rattle.capi.proofs.PrimaryWordLaws.{primary-many}
+use mathlib.Core.Path.{ap}
 use Rattle.rules.proofs.QueueLaws.{ack-kept}
+use Rattle.capi.proofs.PrimaryWordLaws.{primary-many}
 use Rattle.capi.proofs.KeptLaws.{kept-stores}
-use Rattle.capi.proofs.DoneLaws.{primary-old, primary-new}
 use Rattle.capi.proofs.primary_calls.primary_acknowledge.Goals as goal
-use Rattle.capi.proofs.primary_calls.primary_acknowledge.Goals.{Else-not-words_ok, Then-not-words_ok}
-
-bad : (c : Then-not-words_ok) → primary_words_ok c.args.state.now ≡ false
-bad c = sym c.words_ok.ensures ∙ c.if-not-words_ok.true
-
-good : (c : Else-not-words_ok) → primary_words_ok c.args.state.now ≡ true
-good c = sym c.words_ok.ensures ∙ c.if-not-words_ok.false
-
-pub returns-then-not-words_ok : goal.returns-then-not-words_ok
-returns-then-not-words_ok c = primary-old (bad (goal.at.returns-then-not-words_ok c).Then-not-words_ok)
-
-pub primary_of-p-requires : goal.primary_of-p-requires
-primary_of-p-requires c = good (goal.at.primary_of-p-requires c).Else-not-words_ok
 
 pub store_one-requires : goal.store_one-requires
 store_one-requires c =
-    let g = good (goal.at.store_one-requires c).Else-not-words_ok in
-    let one = kept-stores _ _ _ _ c.primary_of-p.ensures (ack-kept _ _) (ap (λ x. x.state) c.acknowledge-r.ensures.value) in
-    (primary-many _ g, g, one.0, one.1, one.2, one.3)
-
-pub returns : goal.returns
-returns c =
-    let r = c.acknowledge-r.ensures in
-    rw (sym c.primary_of-p.ensures, sym r.value)
-    (primary-new (good (goal.at.returns c).Else-not-words_ok) c.record_word.ensures (c.store_one.ensures.w_after, (c.store_one.ensures.w_after_2, c.store_one.ensures.w_after_3)))
+    let s = c.in-Some.ensures in
+    let one = kept-stores _ _ _ _ s.1 (ack-kept _ _) (ap (λ x. x.state) c.acknowledge-r.ensures.value) in
+    (primary-many _ s.0, s.0, one.0, one.1, one.2, one.3)

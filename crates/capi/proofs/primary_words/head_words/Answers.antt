@@ -4,7 +4,7 @@ use mathlib.Core.Path.{◌≡◌}
 use mathlib.Core.Bool.{true}
 use Rattle.capi.specs.Word.{most32, all_fit32, between}
 use Rattle.capi.specs.PrimaryWords.{head_words}
-use Rattle.capi.proofs.WordLaws.{fits-none, fits-cons}
+use Rattle.capi.proofs.WordLaws.{fits-none, fits-cons, flag_is}
 use borrow.Author.Rules.{rules}
 use Rattle.capi.proofs.primary_words.head_words.Goals as goal
 use Rattle.capi.proofs.primary_words.head_words.Goals.{Start}
@@ -22,8 +22,7 @@ low c =
 pub returns : goal.returns
 unfolding head_words
 returns c =
-    let s = c in
     record {
-      value = rw c.flag_word-alone.ensures;
+      value = rw (c.from.ensures, flag_is c.args.p.alone);
       result_value = low (goal.at.returns c).Start;
     }

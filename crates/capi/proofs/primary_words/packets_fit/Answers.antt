@@ -22,7 +22,7 @@ one_more true true false true false port rest = refl
 one_more true true false false size port rest = refl
 
 pub loop-i-init : goal.loop-i-init
-loop-i-init c = (omega arith, refl)
+loop-i-init c = refl
 
 pub loop-i-preserved : goal.loop-i-preserved
 loop-i-preserved c =
@@ -32,16 +32,14 @@ loop-i-preserved c =
     let a : ℕ = get_or w at 0 in
     let b : ℕ = get_or w (at + 1) 0 in
     let d : ℕ = get_or w (at + 2) 0 in
-    let e : packets_at + 3 * (l.i + 1) ≡ at + 3 = omega arith in (
-      omega arith,
-      rw (e, fits_or 32 most32 l.epochs a refl, fits_or 16 most16 l.lengths b refl, fits_or 16 most16 l.ports d refl)
-          (one_more (fits32 l.epochs) (fits16 l.lengths) (fits16 l.ports) (fits32 a) (fits16 b) (fits16 d) (packets_fit (between (at + 3) written_at w))
-          ∙ ap (λ (x : Bool). (fits32 l.epochs && fits16 l.lengths && fits16 l.ports) && x) (sym (packets-fit-more w at written_at (omega arith) (omega arith))) ∙ l.invariant.1),
-    )
+    let e : packets_at + 3 * (l.i + 1) ≡ at + 3 = omega arith in
+    rw (e, fits_or 32 most32 l.epochs a refl, fits_or 16 most16 l.lengths b refl, fits_or 16 most16 l.ports d refl)
+    (one_more (fits32 l.epochs) (fits16 l.lengths) (fits16 l.ports) (fits32 a) (fits16 b) (fits16 d) (packets_fit (between (at + 3) written_at w))
+    ∙ ap (λ (x : Bool). (fits32 l.epochs && fits16 l.lengths && fits16 l.ports) && x) (sym (packets-fit-more w at written_at (omega arith) (omega arith))) ∙ l.invariant)
 
 pub returns : goal.returns
 returns c =
     let w : List ℕ = c.args.w.now in
     let l = c.loop-i in
     let at : ℕ = packets_at + 3 * l.i in
-    sym (test-end (fits32 l.epochs && fits16 l.lengths && fits16 l.ports) (packets_fit (between at written_at w)) (packets-fit-end w at written_at (omega arith) (omega arith))) ∙ l.invariant.1
+    sym (test-end (fits32 l.epochs && fits16 l.lengths && fits16 l.ports) (packets_fit (between at written_at w)) (packets-fit-end w at written_at (omega arith) (omega arith))) ∙ l.invariant

@@ -66,4 +66,4 @@ bounds-w-13 c = omega (arith, primary-many _ c.requires)
 
 pub returns : goal.returns
 unfolding primary_of
-returns c = rw (c.field.ensures, c.field-2.ensures, c.field-3.ensures, c.field-4.ensures, c.flag_of.ensures, c.packets_of-packets.ensures, c.numbers_of-numbers.ensures)
+returns c = rw (c.field.ensures, c.field-2.ensures, c.field-3.ensures, c.field-4.ensures, c.flag_of.ensures, c.packets_of.ensures, c.numbers_of.ensures)

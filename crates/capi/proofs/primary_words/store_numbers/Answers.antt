@@ -13,7 +13,7 @@ use borrow.Author.Rules.{rules}
 use Rattle.capi.proofs.primary_words.store_numbers.Goals as goal
 
 pub loop-i-init : goal.loop-i-init
-loop-i-init c = (omega arith, c.requires, store-none c.args.w.now c.args.numbers written_at, fits-none most16)
+loop-i-init c = (c.requires, store-none c.args.w.now c.args.numbers written_at, fits-none most16)
 
 pub loop-i-preserved : goal.loop-i-preserved
 loop-i-preserved c =
@@ -23,14 +23,13 @@ loop-i-preserved c =
     let n : length ns ≡ 64 = search rules in
     let m : length a.w.now ≡ primary_length = c.requires in
     let low : Fits w16 (get_or ns l.i 0) = search rules in (
-      omega arith,
-      simp length-set l.invariant.1,
-      ap (λ (x : List ℕ). set x (written_at + l.i) (get_or ns l.i 0)) l.invariant.2 ∙ store-turn a.w.now ns written_at l.i 0 (omega arith) (omega arith),
-      fits-take-more most16 ns l.i (omega arith) l.invariant.3 low.fits,
+      simp length-set l.invariant.0,
+      ap (λ (x : List ℕ). set x (written_at + l.i) (get_or ns l.i 0)) l.invariant.1 ∙ store-turn a.w.now ns written_at l.i 0 (omega arith) (omega arith),
+      fits-take-more most16 ns l.i (omega arith) l.invariant.2 low.fits,
     )
 
 pub shape_of-w : goal.shape_of-w
-shape_of-w c = c.loop-i.invariant.1 ∙ sym c.requires
+shape_of-w c = c.loop-i.invariant.0 ∙ sym c.requires
 
 pub returns : goal.returns
 returns c =
@@ -40,6 +39,6 @@ returns c =
     let n : length ns ≡ 64 = search rules in
     let whole : take l.i ns ≡ ns = take_all l.i ns (omega arith) in
     record {
-      w_after = l.invariant.2 ∙ store-end a.w.now ns written_at l.i (omega arith);
-      numbers_value = rw whole at l.invariant.3;
+      w_after = l.invariant.1 ∙ store-end a.w.now ns written_at l.i (omega arith);
+      numbers_value = rw whole at l.invariant.2;
     }

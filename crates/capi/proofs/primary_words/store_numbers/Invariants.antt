@@ -1,6 +1,5 @@
 -- `primary_words::store_numbers` meets its contract. The loop's invariant: the numbers passed are stored. That they
 -- fit, their type gives. Assumes nothing.
-use Prim.Native.Nat.{◌-◌, ◌≤◌}
 use mathlib.Core.Path.{◌≡◌}
 use mathlib.Core.Bool.{true}
 use lib.ListN.{length, take}
@@ -10,7 +9,4 @@ use Rattle.capi.specs.PrimaryWords.{primary_length, written_at}
 use Rattle.capi.proofs.primary_words.store_numbers.Given as goal
 
 abbrev pub invariant-loop-i : goal.invariant-loop-i
-invariant-loop-i l = (l.i ≤ 64) × (length l.w ≡ primary_length) × (l.w ≡ put l.initial.w written_at (take l.i l.numbers)) × (all_fit16 (take l.i l.numbers) ≡ true)
-
-abbrev pub decreases-loop-i : goal.decreases-loop-i
-decreases-loop-i l = 64 - l.i
+invariant-loop-i l = (length l.w ≡ primary_length) × (l.w ≡ put l.initial.w written_at (take l.i l.numbers)) × (all_fit16 (take l.i l.numbers) ≡ true)

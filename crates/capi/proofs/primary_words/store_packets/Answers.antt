@@ -20,7 +20,7 @@ array c = search rules
 
 pub loop-i-init : goal.loop-i-init
 unfolding packet_words packets_fit
-loop-i-init c = (omega arith, c.requires, sym (put-none _ packets_at), refl)
+loop-i-init c = (c.requires, sym (put-none _ packets_at), refl)
 
 pub loop-i-preserved : goal.loop-i-preserved
 loop-i-preserved c =
@@ -31,18 +31,17 @@ loop-i-preserved c =
     let i : ℕ = s.i in
     let k : Packet = get_or ks i no_packet in
     let many : length ks ≡ 64 = array (goal.at.loop-i-preserved c).Start in
-    let n : length s.w ≡ primary_length = s.invariant.1 in
+    let n : length s.w ≡ primary_length = s.invariant.0 in
     let m : length w ≡ primary_length = c.requires in
     let r = c.store_packet.ensures in
     let e : c.store_packet.new.w ≡ put s.w (packets_at + 3 * i) (packet_words (k ∷ [])) = r.w_after in (
-      omega arith,
       ap length e ∙ length-put s.w (packets_at + 3 * i) (packet_words (k ∷ [])) (rw (length-packet_words (k ∷ [])) (omega arith)) ∙ n,
-      e ∙ ap (λ (x : List ℕ). put x (packets_at + 3 * i) (packet_words (k ∷ []))) s.invariant.2 ∙ store-more w ks no_packet packets_at i (omega arith) (omega arith),
-      fits-packets-more ks no_packet i (omega arith) s.invariant.3 r.k_value,
+      e ∙ ap (λ (x : List ℕ). put x (packets_at + 3 * i) (packet_words (k ∷ []))) s.invariant.1 ∙ store-more w ks no_packet packets_at i (omega arith) (omega arith),
+      fits-packets-more ks no_packet i (omega arith) s.invariant.2 r.k_value,
     )
 
 pub shape_of-w : goal.shape_of-w
-shape_of-w c = c.loop-i.invariant.1 ∙ sym c.requires
+shape_of-w c = c.loop-i.invariant.0 ∙ sym c.requires
 
 pub returns : goal.returns
 returns c =
@@ -51,6 +50,6 @@ returns c =
     let many : length ks ≡ 64 = array (goal.at.returns c).Start in
     let whole : take l.i ks ≡ ks = take_all l.i ks (omega arith) in
     record {
-      w_after = rw whole at l.invariant.2;
-      packets_value = rw whole at l.invariant.3;
+      w_after = rw whole at l.invariant.1;
+      packets_value = rw whole at l.invariant.2;
     }

@@ -1,6 +1,5 @@
 -- `primary_words::store_packets` meets its contract. The loop's invariant: the packets passed are stored.
 -- Assumes nothing.
-use Prim.Native.Nat.{◌-◌, ◌≤◌}
 use mathlib.Core.Path.{◌≡◌}
 use mathlib.Core.Bool.{true}
 use lib.ListN.{length, take}
@@ -9,7 +8,4 @@ use Rattle.capi.specs.PrimaryWords.{packet_words, packets_at, packets_fit, prima
 use Rattle.capi.proofs.primary_words.store_packets.Given as goal
 
 abbrev pub invariant-loop-i : goal.invariant-loop-i
-invariant-loop-i l = (l.i ≤ 64) × (length l.w ≡ primary_length) × (l.w ≡ put l.initial.w packets_at (packet_words (take l.i l.packets))) × (packets_fit (packet_words (take l.i l.packets)) ≡ true)
-
-abbrev pub decreases-loop-i : goal.decreases-loop-i
-decreases-loop-i l = 64 - l.i
+invariant-loop-i l = (length l.w ≡ primary_length) × (l.w ≡ put l.initial.w packets_at (packet_words (take l.i l.packets))) × (packets_fit (packet_words (take l.i l.packets)) ≡ true)

@@ -25,8 +25,7 @@ low c =
 pub returns : goal.returns
 unfolding first_words
 returns c =
-    let s = c in
     record {
-      value = rw c.mode_word-mode.ensures;
+      value = rw c.mode_word.ensures;
       result_value = low (goal.at.returns c).Start;
     }

@@ -34,8 +34,8 @@ field-requires-2 c = ticks-field _ 6 c.requires (omega arith) (omega arith)
 pub bounds-w-7 : goal.bounds-w-7
 bounds-w-7 c = omega (arith, standby-many _ c.requires)
 
-pub numbers_of-numbers-requires : goal.numbers_of-numbers-requires
-numbers_of-numbers-requires c = standby-many _ c.requires
+pub numbers_of-requires : goal.numbers_of-requires
+numbers_of-requires c = standby-many _ c.requires
 
 pub bounds-w-9 : goal.bounds-w-9
 bounds-w-9 c = omega (arith, standby-many _ c.requires)
@@ -66,4 +66,4 @@ bounds-w-79 c = omega (arith, standby-many _ c.requires)
 
 pub returns : goal.returns
 unfolding standby_of
-returns c = rw (c.field.ensures, c.field-2.ensures, c.field-3.ensures, c.flag_of.ensures, c.mode_of-mode.ensures, c.numbers_of-numbers.ensures)
+returns c = rw (c.field.ensures, c.field-2.ensures, c.field-3.ensures, c.flag_of.ensures, c.mode_of.ensures, c.numbers_of.ensures)

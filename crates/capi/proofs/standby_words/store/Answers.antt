@@ -21,10 +21,10 @@ returns c =
     let s = start.args.s in
     let ns : List ℕ = s.slots.numbers in
     let many : length ns ≡ numbers_many = array (goal.at.returns c).Start in
-    let first = c.first_words-first.ensures in
+    let first = c.first_words.ensures in
     let e : c.store_at-2.new.w ≡ standby_words s =
     c.store_at-2.ensures
-    ∙ rw c.last_words-last.ensures (ap (λ (x : List ℕ). put x 75 (last_words s)) (c.store_numbers.ensures ∙ ap (λ (x : List ℕ). put x numbers_at ns) (c.store_at.ensures ∙ ap (put w 0) first.value)))
+    ∙ rw c.last_words.ensures (ap (λ (x : List ℕ). put x 75 (last_words s)) (c.store_numbers.ensures ∙ ap (λ (x : List ℕ). put x numbers_at ns) (c.store_at.ensures ∙ ap (put w 0) first.value)))
     ∙ store-three w s start.requires many in
     record {
       w_after = e;

@@ -1,4 +1,3 @@
-use Prim.Native.Nat.{◌≤◌, ◌-◌}
 use mathlib.Core.Path.{◌≡◌}
 use lib.ListN.{length, take}
 use Rattle.lists.specs.Part.{put}
@@ -6,7 +5,4 @@ use Rattle.capi.specs.StandbyWords.{standby_length}
 use Rattle.capi.proofs.standby_words.store_numbers.Given as goal
 
 abbrev pub invariant-loop-i : goal.invariant-loop-i
-invariant-loop-i l = (l.i ≤ 64) × (length l.w ≡ standby_length) × (l.w ≡ put l.initial.w 11 (take l.i l.numbers))
-
-abbrev pub decreases-loop-i : goal.decreases-loop-i
-decreases-loop-i l = 64 - l.i
+invariant-loop-i l = (length l.w ≡ standby_length) × (l.w ≡ put l.initial.w 11 (take l.i l.numbers))

@@ -1,37 +1,22 @@
-use mathlib.Core.Path.{sym, ◌∙◌}
-use Prim.Native.Nat.{ℕ}
-use native.Mathlib.Omega.{arith}
+use Rattle.std.proofs.Common.{rules, tests}
+use Rattle.std.proofs.lemmas.Iterator.{YieldsList-from_slice}
+use Rattle.std.proofs.lemmas.Iterator.Search.{position_from_yields_List}
+use Rattle.std.specs.List.{position}
+use Rattle.std.specs.Option.{unwrap_or}
+use Rattle.std.specs.Prelude.{Option, ℕ, ◌≡◌, length}
 use lib.Dec.{eqb}
-use borrow.Author.Tests.{eq-eqb, ne_eqb}
-use Rattle.lists.proofs.SelectLaws.{search-passed, search-found, search-end}
+use mathlib.Core.Path.{ap, ◌∙◌}
+use Rattle.checkpoints.specs.declared.KeptBlock.{KeptBlock}
+use Rattle.checkpoints.proofs.PlaceLaws.{place-searched}
 use Rattle.checkpoints.proofs.judge.place_in.Goals as goal
+use Rattle.checkpoints.proofs.judge.place_in.Goals.{After-unwrap_or}
 
-pub loop-i-init : goal.loop-i-init
-loop-i-init c = (omega arith, omega arith)
-
-pub returns-then-numbers-i : goal.returns-then-numbers-i
-returns-then-numbers-i c =
-    let w = c.loop-i in
-    let a = c.args in
-    sym (search-found (λ (m : ℕ). eqb m a.n) a.numbers.now 0 w.i a.count c.requires c.loop-i-test.true (eq-eqb _ a.n c.if-numbers-i.true)) ∙ w.invariant.1
-
-pub overflow_add-i : goal.overflow_add-i
-overflow_add-i c = omega arith
-
-pub loop-i-smaller : goal.loop-i-smaller
-loop-i-smaller c = omega arith
-
-pub loop-i-preserved : goal.loop-i-preserved
-loop-i-preserved c =
-    let w = c.loop-i in
-    let a = c.args in (
-      omega arith,
-      sym (search-passed (λ (m : ℕ). eqb m a.n) a.numbers.now 0 w.i a.count c.requires c.loop-i-test.true (ne_eqb _ a.n c.if-numbers-i.false)) ∙ w.invariant.1,
-    )
+found : (c : After-unwrap_or) → c.position.result ≡ position (λ (b : KeptBlock). eqb b.number c.args.n) c.args.blocks.now
+found c = position_from_yields_List (λ (b : KeptBlock). eqb b.number c.args.n) _ _ _ c.position.ensures.ran (YieldsList-from_slice c.args.blocks.now cc) (λ x b q k. search (rules, tests))
 
 pub returns : goal.returns
 returns c =
-    let w = c.loop-i in
-    let a = c.args in
-    let e = search-end (λ (m : ℕ). eqb m a.n) a.numbers.now 0 w.i a.count c.requires (omega arith) in
-    omega (arith, w.invariant.1)
+    let blocks = c.args.blocks.now in
+    c.unwrap_or.ensures
+    ∙ ap (λ (o : Option ℕ). unwrap_or o (length blocks)) (found c)
+    ∙ place-searched c.args.n blocks

@@ -4,9 +4,6 @@ use Rattle.records.proofs.KindLaws.{width-range}
 use Rattle.checkpoints.proofs.WrittenLaws.{few-records, pages-most, form-is}
 use Rattle.checkpoints.proofs.normal.form_length.Goals as goal
 
-pub overflow_mul-blocks : goal.overflow_mul-blocks
-overflow_mul-blocks c = record { fits = omega (arith, few-records c.args.k.blocks 64 c.args.u 10 c.requires.1 c.requires.0 (omega arith)) }
-
 pub overflow_add-result : goal.overflow_add-result
 overflow_add-result c = record { fits = omega (arith, pages-most c.args.u c.args.wide c.args.k c.requires.0 c.requires.2, c.pages_length-pages.ensures, c.commit_length.ensures, width-range c.args.wide) }
 

@@ -1,50 +1,46 @@
-use mathlib.Core.Path.{refl, ◌∙◌}
+use mathlib.Core.Path.{sym, ◌∙◌}
+use mathlib.Core.List.{append_assoc, append-nil}
 use native.Mathlib.Omega.{arith}
-use Rattle.checkpoints.specs.Form.{kept_of}
-use Rattle.checkpoints.proofs.WrittenLaws.{writing_start, writing-room, writing_more, writing-end}
+use Rattle.lists.proofs.PartLaws.{put-done-none}
+use Rattle.marks.proofs.WalkLaws.{PageOf, page-of}
+use Rattle.checkpoints.specs.Form.{kept_in}
+use Rattle.checkpoints.proofs.PlaceLaws.{length-numbers}
+use Rattle.checkpoints.proofs.WrittenLaws.{is-kept, next-room, next-done, all-done}
 use Rattle.checkpoints.proofs.normal.write_blocks.Goals as goal
+use Rattle.checkpoints.proofs.normal.write_blocks.Goals.{In-Some}
 
-pub marked_from-place-requires : goal.marked_from-place-requires
-marked_from-place-requires c = tt
+pub loop-block-init : goal.loop-block-init
+loop-block-init c = (sym (c.into_iter-block-iterator.ensures.into_iter_gives ∙ c.marked-block-items.ensures), put-done-none c.args.out.now 0)
 
-pub loop-place-init : goal.loop-place-init
-loop-place-init c =
-    let t = c in
-    let f = c.marked_from-place in
-    (refl, writing_start t.args.u t.args.d (kept_of t.args.k t.args.numbers.now t.args.places.now t.args.file.now) t.args.ws.now t.args.out.now t.requires.0 t.requires.1 t.requires.2 f.result.page f.ensures.0, f.ensures.1)
+-- the block of a turn
+this : (c : In-Some) → PageOf c.args.ws.now c.args.d c.loop-block.yielded c.in-Some.block
+this c = page-of c.args.ws.now c.args.d c.loop-block.yielded c.next.new.self c.in-Some.block (rw c.in-Some.ensures.steps at c.loop-block.invariant.0)
 
 pub write_one-at-requires : goal.write_one-at-requires
 write_one-at-requires c =
-    let t = c in
-    let at = c.loop-place in
-    let l = c.loop-place-test.true in
-    let w = at.invariant.1 in
-    let room = writing-room t.args.u t.args.d (kept_of t.args.k t.args.numbers.now t.args.places.now t.args.file.now) t.args.ws.now t.args.out.now t.requires.0 t.requires.1 t.requires.2 at.out at.at at.place.page w l in
-    let f = t.requires.0 in
-    (omega (arith, room, at.invariant.0), f.unit, omega (arith, l, f.disk), omega (arith, f.slots, f.numbers), omega (arith, f.numbers, f.places), w.next l, f.inside at.place.page l (w.next l))
+    let a = c.args in
+    let t = kept_in a.kept in
+    let at = c.loop-block in
+    let block = this (goal.at.write_one-at-requires c).In-Some in
+    let f = c.requires.0 in
+    let kept = is-kept a.u a.d t a.ws.now a.out.now f c.requires.1 c.requires.2 at.yielded at.out at.at c.in-Some.block block at.invariant.1 in
+    let room = next-room a.u a.d t a.ws.now a.out.now f c.requires.1 c.requires.2 at.yielded at.out at.at c.in-Some.block block at.invariant.1 in
+    (room, f.unit, omega (arith, block.within, f.disk), omega (arith, f.slots, f.numbers, length-numbers a.kept.blocks.now), kept, f.inside c.in-Some.block block.within kept)
 
-pub marked_after-place-requires : goal.marked_after-place-requires
-marked_after-place-requires c = let l = c.loop-place-test.true in (l, c.loop-place.invariant.2 l)
-
-pub loop-place-smaller : goal.loop-place-smaller
-loop-place-smaller c = omega (arith, c.marked_after-place.ensures.0.up, c.loop-place-test.true)
-
-pub loop-place-preserved : goal.loop-place-preserved
-loop-place-preserved c =
-    let t = c in
-    let at = c.loop-place in
-    let one = c.write_one-at in
-    let next = c.marked_after-place in (
-      one.auto.out ∙ at.invariant.0,
-      writing_more t.args.u t.args.d (kept_of t.args.k t.args.numbers.now t.args.places.now t.args.file.now) t.args.ws.now t.args.out.now t.requires.0 t.requires.1 t.requires.2 at.out at.at at.place.page at.invariant.1 one.new.out one.result next.result.page c.loop-place-test.true one.ensures next.ensures.0,
-      next.ensures.1,
+pub loop-block-preserved : goal.loop-block-preserved
+loop-block-preserved c =
+    let a = c.args in
+    let t = kept_in a.kept in
+    let at = c.loop-block in
+    let block = this (goal.at.loop-block-preserved c).In-Some in (
+      rw append_assoc (rw c.in-Some.ensures.steps at at.invariant.0),
+      next-done a.u a.d t a.ws.now a.out.now c.requires.0 c.requires.1 c.requires.2 at.yielded at.out at.at c.in-Some.block block at.invariant.1 _ _ c.write_one-at.ensures,
     )
-
-pub shape_of-out : goal.shape_of-out
-shape_of-out c = c.loop-place.invariant.0
 
 pub returns : goal.returns
 returns c =
-    let t = c in
-    let at = c.loop-place in
-    writing-end t.args.u t.args.d (kept_of t.args.k t.args.numbers.now t.args.places.now t.args.file.now) t.args.ws.now t.args.out.now t.requires.0 t.requires.1 t.requires.2 at.out at.at at.place.page at.invariant.1 (omega arith)
+    let a = c.args in
+    let t = kept_in a.kept in
+    let at = c.loop-block in
+    let all = rw (c.in-None.ensures.steps.0, append-nil) at at.invariant.0 in
+    all-done a.u a.d t a.ws.now a.out.now c.requires.0 c.requires.1 c.requires.2 at.yielded at.out at.at (sym all) at.invariant.1

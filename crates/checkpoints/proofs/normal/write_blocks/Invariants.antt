@@ -1,15 +1,12 @@
 -- `checkpoints::normal::write_blocks` meets its contract. Assumes nothing.
--- The loop's invariant: the blocks that came, below the place, are written.
+-- The loop's invariant: the blocks so far are written.
 use mathlib.Core.Path.{◌≡◌}
-use Prim.Native.Nat.{◌-◌, ◌<◌}
-use lib.ListN.{length}
-use Rattle.marks.proofs.PlaceLaws.{Behind}
-use Rattle.checkpoints.specs.Form.{kept_of}
-use Rattle.checkpoints.proofs.WrittenLaws.{Writing}
+use mathlib.Core.List.{◌++◌}
+use Rattle.lists.specs.Part.{PutDone}
+use Rattle.marks.specs.Next.{marked_pages}
+use Rattle.checkpoints.specs.Form.{kept_in}
+use Rattle.checkpoints.proofs.WrittenLaws.{blocks_of}
 use Rattle.checkpoints.proofs.normal.write_blocks.Given as goal
 
-abbrev pub invariant-loop-place : goal.invariant-loop-place
-invariant-loop-place l = (length l.out ≡ length l.initial.out) × Writing l.u l.d (kept_of l.k l.numbers l.places l.file) l.initial.out l.out l.at l.place.page × (l.place.page < l.d → Behind l.ws l.place.page l.place.behind)
-
-abbrev pub decreases-loop-place : goal.decreases-loop-place
-decreases-loop-place l = l.d - l.place.page
+abbrev pub invariant-loop-block : goal.invariant-loop-block
+invariant-loop-block l = (marked_pages l.ws l.d ≡ l.yielded ++ l.block-iterator) × PutDone (blocks_of l.u (kept_in l.kept) l.yielded) l.initial.out 0 l.out l.at

@@ -1,101 +1,71 @@
-use Prim.Native.Nat.{◌+◌, ◌^◌, ◌≤◌, ◌<◌}
-use mathlib.Core.Path.{◌≡◌, refl, sym, ap, ◌∙◌}
-use mathlib.Core.Bool.{true, false}
+-- `checkpoints::scan::scan` meets its contract. Assumes nothing.
+use Prim.Native.Nat.{◌^◌, ◌<◌}
+use mathlib.Core.Path.{◌≡◌, refl, sym, ◌∙◌}
+use mathlib.Core.Bool.{true}
 use native.Mathlib.Omega.{arith}
 use lib.ListN.{length, drop}
 use borrow.Author.Rules.{rules}
-use Rattle.records.specs.Read.{used_of}
-use Rattle.checkpoints.specs.declared.Counts.{Counts}
-use Rattle.checkpoints.specs.Scan.{known_of, judged, counts_with, numbers_with, goes_on}
-use Rattle.checkpoints.specs.ScanFits.{TurnFits}
-use Rattle.checkpoints.proofs.ScanLaws.{rest-whole, scans-start, scans-end, scans-used, scans-next, turn-used, turn-fits, turn_low}
+use Rattle.std.specs.Prelude.{Ok}
+use Rattle.std.proofs.lemmas.Result.{err_from_is_err_and}
+use Rattle.checkpoints.specs.Scan.{numbers_of, no_counts, known_of, judged, goes_on}
+use Rattle.checkpoints.proofs.PlaceLaws.{length-numbers, length-places}
+use Rattle.checkpoints.proofs.ScanMeaning.{accepted-goes}
+use Rattle.checkpoints.proofs.ScanLaws.{judged-rest, counts-none, scans-start, scans-end, scans-low, scans-used, scans-next, turn-used, turn-fits}
 use Rattle.checkpoints.proofs.scan.scan.Goals as goal
-use Rattle.checkpoints.proofs.scan.scan.Goals.{In-loop-g}
+use Rattle.checkpoints.proofs.scan.scan.Goals.{After-used_of, In_default}
 
--- a record that goes on: it can be kept, and its bytes stand in the file
-module _ (c : In-loop-g) where
-  on : goes_on c.loop-g.r ≡ true
-  on = sym c.goes_on.ensures ∙ c.loop-g-test.true
+-- a record that is read is judged by what is kept
+head : (c : After-used_of) → Ok c.in_ok-r.r ≡ judged c.args.g (known_of c.loop-r.k (numbers_of c.loop-r.blocks)) (drop c.loop-r.at c.args.file.now)
+head c = let at = c.loop-r in sym c.in_ok-r.was ∙ judged-rest c.args.g at.k at.blocks c.args.file.now at.at c.judged.ensures
 
-  turn : let t = c in let at = c.loop-g in
-      length t.args.file.now < 2 ^ 64 → TurnFits at.k at.numbers at.places at.at at.r
-  turn small =
-      let t = c in
-      let at = c.loop-g in
-      turn-fits t.args.g t.args.file.now t.args.numbers.now t.args.places.now t.requires.0 at.numbers at.places at.k at.at at.r at.invariant on small
+-- another has to follow one that is no COMMIT
+on : (c : In_default) → Ok c.in_ok-r.r ≡ judged c.args.g (known_of c.loop-r.k (numbers_of c.loop-r.blocks)) (drop c.loop-r.at c.args.file.now) → goes_on (Ok c.in_ok-r.r) ≡ true
+on c h = let at = c.loop-r in accepted-goes c.args.g (known_of at.k (numbers_of at.blocks)) (drop at.at c.args.file.now) c.in_ok-r.r (sym h) c.in_default.not-Commit
 
-  used : let t = c in let at = c.loop-g in
-      (8 ≤ used_of at.r) × (at.at + used_of at.r ≤ length t.args.file.now)
-  used =
-      let t = c in
-      let at = c.loop-g in
-      turn-used t.args.g t.args.file.now t.args.numbers.now t.args.places.now t.requires.0 at.numbers at.places at.k at.at at.r at.invariant on
+pub loop-r-init : goal.loop-r-init
+loop-r-init c =
+    let d = c.default-k.ensures in
+    let none : c.default-k.result ≡ no_counts = counts-none c.default-k.result d.0 d.1.0 d.1.1.0 d.1.1.1.0 d.1.1.1.1.0 d.1.1.1.1.1 in
+    rw none (scans-start (length-numbers c.args.blocks.now ∙ c.requires.1) (length-places c.args.blocks.now ∙ c.requires.1))
 
-low : (c : In-loop-g) → let at = c.loop-g in (counts_with at.k at.numbers at.r).blocks ≤ length (numbers_with at.k.blocks at.numbers at.r)
-low c =
-    let t = c in
-    let at = c.loop-g in
-    turn_low t.args.g t.args.file.now t.args.numbers.now t.args.places.now t.requires.0 at.numbers at.places at.k at.at at.r at.invariant (on c)
+pub slice_bounds-judged-count : goal.slice_bounds-judged-count
+slice_bounds-judged-count c = c.loop-r.invariant.inside
 
-pub loop-g-init : goal.loop-g-init
-loop-g-init c = let t = c in scans-start t.args.g t.args.file.now t.args.numbers.now t.args.places.now t.requires.1 t.requires.2 c.judged-r.result c.judged-r.ensures
+pub slice_bounds-judged-start : goal.slice_bounds-judged-start
+slice_bounds-judged-start c = let h = c.loop-r.invariant.inside in search rules
+
+pub judged-requires : goal.judged-requires
+judged-requires c = omega (arith, scans-low c.requires.0 c.loop-r.invariant refl, length-numbers c.loop-r.blocks)
+
+pub returns-in_err-r : goal.returns-in_err-r
+returns-in_err-r c =
+    let at = c.loop-r in
+    let p = err_from_is_err_and c.from_residual.result c.from_residual.ensures.1 in
+    let h = sym c.in_err-r.was ∙ judged-rest c.args.g at.k at.blocks c.args.file.now at.at c.judged.ensures in
+    rw (p.1, p.2, scans-end c.requires.0 at.invariant h refl) (refl, refl, refl)
+
+pub overflow_add-end : goal.overflow_add-end
+overflow_add-end c = record { fits = omega (arith, c.used_of.ensures, scans-used c.requires.0 c.loop-r.invariant (head (goal.at.overflow_add-end c).After-used_of)) }
+
+pub returns-in-Commit : goal.returns-in-Commit
+returns-in-Commit c =
+    let h = rw c.in-Commit.is at (head (goal.at.returns-in-Commit c).After-used_of) in
+    rw (c.used_of.ensures, scans-end c.requires.0 c.loop-r.invariant h refl, c.in-Commit.is) (refl, refl, refl)
 
 pub kept_with-k-requires : goal.kept_with-k-requires
 kept_with-k-requires c =
+    let h = head (goal.at.kept_with-k-requires c).After-used_of in
     let small : length c.args.file.now < 2 ^ 64 = omega arith in
-    turn (goal.at.kept_with-k-requires c).In-loop-g small
+    turn-fits c.requires.0 c.loop-r.invariant h (on (goal.at.kept_with-k-requires c).In_default h) small
 
-pub overflow_add-at : goal.overflow_add-at
-overflow_add-at c = record { fits = omega (arith, (used (goal.at.overflow_add-at c).In-loop-g).1, c.used_of-at.ensures) }
+pub loop-r-smaller : goal.loop-r-smaller
+loop-r-smaller c =
+    let h = head (goal.at.loop-r-smaller c).After-used_of in
+    let u = turn-used c.requires.0 c.loop-r.invariant h (on (goal.at.loop-r-smaller c).In_default h) in
+    omega (arith, u.0, u.1, c.used_of.ensures)
 
-pub slice_bounds-judged-count : goal.slice_bounds-judged-count
-slice_bounds-judged-count c = omega (arith, (used (goal.at.slice_bounds-judged-count c).In-loop-g).1, c.used_of-at.ensures)
-
-pub slice_bounds-judged-start : goal.slice_bounds-judged-start
-slice_bounds-judged-start c = let u = used (goal.at.slice_bounds-judged-start c).In-loop-g in let e = c.used_of-at.ensures in search rules
-
-pub slice_bounds-judged-end : goal.slice_bounds-judged-end
-slice_bounds-judged-end c = let u = used (goal.at.slice_bounds-judged-end c).In-loop-g in let e = c.used_of-at.ensures in search rules
-
-pub judged-r-requires-in-loop-g : goal.judged-r-requires-in-loop-g
-judged-r-requires-in-loop-g c =
-    let q = c.kept_with-k in
-    omega (arith, ap (λ (x : Counts). x.blocks) q.ensures.0, ap length q.ensures.1, low (goal.at.judged-r-requires-in-loop-g c).In-loop-g)
-
-pub loop-g-smaller : goal.loop-g-smaller
-loop-g-smaller c = let u = used (goal.at.loop-g-smaller c).In-loop-g in omega (arith, u.0, u.1, c.used_of-at.ensures)
-
-pub loop-g-preserved : goal.loop-g-preserved
-loop-g-preserved c =
-    let t = c in
-    let at = c.loop-g in
-    let q = c.kept_with-k in
-    let h : c.judged-r-in-loop-g.result ≡ judged t.args.g (known_of q.result q.new.numbers) (drop (at.at + c.used_of-at.result) t.args.file.now)
-    = c.judged-r-in-loop-g.ensures ∙ ap (judged t.args.g (known_of q.result q.new.numbers)) (rest-whole (at.at + c.used_of-at.result) t.args.file.now) in
-    scans-next t.args.g t.args.file.now t.args.numbers.now t.args.places.now t.requires.0 at.numbers at.places at.k at.at at.r at.invariant (on (goal.at.loop-g-preserved c).In-loop-g)
-    q.new.numbers q.new.places q.result c.used_of-at.result c.judged-r-in-loop-g.result q.ensures.1 q.ensures.2 q.ensures.0 c.used_of-at.ensures h
-
-pub overflow_add-result : goal.overflow_add-result
-overflow_add-result c =
-    let t = c in
-    let at = c.loop-g in
-    record { fits = omega (arith, c.used_of.ensures, scans-used t.args.g t.args.file.now t.args.numbers.now t.args.places.now t.requires.0 at.numbers at.places at.k at.at at.r at.invariant) }
-
-pub shape_of-numbers : goal.shape_of-numbers
-shape_of-numbers c =
-    let t = c in
-    let at = c.loop-g in
-    at.invariant.numbers-size ∙ sym t.requires.1
-
-pub shape_of-places : goal.shape_of-places
-shape_of-places c =
-    let t = c in
-    let at = c.loop-g in
-    at.invariant.places-size ∙ sym t.requires.2
-
-pub returns : goal.returns
-returns c =
-    let t = c in
-    let at = c.loop-g in
-    let off : goes_on at.r ≡ false = sym c.goes_on.ensures ∙ c.loop-g-test.false in
-    rw (c.used_of.ensures, scans-end t.args.g t.args.file.now t.args.numbers.now t.args.places.now t.requires.0 at.numbers at.places at.k at.at at.r at.invariant off) (refl, refl, refl)
+pub loop-r-preserved : goal.loop-r-preserved
+loop-r-preserved c =
+    let h = head (goal.at.loop-r-preserved c).After-used_of in
+    let q = c.kept_with-k.ensures in
+    scans-next c.requires.0 c.loop-r.invariant h (on (goal.at.loop-r-preserved c).In_default h) _ _ _ _ q.1 q.2 q.0 c.used_of.ensures

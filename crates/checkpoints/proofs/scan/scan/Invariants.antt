@@ -1,11 +1,11 @@
--- `checkpoints::scan::scan` meets its contract. Assumes nothing.
 use Prim.Native.Nat.{◌-◌}
 use lib.ListN.{length}
+use Rattle.checkpoints.specs.Scan.{numbers_of, places_of}
 use Rattle.checkpoints.proofs.ScanLaws.{Scans}
 use Rattle.checkpoints.proofs.scan.scan.Given as goal
 
-abbrev pub invariant-loop-g : goal.invariant-loop-g
-invariant-loop-g l = Scans l.g l.file l.initial.numbers l.initial.places l.numbers l.places l.k l.at l.r
+abbrev pub invariant-loop-r : goal.invariant-loop-r
+invariant-loop-r l = Scans l.g l.file (numbers_of l.initial.blocks) (places_of l.initial.blocks) (numbers_of l.blocks) (places_of l.blocks) l.k l.at
 
-abbrev pub decreases-loop-g : goal.decreases-loop-g
-decreases-loop-g l = length l.file - l.at
+abbrev pub decreases-loop-r : goal.decreases-loop-r
+decreases-loop-r l = length l.file - l.at

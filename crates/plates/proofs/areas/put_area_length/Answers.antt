@@ -8,7 +8,7 @@ pub returns : goal.returns
 unfolding area_length_line
 returns c =
     let x1 = c.put_number-b.ensures in
-    let x3 = c.put_number-d.ensures in
+    let x3 = rw c.number.ensures at c.put_number-d.ensures in
     let p = put-end (put_then (put_then (put_then (put_then (put-text c.put_text-a.ensures) (put-within x1.put_done x1.lower_bound.1)) (put-text c.put_text-c.ensures)) (put-within x3.put_done x3.lower_bound.1)) (put-text c.put_byte.ensures)) (omega (arith, c.requires)) in
     record {
       put_done = p.0;

@@ -1,45 +1,35 @@
-use mathlib.Core.Path.{◌≡◌, sym, ◌∙◌}
+use mathlib.Core.Path.{◌≡◌, sym}
 use native.Mathlib.Omega.{arith}
+use borrow.Author.Rules.{rules}
 use borrow.Author.Tests.{eq-eqb, ne_eqb}
-use Rattle.plates.specs.Hex.{digit_of, no_digit}
+use Rattle.std.specs.Prelude.{None}
 use Rattle.plates.specs.Read.{hex_step}
-use Rattle.plates.proofs.HexLaws.{digit_low}
+use Rattle.plates.proofs.HexLaws.{some-half, none-half}
 use Rattle.plates.proofs.hex.hex_step.Goals as goal
-use Rattle.plates.proofs.hex.hex_step.Goals.{Else-d-eq-NO_DIGIT}
 
-pub returns-then-half-eq-NO_DIGIT : goal.returns-then-half-eq-NO_DIGIT
+pub returns-then-is_some : goal.returns-then-is_some
 unfolding hex_step
-returns-then-half-eq-NO_DIGIT c = c.hex_goes.ensures ∙ rw (eq-eqb _ _ c.if-c-eq32.true, eq-eqb _ _ c.if-half-eq-NO_DIGIT.true)
+returns-then-is_some c = rw (eq-eqb _ _ c.if-c-eq32.true, ne_eqb _ _ (some-half c.args.half c.if-is_some.ensures c.requires))
 
-pub returns-then-c-eq32 : goal.returns-then-c-eq32
+pub returns-else-is_some : goal.returns-else-is_some
 unfolding hex_step
-returns-then-c-eq32 c = c.hex_stops.ensures ∙ rw (eq-eqb _ _ c.if-c-eq32.true, ne_eqb _ _ c.if-half-eq-NO_DIGIT.false)
+returns-else-is_some c = rw (eq-eqb _ _ c.if-c-eq32.true, none-half c.args.half c.if-is_some.ensures)
 
-pub returns-then-d-eq-NO_DIGIT : goal.returns-then-d-eq-NO_DIGIT
+pub returns-in_default : goal.returns-in_default
 unfolding hex_step
-returns-then-d-eq-NO_DIGIT c =
-    let d = sym c.digit_of-d.ensures ∙ c.if-d-eq-NO_DIGIT.true in
-    c.hex_stops-then-d-eq-NO_DIGIT.ensures ∙ rw (ne_eqb _ _ c.if-c-eq32.false, eq-eqb _ _ d)
+returns-in_default c =
+    let none : c.digit_of.result ≡ None = search rules in
+    rw (ne_eqb _ _ c.if-c-eq32.false, eq-eqb _ _ (sym (rw none at c.digit_of.ensures.value)))
 
--- the character is a digit
-is_digit : (c : Else-d-eq-NO_DIGIT) → digit_of c.args.c ≡ no_digit → ⊥
-is_digit c e = c.if-d-eq-NO_DIGIT.false (c.digit_of-d.ensures ∙ e)
-
-pub returns-then-half-eq-NO_DIGIT-2 : goal.returns-then-half-eq-NO_DIGIT-2
+pub returns-in-None : goal.returns-in-None
 unfolding hex_step
-returns-then-half-eq-NO_DIGIT-2 c =
-    c.hex_goes-then-half-eq-NO_DIGIT-2.ensures
-    ∙ rw (ne_eqb _ _ c.if-c-eq32.false, ne_eqb _ _ (is_digit (goal.at.returns-then-half-eq-NO_DIGIT-2 c).Else-d-eq-NO_DIGIT), eq-eqb _ _ c.if-half-eq-NO_DIGIT-2.true, c.digit_of-d.ensures)
+returns-in-None c =
+    let e = c.in-Some.ensures in
+    rw (ne_eqb _ _ c.if-c-eq32.false, ← e.value, ne_eqb c.in-Some.digit 16 (λ z. let l = e.bound in omega arith), c.in-None.is)
 
-pub overflow_add-half : goal.overflow_add-half
-overflow_add-half c =
-    let low = digit_low c.args.c in
-    let is = c.digit_of-d.ensures in
-    let some = is_digit (goal.at.overflow_add-half c).Else-d-eq-NO_DIGIT in
-    record { fits = omega arith }
-
-pub returns : goal.returns
+pub returns-in-Some-half : goal.returns-in-Some-half
 unfolding hex_step
-returns c =
-    c.hex_goes-2.ensures
-    ∙ rw (ne_eqb _ _ c.if-c-eq32.false, ne_eqb _ _ (is_digit (goal.at.returns c).Else-d-eq-NO_DIGIT), ne_eqb _ _ c.if-half-eq-NO_DIGIT-2.false, c.digit_of-d.ensures)
+returns-in-Some-half c =
+    let e = c.in-Some.ensures in
+    let low = rw c.in-Some-half.is at c.requires in
+    rw (ne_eqb _ _ c.if-c-eq32.false, ← e.value, ne_eqb c.in-Some.digit 16 (λ z. let l = e.bound in omega arith), c.in-Some-half.is, ne_eqb c.in-Some-half.first 16 (λ z. omega (arith, low)))

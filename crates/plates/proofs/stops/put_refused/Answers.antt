@@ -13,6 +13,6 @@ returns c =
     let body = put_then (put_then (put-text c.put_text-b.ensures) (put-within number.put_done number.lower_bound.1)) (put-within why.put_done why.upper_bound) in
     let p = put-end (put_then (put_then (put-within place.put_done place.upper_bound) body) (put-text c.put_byte.ensures)) (omega (arith, c.requires)) in
     record {
-      put_done = rw (c.get2-kind.ensures, c.get2-said.ensures) at p.0;
+      put_done = rw (c.get-kind.ensures, c.get-said.ensures) at p.0;
       upper_bound = omega (arith, p.1);
     }

@@ -4,13 +4,13 @@ use native.Mathlib.Omega.{arith}
 use Rattle.records.proofs.KindLaws.{width-range}
 use Rattle.rules.specs.Checkpoint.{checkpoint_length}
 use Rattle.rules.proofs.CheckpointLaws.{checkpoint-length}
-use Rattle.primary.proofs.AppendLaws.{checkpoint-length-le}
+use Rattle.primary.proofs.AppendLaws.{checkpoint_length_le}
 use Rattle.primary.proofs.checkpoint.checkpoint_length.Goals as goal
 use Rattle.primary.proofs.checkpoint.checkpoint_length.Goals.{After-checkpoint_end, After-number_end}
 
 -- the bytes of a checkpoint are far below 2 ^ 64, and so are those of its pages
 high : (c : After-number_end) → let a = c.args in checkpoint_length a.u a.wide a.pages ≤ 65536 * 4108 + 88
-high c = checkpoint-length-le c.args.u c.args.wide c.args.pages c.requires.0 c.requires.1
+high c = checkpoint_length_le c.args.u c.args.wide c.args.pages c.requires.0 c.requires.1
 
 pages-high : (c : After-number_end) → let a = c.args in a.pages * (a.u + c.number_end.result) ≤ 65536 * 4108 + 88
 pages-high c =

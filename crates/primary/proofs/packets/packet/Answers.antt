@@ -1,66 +1,22 @@
-use borrow.Author.Rules.{rules}
-use mathlib.Core.Path.{◌≡◌, sym, ◌∙◌}
+use mathlib.Core.Path.{sym, ◌∙◌}
 use native.Mathlib.Omega.{arith}
 use lib.ListN.{length}
 use Rattle.lists.proofs.TestLaws.{pick-accepted, pick-refused}
-use Rattle.settings.specs.Range.{most_packets}
 use Rattle.queue.specs.Held.{added, added_bytes}
-use Rattle.queue.proofs.SeenLaws.{looked-none, looked-next, looked-all}
+use Rattle.queue.proofs.SeenLaws.{seen-all}
 use Rattle.rules.specs.Packets.{packet_reply, packet_held}
-use Rattle.rules.proofs.ReplyLaws.{primary-accepts, primary-refuses}
+use Rattle.rules.proofs.ReplyLaws.{reply-accepts, reply-refuses}
 use Rattle.rules.proofs.PrimaryFacts.{primary-facts}
 use Rattle.rules.proofs.PacketLaws.{PacketFacts, packet-accepted}
 use Rattle.primary.proofs.packets.packet.Goals as goal
-use Rattle.primary.proofs.packets.packet.Goals.{Start, Then-number-eq0, then-number-eq0, else-number-eq0}
+use Rattle.primary.proofs.packets.packet.Goals.{Then-number-eq0, then-number-eq0, else-number-eq0}
 
--- the array's length, which the type gives
-array : (c : Start) → length c.args.p.queue.packets ≡ most_packets
-array c =
-    let h : length c.args.p.queue.packets ≡ 64 = search rules in
-    h
-
-pub loop-i-init : goal.loop-i-init
-loop-i-init c = looked-none _ _ _ c.none_seen-seen.ensures
-
-pub offset_bounds-packets-i : goal.offset_bounds-packets-i
-offset_bounds-packets-i c = omega arith
-
-pub bounds-packets-i : goal.bounds-packets-i
-bounds-packets-i c = omega arith
-
-pub offset_bounds-packets-i-in-loop-i : goal.offset_bounds-packets-i-in-loop-i
-offset_bounds-packets-i-in-loop-i c = omega arith
-
-pub bounds-packets-i-in-loop-i : goal.bounds-packets-i-in-loop-i
-bounds-packets-i-in-loop-i c = omega arith
-
-pub offset_bounds-packets-i-in-loop-i-2 : goal.offset_bounds-packets-i-in-loop-i-2
-offset_bounds-packets-i-in-loop-i-2 c = omega arith
-
-pub bounds-packets-i-in-loop-i-2 : goal.bounds-packets-i-in-loop-i-2
-bounds-packets-i-in-loop-i-2 c = omega arith
-
-pub seen_with-seen-requires : goal.seen_with-seen-requires
-seen_with-seen-requires c = omega arith
-
-pub overflow_add-i : goal.overflow_add-i
-overflow_add-i c = omega arith
-
-pub loop-i-smaller : goal.loop-i-smaller
-loop-i-smaller c = omega arith
-
-pub loop-i-preserved : goal.loop-i-preserved
-loop-i-preserved c =
-    let w = c.loop-i in
-    let h = array (goal.at.loop-i-preserved c).Start in
-    looked-next _ _ _ w.i w.invariant (omega arith) (omega arith) _ (c.seen_with-seen.ensures.value, c.seen_with-seen.ensures.bytes_bound)
-
-pub packet_refusal-number-requires : goal.packet_refusal-number-requires
-packet_refusal-number-requires c = looked-all c.args.p.queue _ _ _ _ _ c.looked_at-looked.ensures c.loop-i.invariant (λ h. omega arith)
+pub check_packet-requires : goal.check_packet-requires
+check_packet-requires c = rw c.seen_of-seen.ensures (seen-all c.args.p.queue _ _ _ c.min.ensures)
 
 -- what acceptance says
 facts : (c : Then-number-eq0) → let a = c.args in PacketFacts a.p (length a.held.now) a.port (length a.bytes.now)
-facts c = packet-accepted _ _ _ _ (sym c.packet_refusal-number.ensures ∙ c.if-number-eq0.true)
+facts c = packet-accepted _ _ _ _ (sym (c.number_in-number.ensures ∙ c.check_packet.ensures) ∙ c.if-number-eq0.true)
 
 pub overflow_cast-packets : goal.overflow_cast-packets
 overflow_cast-packets c = let f = facts (goal.at.overflow_cast-packets c).Then-number-eq0 in omega (arith, f.length_high)
@@ -89,18 +45,18 @@ overflow_add-total c =
 pub returns : goal.returns
 unfolding packet_reply packet_held added added_bytes
 returns c =
-    let e = c.packet_refusal-number.ensures in
+    let e = c.number_in-number.ensures ∙ c.check_packet.ensures in
     elim c.if-number-eq0.branch [
       | then-number-eq0 w ↦
           let z = w.if-number-eq0.true in
           record {
-            value = rw (c.with_queue-state.ensures, w.packets-is, w.count-is, w.total-is, w.value-is, z) (primary-accepts _ _ _ _ _ e z);
+            value = rw (c.with_queue.ensures, w.packets-is, w.count-is, w.total-is, w.value-is, z) (reply-accepts _ _ _ _ _ e z);
             held_after = rw w.held-is (w.copy_into.ensures ∙ sym (pick-accepted _ _ _ (sym e ∙ z)));
           }
       | else-number-eq0 w ↦
           let z = w.if-number-eq0.false in
           record {
-            value = rw (c.with_queue-state.ensures, w.packets-is, w.count-is, w.total-is, w.value-is) (primary-refuses _ _ _ _ _ e z);
+            value = rw (c.with_queue.ensures, w.packets-is, w.count-is, w.total-is, w.value-is) (reply-refuses _ _ _ _ _ e z);
             held_after = rw w.held-is (sym (pick-refused _ _ _ (λ x. z (e ∙ x))));
           }
     ]

@@ -16,13 +16,13 @@ returns-then-number-ne0 c =
 pub move_out-requires : goal.move_out-requires
 move_out-requires c =
     let h = c.requires c.if-number-ne0.false in
-    let e = c.drain_count-count.ensures in
+    let e = rw c.min.ensures at c.min-count.ensures in
     (omega arith, omega arith, omega arith)
 
 pub returns : goal.returns
 returns c =
     let z = c.if-number-ne0.false in
-    let n = c.drain_count-count.ensures in
+    let n = rw c.min.ensures at c.min-count.ensures in
     let m = c.move_out.ensures in
     record {
       value = n ∙ sym (pick-accepted _ _ _ z);

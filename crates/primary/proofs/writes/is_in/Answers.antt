@@ -1,55 +1,28 @@
-use mathlib.Core.Path.{◌≡◌, refl, sym, ap, ◌∙◌}
-use mathlib.Core.List.{List}
-use Prim.Native.Nat.{ℕ}
-use native.Mathlib.Omega.{arith}
-use lib.ListN.{length}
+use mathlib.Core.Path.{◌≡◌, sym, ap, ◌∙◌}
+use mathlib.Core.List.{List, ◌∷◌}
+use Prim.Native.Nat.{ℕ, ◌+◌, ◌<◌}
+use lib.ListN.{length, take, drop, get_or}
+use lib.Seq.{drop-cons}
 use borrow.Author.Tests.{eq-eqb, ne_eqb}
-use borrow.Author.Rules.{rules}
+use native.Mathlib.Numerals.{add-one}
 use Rattle.lists.specs.Select.{is_in}
-use Rattle.lists.proofs.ArrayLaws.{rest-cons, rest-none}
-use Rattle.lists.proofs.SelectLaws.{in-first, in-others, in-none}
+use Rattle.lists.proofs.SelectLaws.{in-first, in-others}
 use Rattle.primary.proofs.writes.is_in.Goals as goal
 
-pub loop-i-init : goal.loop-i-init
-loop-i-init c = (omega arith, refl)
+-- the number at the index is the first of those not yet passed
+rest : (l : List ℕ) (i : ℕ) → i < length l → drop i l ≡ get_or l i 0 ∷ drop (i + 1) l
+rest l i h = drop-cons l i 0 h ∙ rw add-one
 
-pub offset_bounds-numbers-i : goal.offset_bounds-numbers-i
-offset_bounds-numbers-i c = omega arith
-
-pub bounds-numbers-i : goal.bounds-numbers-i
-bounds-numbers-i c = omega arith
-
-pub returns-then-numbers-i : goal.returns-then-numbers-i
-returns-then-numbers-i c =
-    let w = c.loop-i in
+pub returns-then-number-block : goal.returns-then-number-block
+returns-then-number-block c =
     let a = c.args in
-    let h : length a.numbers ≡ 64 = search rules in
-    sym (in-first a.block _ _ (eq-eqb _ a.block c.if-numbers-i.true))
-    ∙ sym (ap (λ (l : List ℕ). is_in a.block l) (rest-cons a.numbers 0 w.i a.n (omega arith) (omega arith)))
-    ∙ w.invariant.1
+    sym (in-first a.block _ _ (eq-eqb _ a.block c.if-number-block.true))
+    ∙ sym (ap (λ (l : List ℕ). is_in a.block l) (rest (take a.n a.numbers) c.loop-number.number-index c.loop-number-test.true))
+    ∙ c.loop-number.invariant
 
-pub overflow_add-i : goal.overflow_add-i
-overflow_add-i c = omega arith
-
-pub loop-i-smaller : goal.loop-i-smaller
-loop-i-smaller c = omega arith
-
-pub loop-i-preserved : goal.loop-i-preserved
-loop-i-preserved c =
-    let w = c.loop-i in
+pub loop-number-preserved : goal.loop-number-preserved
+loop-number-preserved c =
     let a = c.args in
-    let h : length a.numbers ≡ 64 = search rules in (
-      omega arith,
-      sym (in-others a.block _ _ (ne_eqb _ a.block c.if-numbers-i.false))
-          ∙ sym (ap (λ (l : List ℕ). is_in a.block l) (rest-cons a.numbers 0 w.i a.n (omega arith) (omega arith)))
-          ∙ w.invariant.1,
-    )
-
-pub returns : goal.returns
-returns c =
-    let w = c.loop-i in
-    let a = c.args in
-    let h : length a.numbers ≡ 64 = search rules in
-    sym (in-none a.block)
-    ∙ sym (ap (λ (l : List ℕ). is_in a.block l) (rest-none a.numbers w.i a.n (omega arith) (omega arith)))
-    ∙ w.invariant.1
+    sym (in-others a.block _ _ (ne_eqb _ a.block c.if-number-block.false))
+    ∙ sym (ap (λ (l : List ℕ). is_in a.block l) (rest (take a.n a.numbers) c.loop-number.number-index c.loop-number-test.true))
+    ∙ c.loop-number.invariant

@@ -15,19 +15,19 @@ returns-then-s-ne-AREA_LENGTH c = sym (area-other-length _ c.if-s-ne-AREA_LENGTH
 pub returns-then-all_zero : goal.returns-then-all_zero
 returns-then-all_zero c = sym (area-of-zero _ c.if-s-ne-AREA_LENGTH.false (sym c.all_zero.ensures ∙ c.if-all_zero.true))
 
-pub returns-then-get2-ne-EPOCH_FIELD : goal.returns-then-get2-ne-EPOCH_FIELD
-returns-then-get2-ne-EPOCH_FIELD c =
+pub returns-then-get-ne-EPOCH_FIELD : goal.returns-then-get-ne-EPOCH_FIELD
+returns-then-get-ne-EPOCH_FIELD c =
     let d = c in
-    sym (area-other-body _ d.if-s-ne-AREA_LENGTH.false (not-zero (goal.at.returns-then-get2-ne-EPOCH_FIELD c).Else-all_zero) (λ e. c.if-get2-ne-EPOCH_FIELD.true (c.get2.ensures ∙ e)))
+    sym (area-other-body _ d.if-s-ne-AREA_LENGTH.false (not-zero (goal.at.returns-then-get-ne-EPOCH_FIELD c).Else-all_zero) (λ e. c.if-get-ne-EPOCH_FIELD.true (c.get.ensures ∙ e)))
 
-pub returns-then-get2-ne-ACTIVATION : goal.returns-then-get2-ne-ACTIVATION
-returns-then-get2-ne-ACTIVATION c =
+pub returns-then-get-ne-ACTIVATION : goal.returns-then-get-ne-ACTIVATION
+returns-then-get-ne-ACTIVATION c =
     let d = c in
-    sym (area-other-kind _ d.if-s-ne-AREA_LENGTH.false (not-zero (goal.at.returns-then-get2-ne-ACTIVATION c).Else-all_zero) (λ e. c.if-get2-ne-ACTIVATION.true (c.get2-2.ensures ∙ e)))
+    sym (area-other-kind _ d.if-s-ne-AREA_LENGTH.false (not-zero (goal.at.returns-then-get-ne-ACTIVATION c).Else-all_zero) (λ e. c.if-get-ne-ACTIVATION.true (c.get-2.ensures ∙ e)))
 
 pub returns : goal.returns
 returns c =
     let d = c in
-    let l = sym c.get2.ensures ∙ c.if-get2-ne-EPOCH_FIELD.false in
-    let k = sym c.get2-2.ensures ∙ c.if-get2-ne-ACTIVATION.false in
-    ap Activation c.get4.ensures ∙ sym (area-of-record _ d.if-s-ne-AREA_LENGTH.false (not-zero (goal.at.returns c).Else-all_zero) l k)
+    let l = sym c.get.ensures ∙ c.if-get-ne-EPOCH_FIELD.false in
+    let k = sym c.get-2.ensures ∙ c.if-get-ne-ACTIVATION.false in
+    ap Activation c.get-3.ensures ∙ sym (area-of-record _ d.if-s-ne-AREA_LENGTH.false (not-zero (goal.at.returns c).Else-all_zero) l k)

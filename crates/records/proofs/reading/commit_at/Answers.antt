@@ -4,8 +4,8 @@ use Rattle.records.specs.Kind.{commit_kind, record_length}
 use Rattle.records.proofs.KindLaws.{commit-length}
 use Rattle.records.proofs.reading.commit_at.Goals as goal
 
-pub get4-requires : goal.get4-requires
-get4-requires c = let a = c in omega (arith, commit-length a.args.u a.args.wide, a.requires)
+pub get-requires : goal.get-requires
+get-requires c = let a = c in omega (arith, commit-length a.args.u a.args.wide, a.requires)
 
 pub number_at-requires : goal.number_at-requires
 number_at-requires c = let a = c in omega (arith, commit-length a.args.u a.args.wide, a.requires)
@@ -17,4 +17,4 @@ pub returns : goal.returns
 returns c =
     let a = c.args in
     let e : record_length a.u (commit_kind a.wide) ≡ c.commit_length-end.result = commit-length a.u a.wide ∙ sym c.commit_length-end.ensures in
-    rw (e, c.commit_length-end.ensures, c.get4.ensures, c.number_at.ensures, c.number_at-2.ensures, c.number_end.ensures)
+    rw (e, c.commit_length-end.ensures, c.get.ensures, c.number_at.ensures, c.number_at-2.ensures, c.number_end.ensures)

@@ -6,8 +6,8 @@ use Rattle.records.specs.Read.{fields_of}
 use Rattle.records.proofs.KindLaws.{page-or, commit-or, other-ack, record-ge}
 use Rattle.records.proofs.reading.fields.Goals as goal
 
-pub get4-epoch-requires : goal.get4-epoch-requires
-get4-epoch-requires c =
+pub get-epoch-requires : goal.get-epoch-requires
+get-epoch-requires c =
     let s = c in
     let h = record-ge s.args.u s.args.kind s.requires.1 in
     omega arith
@@ -15,9 +15,9 @@ get4-epoch-requires c =
 pub page_at-requires : goal.page_at-requires
 page_at-requires c = (c.requires.0, rw c.in-1.is at c.requires.2)
 
-pub get2-requires : goal.get2-requires
+pub get-requires : goal.get-requires
 unfolding record_length body_length
-get2-requires c =
+get-requires c =
     let h = rw c.in-2.is at c.requires.2 in
     omega arith
 
@@ -38,11 +38,11 @@ pub returns-in-2 : goal.returns-in-2
 unfolding fields_of record_length body_length
 returns-in-2 c =
     let e : c.args.u + 10 ≡ record_length c.args.u BLOCK = omega arith in
-    rw (c.in-2.is, c.get4-epoch.ensures, c.get2.ensures, e)
+    rw (c.in-2.is, c.get-epoch.ensures, c.get.ensures, e)
 
 pub returns-in-3 : goal.returns-in-3
 unfolding fields_of record_length body_length
-returns-in-3 c = rw (c.in-3.is, c.get4-epoch.ensures)
+returns-in-3 c = rw (c.in-3.is, c.get-epoch.ensures)
 
 pub returns-in-4 : goal.returns-in-4
 unfolding fields_of
@@ -61,4 +61,4 @@ unfolding fields_of record_length body_length
 returns-in_default c =
     let s = c in
     let r = c.in_default.in_default-own.rest in
-    rw (other-ack s.args.kind s.requires.1 (page-or r.0.0.0.0.0.1 r.0.1) r.0.0.0.0.1 r.0.0.0.1 (commit-or r.0.0.1 r.1), c.get4-epoch.ensures)
+    rw (other-ack s.args.kind s.requires.1 (page-or r.0.0.0.0.0.1 r.0.1) r.0.0.0.0.1 r.0.0.0.1 (commit-or r.0.0.1 r.1), c.get-epoch.ensures)

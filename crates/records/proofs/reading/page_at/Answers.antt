@@ -6,8 +6,8 @@ use Rattle.records.proofs.KindLaws.{page-length, width-range}
 use borrow.Author.Rules.{rules}
 use Rattle.records.proofs.reading.page_at.Goals as goal
 
-pub get4-requires : goal.get4-requires
-get4-requires c = let a = c in omega (arith, page-length a.args.u a.args.wide, a.requires.1)
+pub get-requires : goal.get-requires
+get-requires c = let a = c in omega (arith, page-length a.args.u a.args.wide, a.requires.1)
 
 pub number_at-requires : goal.number_at-requires
 number_at-requires c = let a = c in omega (arith, page-length a.args.u a.args.wide, a.requires.1)
@@ -20,4 +20,4 @@ returns c =
     let a = c.args in
     let h = c.number_end-start.ensures in
     let e : a.u + c.number_end-start.result ≡ record_length a.u (page_kind a.wide) = omega (arith, page-length a.u a.wide) in
-    rw (e, h, c.get4.ensures, c.number_at.ensures)
+    rw (e, h, c.get.ensures, c.number_at.ensures)

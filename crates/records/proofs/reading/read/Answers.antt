@@ -12,7 +12,7 @@ use Rattle.records.proofs.reading.read.Goals as goal
 use Rattle.records.proofs.reading.read.Goals.{After-body_length-n, After-is_for, Else-length-n, Else-not-is_for, Else-not-unit_ok, Else-s-whole, Then-s-whole}
 
 pub returns-then-not-unit_ok : goal.returns-then-not-unit_ok
-returns-then-not-unit_ok c = sym (read-unit _ _ _ (sym c.unit_ok.ensures ∙ c.if-not-unit_ok.true))
+returns-then-not-unit_ok c = rw c.from.ensures (sym (read-unit _ _ _ (sym c.unit_ok.ensures ∙ c.if-not-unit_ok.true)))
 
 -- what each place knows, in the definition's own terms, stands before the first answer that needs it
 unit_ok_lem : (c : Else-not-unit_ok) → unit_ok c.args.u ≡ true
@@ -29,7 +29,7 @@ reader-is c = cc
 pub returns-then-not-is_for : goal.returns-then-not-is_for
 returns-then-not-is_for c =
     let h = c in
-    sym (read-kind _ _ _ (unit_ok_lem (goal.at.returns-then-not-is_for c).Else-not-unit_ok) h.if-s-lt-HEADER_LENGTH.false (sym (reader-is (goal.at.returns-then-not-is_for c).After-is_for) ∙ c.if-not-is_for.true))
+    rw c.from-then-not-is_for.ensures (sym (read-kind _ _ _ (unit_ok_lem (goal.at.returns-then-not-is_for c).Else-not-unit_ok) h.if-s-lt-HEADER_LENGTH.false (sym (reader-is (goal.at.returns-then-not-is_for c).After-is_for) ∙ c.if-not-is_for.true)))
 
 for-reader : (c : Else-not-is_for) →
     let a = c.args in
@@ -39,7 +39,7 @@ for-reader c = sym (reader-is (View.up-After-is_for Tie.the-claims Reads.Pre Rea
 pub body_length-n-requires : goal.body_length-n-requires
 body_length-n-requires c =
     let a = c.args in
-    rw c.get2-kind.ensures ((unit-le _ (unit_ok_lem (goal.at.body_length-n-requires c).Else-not-unit_ok)).1, for-test a.reader (le_at 2 a.s.now 2) (for-reader (goal.at.body_length-n-requires c).Else-not-is_for))
+    rw c.get-kind.ensures ((unit-le _ (unit_ok_lem (goal.at.body_length-n-requires c).Else-not-unit_ok)).1, for-test a.reader (le_at 2 a.s.now 2) (for-reader (goal.at.body_length-n-requires c).Else-not-is_for))
 
 body_is : (c : After-body_length-n) →
     let a = c.args in
@@ -50,7 +50,7 @@ pub returns-then-length-n : goal.returns-then-length-n
 returns-then-length-n c =
     let b = c in
     let h = c in
-    sym (read_length _ _ _ (unit_ok_lem (goal.at.returns-then-length-n c).Else-not-unit_ok) h.if-s-lt-HEADER_LENGTH.false (for-reader (goal.at.returns-then-length-n c).Else-not-is_for) (λ e. c.if-length-n.true (b.get2-length.ensures ∙ e ∙ sym (body_is (goal.at.returns-then-length-n c).After-body_length-n))))
+    rw c.from-then-length-n.ensures (sym (read_length _ _ _ (unit_ok_lem (goal.at.returns-then-length-n c).Else-not-unit_ok) h.if-s-lt-HEADER_LENGTH.false (for-reader (goal.at.returns-then-length-n c).Else-not-is_for) (λ e. c.if-length-n.true (b.get-length.ensures ∙ e ∙ sym (body_is (goal.at.returns-then-length-n c).After-body_length-n)))))
 
 pub overflow_sub-result-then-s-whole : goal.overflow_sub-result-then-s-whole
 overflow_sub-result-then-s-whole c = omega arith
@@ -60,7 +60,7 @@ size_is : (c : Else-length-n) →
     le_at 2 a.s.now 0 ≡ body_length a.u (le_at 2 a.s.now 2)
 size_is c =
     let b = c in
-    sym b.get2-length.ensures ∙ c.if-length-n.false ∙ body_is (View.up-After-body_length-n Tie.the-claims Reads.Pre Reads.Post b.before.before)
+    sym b.get-length.ensures ∙ c.if-length-n.false ∙ body_is (View.up-After-body_length-n Tie.the-claims Reads.Pre Reads.Post b.before.before)
 
 body-cut : (c : Then-s-whole) →
     let a = c.args in
@@ -98,7 +98,7 @@ pub fields-requires : goal.fields-requires
 fields-requires c =
     let a = c.args in
     let w = whole c in
-    rw c.get2-kind.ensures ((unit-le _ w.unit).1, for-test a.reader (le_at 2 a.s.now 2) w.kind, w.body)
+    rw c.get-kind.ensures ((unit-le _ w.unit).1, for-test a.reader (le_at 2 a.s.now 2) w.kind, w.body)
 
 pub returns : goal.returns
 returns c = let w = read_whole _ _ _ (whole (goal.at.returns c).Else-s-whole) in cc

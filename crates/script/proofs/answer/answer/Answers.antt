@@ -6,10 +6,10 @@ use Rattle.script.proofs.answer.answer.Goals as goal
 
 pub returns : goal.returns
 returns c =
-    let p = c.print-n in
+    let p = c.print-length in
     let d = c in
     let start = c in
-    let told = answer-is (world_of start.args.s) start.args.l _ _ _ _ _ _ d.command_of-c.ensures d.letter_of-letter.ensures d.perform-done.ensures p.ensures.put_done p.ensures.upper_bound refl in
+    let told = answer-is (world_of start.args.s) start.args.l _ _ _ _ _ _ d.command_of-c.ensures d.letter_of.ensures d.perform-done.ensures p.ensures.put_done p.ensures.upper_bound refl in
     record {
       site_value = told.0;
       last_value = told.1.0;

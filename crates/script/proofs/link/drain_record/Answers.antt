@@ -16,19 +16,16 @@ stream-long c = sym (lengths c.args.s _ c.well_formed.0).stream
 link-long : (c : Start) → length c.args.s.link ≡ 2048
 link-long c = sym (lengths c.args.s _ c.well_formed.0).link
 
-pub returns-then-linked-ne0 : goal.returns-then-linked-ne0
-returns-then-linked-ne0 c =
+pub returns-then-s-ne0 : goal.returns-then-s-ne0
+returns-then-s-ne0 c =
     let a = c in
-    sym (cond-false _ _ _ (full-link a.args.s (link-long (goal.at.returns-then-linked-ne0 c).Start) c.if-linked-ne0.true))
+    sym (cond-false _ _ _ (full-link a.args.s (link-long (goal.at.returns-then-s-ne0 c).Start) c.if-s-ne0.true))
 
-pub slice_bounds-first_length-end : goal.slice_bounds-first_length-end
-slice_bounds-first_length-end c = sym (stream-long (goal.at.slice_bounds-first_length-end c).Start)
-
-pub first_length-n-requires : goal.first_length-n-requires
-first_length-n-requires c = let h = stream-long (goal.at.first_length-n-requires c).Start in omega arith
+pub first_length-requires : goal.first_length-requires
+first_length-requires c = let h = stream-long (goal.at.first_length-requires c).Start in omega arith
 
 pub returns : goal.returns
 unfolding world_of
 returns c =
     let a = c in
-    rw c.first_length-n.ensures at c.drain_bytes.ensures ∙ drain-record a.args.s (link-long (goal.at.returns c).Start) c.if-linked-ne0.false (stream-long (goal.at.returns c).Start)
+    rw c.first_length.ensures at c.drain_bytes.ensures ∙ drain-record a.args.s (link-long (goal.at.returns c).Start) c.if-s-ne0.false (stream-long (goal.at.returns c).Start)

@@ -1,6 +1,7 @@
 -- `script::link::move_record` meets its contract. Assumes nothing.
 use mathlib.Core.Path.{◌≡◌, sym, ap, ◌∙◌}
 use mathlib.Core.Bool.{false, ◌&&◌}
+use mathlib.Core.Logic.{⊎_elim}
 use lib.Dec.{eqb}
 use lib.ListN.{length, replicate}
 use borrow.Author.Tests.{eq-eqb, ne_eqb}
@@ -14,30 +15,23 @@ use Rattle.script.specs.Site.{world_of}
 use Rattle.script.proofs.LinkLaws.{empty-link, full-link}
 use Rattle.script.proofs.SiteLaws.{lengths}
 use Rattle.script.proofs.link.move_record.Goals as goal
-use Rattle.script.proofs.link.move_record.Goals.{Joined-linked-eq0, Start, then-linked-eq0+else-waiting-eq0, else-linked-eq0}
 
-link-long : (c : Start) → length c.args.s.link ≡ 2048
-link-long c = sym (lengths c.args.s _ c.well_formed.0).link
+pub returns-then-s-eq0-2 : goal.returns-then-s-eq0-2
+unfolding perform move_done world_of
+returns-then-s-eq0-2 c =
+    let s = c.args.s in
+    let long = sym (lengths s _ c.well_formed.0).link in
+    c.nothing_there.ensures ∙ sym (cond-true _ _ _ (join _ _ (empty-link s long c.if-s-eq0.true) (eq-eqb _ _ c.if-s-eq0-2.true)))
 
 -- past the tests there is something to move
-something : (c : Joined-linked-eq0) → is_empty (world_of c.args.s).link && eqb c.args.s.primary.state.waiting 0 ≡ false
-something c =
-    let a = c in
-    elim c.if-linked-eq0.branch [
-      | then-linked-eq0+else-waiting-eq0 w ↦ rw (ne_eqb _ _ w.if-waiting-eq0.false) (and-false (is_empty (world_of a.args.s).link))
-      | else-linked-eq0 w ↦ rw (full-link a.args.s (sym (lengths a.args.s _ a.well_formed.0).link) w.if-linked-eq0.false)
-    ]
-
-pub returns-then-waiting-eq0 : goal.returns-then-waiting-eq0
-unfolding perform move_done world_of
-returns-then-waiting-eq0 c =
-    let a = c in
-    c.nothing_there.ensures
-    ∙ sym (cond-true _ _ _ (join _ _ (empty-link a.args.s (link-long (goal.at.returns-then-waiting-eq0 c).Start) c.if-linked-eq0.true) (eq-eqb _ _ c.if-waiting-eq0.true)))
-
 pub returns : goal.returns
 unfolding perform move_done world_of
 returns c =
+    let s = c.args.s in
+    let link = is_empty (world_of s).link in
+    let long = sym (lengths s _ c.well_formed.0).link in
+    let something : link && eqb s.primary.state.waiting 0 ≡ false
+    = ⊎_elim (λ w. rw (ne_eqb _ _ w.1) (and-false link)) (λ w. rw (full-link s long w)) c.else-s-eq0.either in
     c.read_link.ensures
     ∙ ap (λ (w : World). done (step w (call.read (length w.link) (replicate ack_bytes 0)))) c.drain_record.ensures
-    ∙ sym (cond-false _ _ _ (something (goal.at.returns c).Joined-linked-eq0))
+    ∙ sym (cond-false _ _ _ something)

@@ -15,13 +15,7 @@ link-long c = sym (lengths c.args.s _ c.well_formed.0).link
 used-inside : (c : After-used_of-used) → c.used_of-used.result ≤ c.in_link-count.result
 used-inside c =
     let a = c in
-    used_low a.args.s (link-long a.before.before.before.before.before.before.before.before.before) _ c.in_link-count.ensures _ c.part_of.ensures c.read_reply-r.result c.read_reply-r.ensures.value c.used_of-used.result c.used_of-used.ensures
-
-pub part_of-requires : goal.part_of-requires
-part_of-requires c = let h = link-long (goal.at.part_of-requires c).Start in let e = c.in_link-count.ensures in omega arith
-
-pub slice_bounds-remove-end : goal.slice_bounds-remove-end
-slice_bounds-remove-end c = sym (link-long (goal.at.slice_bounds-remove-end c).Start)
+    used_low a.args.s (sym (lengths a.args.s _ a.well_formed.0).link) _ c.in_link-count.ensures _ c.part_of.ensures c.read_reply-r.result c.read_reply-r.ensures.value c.used_of-used.result c.used_of-used.ensures
 
 pub remove-requires : goal.remove-requires
 remove-requires c =
@@ -40,4 +34,4 @@ returns c =
     c.answered.ensures
     ∙ read_done a.args.s (link-long (goal.at.returns c).Start) c.in_link-count.result c.in_link-count.ensures
     _ c.part_of.ensures r.result r.ensures.value c.used_of-used.result c.used_of-used.ensures
-    _ c.first_unread-unread.result c.remove.ensures c.first_unread-unread.ensures
+    _ c.first_unread.result c.remove.ensures c.first_unread.ensures

@@ -16,7 +16,7 @@ returns c =
     let made = rw g.ensures at k.value in
     let t = settings_with s.args.t in
     record {
-      site_value = ap world_of c.opened-site.ensures ∙ start-world t (processor_of 0) (zero_buffers t) _ _ _ _ _ _ _
+      site_value = ap world_of c.opened.ensures ∙ start-world t (processor_of 0) (zero_buffers t) _ _ _ _ _ _ _
           (made, (rw g.ensures at k.dirty_after, (rw g.ensures at k.standby_memory_after, (rw g.ensures at k.standby_disk_after, (rw g.ensures at k.staged_marks_after, rw g.ensures at k.area_after)))));
       number_value = ap (λ (r : Started). r.number) made;
     }

@@ -3,10 +3,5 @@ use Rattle.records.proofs.FrameLaws.{length-epoch}
 use Rattle.records.proofs.WriteLaws.{room_of, written-bytes}
 use Rattle.standby.proofs.effects.install.Goals as goal
 
-pub returns : goal.returns
-returns c =
-    record {
-      memory_after = c.install.ensures;
-      marks_after = c.clear.ensures;
-      reply_after = written-bytes c.write_ack.ensures (room_of _ _ _ refl (rw length-epoch c.requires.2));
-    }
+pub returns-clause-reply_after : goal.returns-clause-reply_after
+returns-clause-reply_after c = written-bytes c.write_ack.ensures (room_of _ _ _ refl (rw length-epoch c.requires.2))

@@ -42,4 +42,4 @@ returns c =
     let at = c.loop-rest in
     let l : at.rest < 10 = omega arith in
     let h : at.start ≤ length at.bytes = omega arith in
-    (sym (at.invariant.4 ∙ digits-end at.bytes c.last_digit-2.result at.start at.rest at.invariant.0 h c.last_digit-2.ensures l), omega arith, simp length-set (omega arith))
+    sym (at.invariant.4 ∙ digits-end at.bytes c.last_digit-2.result at.start at.rest at.invariant.0 h c.last_digit-2.ensures l)

@@ -1,20 +1,17 @@
-use mathlib.Core.Path.{refl}
-use native.Mathlib.Omega.{arith}
-use borrow.Author.Rules.{rules}
-use Rattle.text.proofs.PrintLaws.{spaces-none, spaces-more, spaces-all}
+use Rattle.std.proofs.Common.{◌≡◌, ℕ, ◌+◌, ◌∙◌, refl, sym, ap, rules, arith, length, replicate}
+use Rattle.std.proofs.lemmas.List.{length-replicate}
+use Rattle.std.proofs.lemmas.Slice.{put_mid-paste}
+use Rattle.lists.proofs.PartLaws.{put-paste}
+use Rattle.text.specs.Line.{space}
 use Rattle.text.proofs.printing.put_spaces.Goals as goal
 
-pub loop-i-init : goal.loop-i-init
-loop-i-init c = (omega arith, refl, spaces-none _ _)
-
-pub loop-i-preserved : goal.loop-i-preserved
-loop-i-preserved c =
-    let w = c.loop-i in
-    (omega arith, search rules, spaces-more _ _ _ w.i (omega arith) w.invariant.2)
-
-pub returns : goal.returns
-returns c =
-    let w = c.loop-i in record {
-      put_done = spaces-all _ _ _ w.i _ w.invariant.0 c.loop-i-test.false w.invariant.2;
-      value = refl;
+pub returns-clause-put_done : goal.returns-clause-put_done
+returns-clause-put_done c =
+    let a = c.args in
+    let spaces = replicate a.n space in
+    let long : length spaces ≡ a.n = length-replicate a.n space in
+    let filled : c.fill.new.self ≡ spaces = search rules in
+    record {
+      bytes = put_mid-paste a.at _ a.out.now c.fill.new.self spaces (length spaces) filled (omega (arith, long)) refl ∙ put-paste a.out.now a.at spaces;
+      position = ap (λ (k : ℕ). a.at + k) (sym long);
     }

@@ -7,6 +7,6 @@ pub returns : goal.returns
 returns c =
     let a = c.args in
     let p = c.perform-done in
-    let w = c.put_lines-n.ensures in
+    let w = c.put_lines-length.ensures in
     answer-is a.t a.l _ _ p.result c.damaged_by-damaged.result _ _ _ c.trace_command_of-c.ensures c.fault_of-fault.ensures
     p.ensures c.damaged_by-damaged.ensures w.put_done w.upper_bound refl

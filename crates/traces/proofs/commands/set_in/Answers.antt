@@ -17,14 +17,12 @@ link-long c = sym (lengths c.args.d _ c.well_formed.1.0).link
 
 pub returns-then-count-place : goal.returns-then-count-place
 returns-then-count-place c =
-    let a = c in
-    let n = length-link a.args.d (link-long (goal.at.returns-then-count-place c).Start) in
-    let h : length (world_of a.args.d).link ≤ a.args.at = omega (arith, n, c.in_link-count.ensures) in
-    sym (cond-false _ _ _ (le-ltb _ _ h))
+    let n = length-link c.args.d (link-long (goal.at.returns-then-count-place c).Start) in
+    let h : length (world_of c.args.d).link ≤ c.args.at = omega (arith, n, c.in_link-count.ensures) in
+    rw c.number.ensures (sym (cond-false _ _ _ (le-ltb _ _ h)))
 
 pub returns : goal.returns
 returns c =
-    let a = c in
-    let n = length-link a.args.d (link-long (goal.at.returns c).Start) in
-    let h : a.args.at < length (world_of a.args.d).link = omega (arith, n, c.in_link-count.ensures, c.if-count-place.false) in
-    set-done a.args.d (link-long (goal.at.returns c).Start) a.args.at h a.args.byte ∙ sym (cond-true _ _ _ (lt-ltb _ _ h))
+    let n = length-link c.args.d (link-long (goal.at.returns c).Start) in
+    let h : c.args.at < length (world_of c.args.d).link = omega (arith, n, c.in_link-count.ensures, c.if-count-place.false) in
+    set-done c.args.d (link-long (goal.at.returns c).Start) c.args.at h c.args.byte ∙ sym (cond-true _ _ _ (lt-ltb _ _ h))

@@ -7,4 +7,4 @@ pub returns-then-n-eq0 : goal.returns-then-n-eq0
 returns-then-n-eq0 c = none_kept _ _ c.if-n-eq0.true
 
 pub returns : goal.returns
-returns c = some-kept _ _ _ c.line_with_all-line.ensures (omega arith)
+returns c = some-kept _ _ _ c.line_with_all.ensures (omega arith)

@@ -1,16 +1,15 @@
 -- `traces::rows::put_counts` meets its contract. Assumes nothing.
 use mathlib.Core.Path.{sym, ◌∙◌}
+use mathlib.Core.List.{append_assoc, append-nil}
+use Rattle.script.specs.Site.{world_of}
 use Rattle.script.proofs.LinkLaws.{length-link}
 use Rattle.script.proofs.SiteLaws.{lengths}
-use Rattle.traces.proofs.RowLaws.{counts-put}
+use Rattle.traces.specs.Row.{in_columns, count_columns}
 use Rattle.traces.proofs.rows.put_counts.Goals as goal
 
-pub returns : goal.returns
-returns c =
-    let a = c in
-    let s = a.args.site in
-    let e = c.put_five.ensures in
-    record {
-      put_done = counts-put s _ _ _ _ _ (c.in_link-linked.ensures ∙ sym (length-link s (sym (lengths s _ a.well_formed.1.1.0).link))) e.put_done;
-      upper_bound = e.upper_bound;
-    }
+pub returns-clause-put_done : goal.returns-clause-put_done
+unfolding in_columns count_columns world_of
+returns-clause-put_done c =
+    let s = c.args.site in
+    let linked = c.in_link.ensures ∙ sym (length-link s (sym (lengths s _ c.well_formed.1.1.0).link)) in
+    simp append_assoc (simp (append_assoc, append-nil) at (rw linked at c.put_columns.ensures.put_done))

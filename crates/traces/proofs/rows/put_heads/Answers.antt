@@ -1,15 +1,8 @@
 -- `traces::rows::put_heads` meets its contract. Assumes nothing.
-use Rattle.text.proofs.PrintLaws.{put-within, put_then, put-end}
-use Rattle.traces.specs.Row.{heads}
+use mathlib.Core.List.{append_assoc, append-nil}
+use Rattle.traces.specs.Row.{in_columns, heads}
 use Rattle.traces.proofs.rows.put_heads.Goals as goal
 
-pub returns : goal.returns
-unfolding heads
-returns c =
-    let told = put-end
-    (put_then (put_then (put_then (put-within c.put_head-a.ensures.put_done c.put_head-a.ensures.upper_bound) (put-within c.put_head-b.ensures.put_done c.put_head-b.ensures.upper_bound)) (put-within c.put_head-c.ensures.put_done c.put_head-c.ensures.upper_bound)) (put-within c.put_head.ensures.put_done c.put_head.ensures.upper_bound))
-    c.requires.0 in
-    record {
-      put_done = told.0;
-      upper_bound = told.1;
-    }
+pub returns-clause-put_done : goal.returns-clause-put_done
+unfolding in_columns heads
+returns-clause-put_done c = simp append_assoc (simp (append_assoc, append-nil) at c.put_columns.ensures.put_done)

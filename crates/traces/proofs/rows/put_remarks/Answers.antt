@@ -1,16 +1,19 @@
 -- `traces::rows::put_remarks` meets its contract. Assumes nothing.
-use Rattle.text.proofs.PrintLaws.{put-within, put_then, put-end}
+use Prim.Native.Nat.{◌+◌, ◌≤◌}
+use native.Mathlib.Omega.{arith}
+use lib.ListN.{length}
+use Rattle.text.proofs.PrintLaws.{put-text, put_then}
 use Rattle.script.specs.Site.{world_of}
 use Rattle.traces.specs.Row.{remarks}
+use Rattle.traces.proofs.RowLaws.{put_in}
 use Rattle.traces.proofs.rows.put_remarks.Goals as goal
 
-pub returns : goal.returns
+pub returns-clause-put_done : goal.returns-clause-put_done
 unfolding remarks world_of
-returns c =
-    let told = put-end
-    (put_then (put_then (put-within c.put_shown-a.ensures.put_done c.put_shown-a.ensures.upper_bound) (put-within c.put_mode-b.ensures.put_done c.put_mode-b.ensures.upper_bound)) (put-within c.put_shown.ensures.put_done c.put_shown.ensures.upper_bound))
-    c.requires in
-    record {
-      put_done = told.0;
-      upper_bound = told.1;
-    }
+returns-clause-put_done c =
+    let alone = c.shown-alone.ensures in
+    let mode = c.mode_words-mode.ensures in
+    let no_run = c.shown-no_run.ensures in
+    let all = put_then (put_then (put-text c.put_text-a.ensures) (put-text c.put_text-b.ensures)) (put-text c.put_text.ensures) in
+    let low : length c.shown-alone.result.now + length c.mode_words-mode.result.now + length c.shown-no_run.result.now ≤ 73 = omega (arith, alone.bound, mode.bound, no_run.bound) in
+    rw (alone.value, mode.value, no_run.value) at (put_in all low c.requires).0

@@ -9,4 +9,4 @@ returns c =
     let n = c.put_number-a.ensures in
     let m = c.put_reason.ensures in
     let p = put-end (put_then (put-within n.put_done n.lower_bound.1) (put_then (put-text c.put_byte-b.ensures) (put-within m.put_done m.upper_bound))) c.requires in
-    record { put_done = rw c.trace_letter_of-letter.ensures at p.0; upper_bound = p.1 }
+    record { put_done = rw c.trace_letter_of.ensures at p.0; upper_bound = p.1 }

@@ -8,4 +8,4 @@ unfolding command_words
 returns c =
     let n = c.put_trace_numbers.ensures in
     let p = put-end (put_then (put-text c.put_byte-a.ensures) (put-within n.put_done n.upper_bound)) c.requires in
-    record { put_done = rw c.trace_letter_of-letter.ensures at p.0; upper_bound = p.1 }
+    record { put_done = rw c.trace_letter_of.ensures at p.0; upper_bound = p.1 }

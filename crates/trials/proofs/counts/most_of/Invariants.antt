@@ -1,12 +1,8 @@
 -- `trials::counts::most_of` meets its contract. The loop's invariant: the rest, from what is kept, gives what all give.
-use Prim.Native.Nat.{◌-◌, ◌≤◌}
 use mathlib.Core.Path.{◌≡◌}
-use lib.ListN.{length, take, drop}
+use lib.ListN.{drop}
 use Rattle.trials.specs.Trial.{longest_to}
 use Rattle.trials.proofs.counts.most_of.Given as goal
 
-abbrev pub invariant-loop-i : goal.invariant-loop-i
-invariant-loop-i l = (l.i ≤ l.n) × (l.n ≤ length l.sent) × (length l.sent ≡ 64) × (longest_to l.tick l.most (take l.n l.sent) ≡ longest_to l.tick l.longest (drop l.i (take l.n l.sent)))
-
-abbrev pub decreases-loop-i : goal.decreases-loop-i
-decreases-loop-i l = l.n - l.i
+abbrev pub invariant-loop-begun : goal.invariant-loop-begun
+invariant-loop-begun l = longest_to l.fn.tick l.fn.most l.fn.sent ≡ longest_to l.fn.tick l.longest (drop l.begun-index l.fn.sent)

@@ -1,39 +1,38 @@
-use mathlib.Core.Path.{refl, sym, ◌∙◌}
+use Prim.Native.Nat.{ℕ, ◌+◌, ◌-◌}
+use mathlib.Core.Path.{◌≡◌, sym, ap, ◌∙◌}
 use native.Mathlib.Omega.{arith}
-use Rattle.trials.specs.Site.{course_of, work_part}
-use Rattle.trials.proofs.CourseLaws.{over-stays}
-use Rattle.trials.proofs.LoopLaws.{rest, each_first, each_turn, each_last}
+use borrow.Author.Rules.{rules}
+use Rattle.std.specs.Prelude.{Err}
+use Rattle.trials.specs.Trial.{Course, and_then}
+use Rattle.trials.specs.Part.{each}
+use Rattle.trials.specs.Site.{trial_of, course_of}
+use Rattle.trials.proofs.LoopLaws.{rest, each_turn, each_last}
 use Rattle.trials.proofs.guest.each_of.Goals as goal
 
 pub loop-i-init : goal.loop-i-init
-loop-i-init c = (refl, omega arith, each_first (work_part c.args.w) (course_of c.args.c) c.args.n)
+loop-i-init g c = λ part does.
+    let e : c.args.n ≡ c.args.n - 0 = omega arith in
+    ap (λ (m : ℕ). (each part 0 m).course (trial_of c.args.t)) e
 
 pub loop-i-preserved : goal.loop-i-preserved
-loop-i-preserved c =
+loop-i-preserved g c = λ part does.
     let at = c.loop-i in
-    let a = c.args in
-    let h = c.loop-i-test.true in
-    let off = sym at.invariant.0 ∙ c.if-not-over.true in
-    (refl, omega arith, at.invariant.2 ∙ each_turn (work_part a.w) at.course a.n at.i (course_of c.one-course.result) h off c.one-course.ensures)
+    let turn = does at.trial at.i _ (omega arith) c.in_ok-trial.ensures in
+    at.invariant part does
+    ∙ each_turn part (trial_of at.trial) c.args.n at.i (omega arith)
+    ∙ ap (λ (x : Course). and_then x (rest part c.args.n (at.i + 1))) (sym turn)
 
-pub returns-else-not-over : goal.returns-else-not-over
-returns-else-not-over c =
+pub returns-in_err-trial : goal.returns-in_err-trial
+returns-in_err-trial g c = λ part does.
     let at = c.loop-i in
-    let a = c.args in
-    let on = sym at.invariant.0 ∙ c.if-not-over.false in
-    over-stays at.course (rest (work_part a.w) a.n at.i) on ∙ sym at.invariant.2
+    let turn = does at.trial at.i _ (omega arith) c.in_err-trial.ensures in
+    let is : c.from_residual.result ≡ Err c.in_err-trial.field-0.0 = search rules in
+    ap course_of is
+    ∙ sym (at.invariant part does
+    ∙ each_turn part (trial_of at.trial) c.args.n at.i (omega arith)
+    ∙ ap (λ (x : Course). and_then x (rest part c.args.n (at.i + 1))) (sym turn))
 
-pub returns-after-loop-i : goal.returns-after-loop-i
-returns-after-loop-i c =
+pub returns : goal.returns
+returns g c = λ part does.
     let at = c.loop-i in
-    let a = c.args in
-    sym (at.invariant.2 ∙ each_last (work_part a.w) (course_of at.course) a.n at.i (omega arith))
-
-pub one-course-requires : goal.one-course-requires
-one-course-requires c = tt
-
-pub overflow_add-i : goal.overflow_add-i
-overflow_add-i c = record { fits = omega arith }
-
-pub loop-i-smaller : goal.loop-i-smaller
-loop-i-smaller c = omega arith
+    sym (at.invariant part does ∙ each_last part (trial_of at.trial) c.args.n at.i (omega arith))

@@ -7,10 +7,10 @@ use Rattle.trials.specs.Tick.{filled}
 use Rattle.trials.proofs.CourseLaws.{done-count, must-done}
 use Rattle.trials.proofs.guest.write_block.Goals as goal
 
-pub with_site-requires : goal.with_site-requires
+pub unless_refused-requires : goal.unless_refused-requires
 unfolding perform
-with_site-requires c = done-count _ _ refl _ c.disk-d.ensures
+unless_refused-requires c = done-count _ _ refl _ c.disk.ensures
 
 pub returns : goal.returns
 unfolding perform
-returns c = must-done (λ u. call.disk_write c.args.block (replicate 64 filled)) _ _ _ _ _ c.disk-d.ensures c.with_site.ensures c.unless_refused.ensures
+returns c = must-done (λ u. call.disk_write c.args.block (replicate 64 filled)) _ _ _ _ c.disk.ensures c.unless_refused.ensures

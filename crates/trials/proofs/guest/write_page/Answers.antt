@@ -7,10 +7,10 @@ use Rattle.trials.specs.Tick.{filled}
 use Rattle.trials.proofs.CourseLaws.{done-count, must-done}
 use Rattle.trials.proofs.guest.write_page.Goals as goal
 
-pub with_site-requires : goal.with_site-requires
+pub unless_refused-requires : goal.unless_refused-requires
 unfolding perform
-with_site-requires c = done-count _ _ refl _ c.write-d.ensures
+unless_refused-requires c = done-count _ _ refl _ c.write.ensures
 
 pub returns : goal.returns
 unfolding perform
-returns c = must-done (λ u. call.memory_write c.args.page 0 (filled ∷ [])) _ _ _ _ _ c.write-d.ensures c.with_site.ensures c.unless_refused.ensures
+returns c = must-done (λ u. call.memory_write c.args.page 0 (filled ∷ [])) _ _ _ _ c.write.ensures c.unless_refused.ensures

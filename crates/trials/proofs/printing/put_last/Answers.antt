@@ -4,9 +4,7 @@ use Rattle.trials.proofs.printing.put_last.Goals as goal
 
 pub returns : goal.returns
 returns c =
-    let b = c in
-    let n = c in
-    let told = last-put _ _ _ _ _ _ _ n.requires n.put_number-a.ensures.lower_bound.1 n.put_number-a.ensures.put_done b.put_byte.ensures in
+    let told = last-put _ _ _ _ _ _ _ c.requires c.put_number-a.ensures.lower_bound.1 c.put_number-a.ensures.put_done c.put_byte.ensures in
     record {
       put_done = told.0;
       upper_bound = told.1;
