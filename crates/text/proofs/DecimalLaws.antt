@@ -1,14 +1,15 @@
 -- Laws of decimal numbers: the digits of a number, stored from the last to the first, and read back. Assumes nothing.
-use mathlib.Core.Path.{◌≡◌, refl, ap, ◌∙◌}
+use mathlib.Core.Path.{◌≡◌, refl, sym, ap, ◌∙◌}
 use mathlib.Core.Logic.{⊎_elim}
 use mathlib.Core.Bool.{true}
 use mathlib.Core.List.{List, [], ◌∷◌}
 use Prim.Native.Nat.{ℕ, zero, suc, ◌+◌, ◌-◌, ◌*◌, ◌/◌, ◌%◌, ◌^◌, ◌≤◌, ◌<◌}
 use native.Mathlib.Nat.{pow-suc, div-lt_iff_lt-mul}
 use native.Mathlib.Omega.{arith}
-use lib.ListN.{length, take, drop, set}
-use lib.Seq.{set_split, drop_at, length-take-le}
+use lib.ListN.{length, take, drop, replicate, set}
+use lib.Seq.{set_split, drop_at, length-take-le, take-take}
 use borrow.Author.Tests.{lt-ltb, le-ltb}
+use Rattle.std.proofs.lemmas.List.{take-set, take-replicate}
 use Rattle.lists.proofs.TestLaws.{lt-or-ge, within_of}
 use Rattle.text.specs.Decimal.{zero_digit, is_digit, all_digits, value_from, value_of, digits_before, decimal}
 
@@ -50,6 +51,14 @@ module _ (bytes : List ℕ) (v : ℕ) where
       let d : suc k - 1 ≡ k = omega arith in
       let m : n % 10 ≡ n = omega arith in
       rw (d, stored k h, e, m) (digits_last k n (drop (suc k) bytes) l)
+
+-- what stands in front of them stays 0
+pub zeros-turn : (s : ℕ) (bytes : List ℕ) (v : ℕ) → 1 ≤ s → take s bytes ≡ replicate s 0 → take (s - 1) (set bytes (s - 1) v) ≡ replicate (s - 1) 0
+zeros-turn s bytes v p e =
+    take-set bytes (s - 1) v
+    ∙ sym (take-take (s - 1) s bytes (omega arith))
+    ∙ ap (take (s - 1)) e
+    ∙ take-replicate (s - 1) s 0 (omega arith)
 
 -- ---- what is printed is read back
 digits-all : (k n : ℕ) (rest : List ℕ) → all_digits (digits_before k n rest) ≡ all_digits rest

@@ -1,5 +1,6 @@
 pub mod Line
 pub mod Decimal
+pub mod Digits
 pub mod Kept
 pub mod Row
 pub mod Feed

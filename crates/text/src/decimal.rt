@@ -4,21 +4,27 @@ ghost use Rattle.text.specs.Decimal.{decimal, zero_digit};
 
 use std::marker::Model;
 
-// A number's decimal digits: the bytes from start on. A contract sees them as a list.
-#[derive(Drop)]
+// A number's decimal digits: the bytes from start on; those in front of it are 0, so that the digits give the fields
+// back, which a copy needs. A contract sees them as a list.
+#[derive(Clone, Copy)]
 pub struct Digits {
-    bytes: [u8; 20],
-    start: usize,
+    pub bytes: [u8; 20],
+    pub start: usize,
 }
 
 impl Model for Digits {
-    ghost use Rattle.std.specs.Prelude.{ℕ, List, ◌≤◌, drop};
+    ghost use Rattle.std.specs.Prelude.{ℕ, List, drop};
+    ghost use Rattle.text.specs.Digits.{BehindZeros, start_of, array_of, start-back, array-back};
 
     ghost Value = { List ℕ };
 
     ghost view = { λ d. drop d.start d.bytes };
 
-    ghost invariant = { λ d. d.start ≤ 19 };
+    ghost invariant = { λ d. BehindZeros d.start d.bytes };
+
+    ghost inverse = { λ digits. record { bytes = array_of digits; start = start_of digits } };
+
+    ghost inverse_ok = { λ d h i. record { bytes = array-back d.start d.bytes h i; start = start-back d.start d.bytes h i } };
 }
 
 impl Digits {

@@ -8,6 +8,8 @@ pub mod lines;
 pub mod printing;
 pub mod rows;
 
+pub use decimal::Digits;
+
 // What is kept of a word that may be a number: three facts, which the laws kept-some, kept-digits and kept-number
 // (proofs/NumberLaws.antt) tie to the whole word one by one, and of which `traces` names the one that fails.
 #[derive(Clone, Copy)]
