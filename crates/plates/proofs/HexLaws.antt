@@ -1,7 +1,7 @@
 -- Laws of bytes in hexadecimal: a digit, one character, and the bytes read so far. Assumes nothing.
 use Prim.Native.Nat.{ℕ, suc, ◌+◌, ◌-◌, ◌*◌, ◌≤◌, ◌<◌}
 use mathlib.Core.Path.{◌≡◌, refl, sym, ap, ◌∙◌}
-use mathlib.Core.Bool.{Bool, true, false, cond}
+use mathlib.Core.Bool.{Bool, true, false, cond, not}
 use mathlib.Core.List.{List, [], ◌∷◌, ◌++◌, append-nil}
 use native.Mathlib.Numerals.{add-one}
 use native.Mathlib.Omega.{arith}
@@ -21,6 +21,11 @@ use Rattle.plates.specs.declared.HexStep.TheVariants.{Between, First, Whole}
 use Rattle.plates.specs.Hex.{Hex, whole, bad, with_byte, no_digit, digit_of, hex_from, hex_behind}
 use Rattle.plates.specs.Plate.{most_line}
 use Rattle.plates.specs.Read.{digit_or_none, hex_step, most_bytes}
+
+-- a choice by a test that is turned over
+pub cond-not : {A : Type 0} (b : Bool) (x y : A) → cond (not b) x y ≡ cond b y x
+cond-not true x y = refl
+cond-not false x y = refl
 
 -- ---- a digit
 outside : (low high x : ℕ) → (low ≤ x → high < x) → within low high x ≡ false
