@@ -1,9 +1,10 @@
--- Laws of the walk over the marked pages: what is left of it, word by word and mark by mark. Assumes nothing.
+-- Laws of the walk over the marked pages: what is left of it, word by word and mark by mark, and that each of its pages
+-- is the next marked one behind the one before. Assumes nothing.
 use Prim.Native.Nat.{ℕ, zero, suc, ◌+◌, ◌-◌, ◌*◌, ◌/◌, ◌%◌, ◌^◌, ◌≤◌, ◌<◌}
 use mathlib.Core.Path.{◌≡◌, refl, sym, ap, ◌∙◌}
 use mathlib.Core.Logic.{◌⊎◌, inl, inr, ⊎_elim}
 use mathlib.Core.Bool.{true, false}
-use mathlib.Core.List.{List, [], ◌∷◌, ◌++◌}
+use mathlib.Core.List.{List, [], ◌∷◌, ◌++◌, append_assoc}
 use native.Mathlib.Nat.{add_assoc, add-suc, zero-add, add-zero, le_refl}
 use native.Mathlib.Omega.{arith}
 use lib.Bits.{bit_and}
@@ -12,9 +13,9 @@ use lib.ListN.{length, length-append}
 use Rattle.std.proofs.lemmas.List.{nil_from_length}
 use Rattle.lists.proofs.TestLaws.{by-test, lt-or-ge, eq-or-ne}
 use Rattle.marks.specs.Mark.{bit, mark_bit, marked, count_marks}
-use Rattle.marks.specs.Next.{marked_pages, marked_from, first_marked}
+use Rattle.marks.specs.Next.{NextMarked, marked_pages, marked_from, first_marked}
 use Rattle.marks.proofs.BitLaws.{bit-zero, bit_below, bit-from, zeros-under, one_at, zeros-lt, lowest-cleared}
-use Rattle.marks.proofs.MarkLaws.{same-mark, marked-past, count-zero, count-suc, count_none}
+use Rattle.marks.proofs.MarkLaws.{same-mark, marked-past, count-zero, count-suc, count-marked, count-mono, count-more, count_none}
 use Rattle.marks.proofs.NextLaws.{next-first}
 
 -- ---- the marks of words, the first of them apart
@@ -156,14 +157,50 @@ page-of ws (suc m) before after p e =
     (λ f. let r = page-of ws m before after p (rw f at e) in record { within = omega (arith, r.within); found = r.found; below = r.below })
     (by-test (marked ws m))
 
+-- ---- from one of them to the next
+-- where the count does not grow from page p to page m, none between them is marked
+between-none : (ws : List ℕ) (p m : ℕ) → count_marks ws m ≤ count_marks ws p → (q : ℕ) → p ≤ q → q < m → marked ws q ≡ false
+between-none ws p m same q a l = ⊎_elim (λ t. absurd (omega (arith, count-more ws q m l t, count-mono ws p q a))) (λ f. f) (by-test (marked ws q))
+
+-- behind the last of them none is marked
+pub walk-last : (ws : List ℕ) (m : ℕ) (before : List ℕ) (p : ℕ) → marked_pages ws m ≡ before ++ p ∷ [] → NextMarked ws (p + 1) m m
+walk-last ws m before p e =
+    let last = page-of ws m before [] p e in
+    let all : count_marks ws m ≡ length before + 1 = sym (length-marked-pages ws m) ∙ ap length e ∙ length-append before (p ∷ []) in
+    let below : length before ≡ count_marks ws p = ap length last.below ∙ length-marked-pages ws p in
+    record {
+      up = omega arith;
+      within = le_refl m;
+      none = between-none ws (p + 1) m (omega (arith, all, below, count-marked ws p last.found));
+      found = λ l. absurd (omega arith);
+    }
+
+-- the page that follows page p in the list is the next marked page
+pub walk-next : (ws : List ℕ) (m : ℕ) (before after : List ℕ) (p q : ℕ) → marked_pages ws m ≡ before ++ p ∷ q ∷ after → NextMarked ws (p + 1) m q
+walk-next ws m before after p q e =
+    let there = page-of ws m (before ++ p ∷ []) after q (rw append_assoc e) in
+    let below = sym there.below in
+    record {
+      up = omega (arith, (page-of ws q before [] p below).within);
+      within = omega (arith, there.within);
+      none = (walk-last ws q before p below).none;
+      found = λ l. there.found;
+    }
+
 -- the first of them
 pub pages_none : (ws : List ℕ) (m : ℕ) → marked_pages ws m ≡ [] → (q : ℕ) → q < m → marked ws q ≡ false
 pages_none ws m e = count_none ws m (sym (length-marked-pages ws m) ∙ ap length e)
 
+pub walk-none : (ws : List ℕ) (m : ℕ) → marked_pages ws m ≡ [] → NextMarked ws 0 m m
+walk-none ws m e = record { up = omega arith; within = le_refl m; none = λ q a b. pages_none ws m e q b; found = λ l. absurd (omega arith) }
+
+pub walk-first : (ws : List ℕ) (m q : ℕ) (after : List ℕ) → marked_pages ws m ≡ q ∷ after → NextMarked ws 0 m q
+walk-first ws m q after e =
+    let first = page-of ws m [] after q e in
+    record { up = omega arith; within = omega (arith, first.within); none = λ r a b. pages_none ws q (sym first.below) r b; found = λ l. first.found }
+
 pub first-none : (ws : List ℕ) (m : ℕ) → marked_pages ws m ≡ [] → m ≡ first_marked ws m
-first-none ws m e = next-first (record { up = omega arith; within = le_refl m; none = λ q a b. pages_none ws m e q b; found = λ l. absurd (omega arith) })
+first-none ws m e = next-first (walk-none ws m e)
 
 pub first-some : (ws : List ℕ) (m p : ℕ) (after : List ℕ) → marked_pages ws m ≡ p ∷ after → p ≡ first_marked ws m
-first-some ws m p after e =
-    let first = page-of ws m [] after p e in
-    next-first (record { up = omega arith; within = omega (arith, first.within); none = λ q a b. pages_none ws p (sym first.below) q b; found = λ l. first.found })
+first-some ws m p after e = next-first (walk-first ws m p after e)
