@@ -7,7 +7,7 @@ use std::marker::Model;
 
 // The marked pages that are left below m, in rising order, seen as their list: those of `word`, whose first page is base,
 // and those of the words behind it. What is left of a word is kept, so that a step does not read the word again.
-#[derive(Drop)]
+#[derive(Clone, Drop)]
 pub struct MarkedPages<'a> {
     word: u64,
     words: &'a [u64],
