@@ -9,7 +9,7 @@ use borrow.Author.Tests.{leb-true, le-leb, eqb-true, eq-eqb}
 use Rattle.lists.specs.Refusal.{within}
 use Rattle.lists.proofs.TestLaws.{both, join, within-facts, within_of}
 use Rattle.records.specs.Kind.{unit_ok, BLOCK, STATE, is_wide, commit_kind, body_length, record_length, number_end, counts_end}
-use Rattle.records.proofs.KindLaws.{unit-le, page-length, commit-length, narrow-of, wide_of}
+use Rattle.records.proofs.KindLaws.{unit-le, width-range, page-length, commit-length, narrow-of, wide_of}
 use Rattle.settings.specs.declared.Settings.{Settings}
 use Rattle.settings.specs.declared.PrimarySettings.{PrimarySettings}
 use Rattle.settings.specs.declared.StandbySettings.{StandbySettings}
@@ -194,3 +194,12 @@ disk-bytes f = bytes_le 4096 _ _ f.u-high f.d-high
 -- the staged blocks
 pub slots-bytes : {u m d b s : ℕ} → SharedFacts u m d b → SlotsFacts b s → s * u ≤ 64 * 4096
 slots-bytes f g = bytes_le 64 _ _ f.u-high g.s-high
+
+-- the lower end of L: the largest is about half of its upper end
+pub least-stream-le : (u m b : ℕ) (wide : Bool) → u ≤ 4096 → m ≤ 65536 → b ≤ 64
+    → m * (u + number_end wide) + b * (u + 10) + (72 + counts_end wide) ≤ 65536 * 4108 + 64 * 4106 + 88
+least-stream-le u m b wide h j k =
+    let w = width-range wide in
+    let r : u + number_end wide ≤ 4108 = omega arith in
+    let q : u + 10 ≤ 4106 = omega arith in
+    omega (arith, mul-le-mul j r, mul-le-mul k q)
