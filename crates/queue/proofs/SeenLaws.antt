@@ -1,6 +1,6 @@
 -- The range test made one packet after the other: what was seen of all packets decides the range of the queue. Assumes
 -- nothing.
-use Rattle.std.proofs.Common.{◌≡◌, ℕ, ◌+◌, min, Bool, true, false, ◌&&◌, cond, leb, eqb, Some, None, List, [], ◌∷◌, take, refl, ap, ◌∙◌, ⊎_elim, arith, add_assoc, add-zero, zero-add}
+use Rattle.std.proofs.Common.{◌≡◌, ℕ, ◌+◌, min, Bool, true, false, ◌&&◌, cond, leb, eqb, Some, None, List, [], ◌∷◌, take, refl, sym, ap, ◌∙◌, ⊎_elim, arith, add_assoc, add-zero, zero-add}
 use mathlib.Core.Bool.{and-true, and-false}
 use borrow.Author.Tests.{leb-true}
 use Rattle.lists.proofs.TestLaws.{by-test}
@@ -23,6 +23,23 @@ none-stays : (ps : List Packet) → seen_from None ps ≡ None
 unfolding seen_with
 none-stays [] = refl
 none-stays (p ∷ ps) = none-stays ps
+
+-- ---- the bytes seen are the lengths of the packets, from any seen before them on
+pub bytes-from : (a : Seen) (ps : List Packet) (s : Seen) → seen_from (Some a) ps ≡ Some s → s.bytes ≡ a.bytes + sum_lengths ps
+unfolding seen_with sum_lengths
+bytes-from a [] s e = let is : a ≡ s = cc in omega (arith, ap (λ (x : Seen). x.bytes) is)
+bytes-from a (p ∷ ps) s e =
+    ⊎_elim
+    (λ t. let rest = bytes-from (record { epoch = p.epoch; bytes = a.bytes + p.length }) ps s (rw t at e) in omega (arith, rest))
+    (λ f. absurd (let none : None ≡ Some s = sym (none-stays ps) ∙ (rw f at e) in cc))
+    (by-test (packet_ok p.length p.port && leb a.epoch p.epoch))
+
+pub bytes-next : (a : Seen) (p : Packet) (s : Seen) → seen_with (Some a) p ≡ Some s → s.bytes ≡ a.bytes + p.length
+unfolding sum_lengths
+bytes-next a p s e = omega (arith, bytes-from a (p ∷ []) s e)
+
+pub seen-bytes : (ps : List Packet) (s : Seen) → seen_of ps ≡ Some s → s.bytes ≡ sum_lengths ps
+seen-bytes ps s e = bytes-from (record { epoch = 0; bytes = 0 }) ps s e ∙ zero-add _
 
 -- ---- what was seen of all packets decides the range
 module _ (count bytes epoch q : ℕ) where

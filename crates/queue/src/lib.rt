@@ -1,9 +1,8 @@
 // The held packets.
 #![tactic(auto)]
 
-ghost use Rattle.std.specs.Prelude.{◌≡◌, ◌+◌, ◌≤◌, length};
+ghost use Rattle.std.specs.Prelude.{◌≡◌, ◌+◌, ◌*◌, ◌^◌, ◌≤◌, length, IfSome};
 ghost use Rattle.lists.specs.Part.{part, put, removed};
-ghost use Rattle.settings.specs.Range.{most_packets};
 ghost use Rattle.queue.specs.Held.{packet_ok, queue_ok, has_space};
 ghost use Rattle.queue.specs.Seen.{seen_of, seen_ok, IsFirstOf};
 
@@ -49,9 +48,11 @@ fn packet_ok(p: Packet) -> bool
 
 // What is seen of these packets: nothing where one is out of its ranges, or its epoch below that of the one before.
 // All are looked at, whatever the first ones say: so the compiler takes several at once.
+// Of no more than 2 ^ 48 packets the lengths, of 16 bits each, have a sum below 2 ^ 64.
 pub fn seen_of(packets: &[Packet]) -> Option<Seen>
-    requires { length packets.now ≤ most_packets }
-    ensures { result ≡ seen_of packets.now }
+    requires { length packets.now ≤ 2 ^ 48 }
+    ensures value { result ≡ seen_of packets.now }
+    ensures bytes_bound { IfSome result (λ s. s.bytes ≤ length packets.now * 65535) }
 {
     let mut ok = true;
     let mut epoch = 0;
@@ -99,9 +100,9 @@ pub struct Place {
     pub before: usize,
 }
 
-// The place of the first of these packets that is of a port.
+// The place of the first of these packets that is of a port. The limit is that of `seen_of`: lengths are added up.
 pub fn first_of(packets: &[Packet], port: usize) -> Option<Place>
-    requires { length packets.now ≤ most_packets }
+    requires { length packets.now ≤ 2 ^ 48 }
     ensures { IsFirstOf port packets.now result }
 {
     let mut before = 0;

@@ -10,5 +10,5 @@ invariant-loop-at l =
     record {
       passed : l.at + place_of (is_of_port l.port) (drop l.at l.packets) ≡ place_of (is_of_port l.port) l.packets;
       before-is : l.before ≡ sum_lengths (take l.at l.packets);
-      bytes_high : l.before ≤ l.at * 65536;
+      bytes_high : l.before ≤ l.at * 65535;
     }

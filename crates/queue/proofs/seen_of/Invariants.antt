@@ -8,5 +8,5 @@ abbrev pub invariant-loop-packet : goal.invariant-loop-packet
 invariant-loop-packet l =
     record {
       seen-is : seen_of (take l.packet-index l.packets) ≡ cond l.ok (Some (record { epoch = l.epoch; bytes = l.bytes })) None;
-      bytes_high : l.bytes ≤ l.packet-index * 65536;
+      bytes_high : l.bytes ≤ l.packet-index * 65535;
     }

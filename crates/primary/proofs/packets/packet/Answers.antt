@@ -12,7 +12,7 @@ use Rattle.primary.proofs.packets.packet.Goals as goal
 use Rattle.primary.proofs.packets.packet.Goals.{Then-number-eq0, then-number-eq0, else-number-eq0}
 
 pub check_packet-requires : goal.check_packet-requires
-check_packet-requires c = rw c.seen_of-seen.ensures (seen-all c.args.p.queue _ _ _ c.min.ensures)
+check_packet-requires c = rw c.seen_of-seen.ensures.value (seen-all c.args.p.queue _ _ _ c.min.ensures)
 
 -- what acceptance says
 facts : (c : Then-number-eq0) → let a = c.args in PacketFacts a.p (length a.held.now) a.port (length a.bytes.now)

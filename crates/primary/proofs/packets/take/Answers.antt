@@ -31,9 +31,11 @@ pub check_take-requires : goal.check_take-requires
 check_take-requires c =
     let k = c.args.p.queue in
     let port = c.args.port in (
-      rw c.seen_of-seen.ensures (seen-all k _ _ _ c.min.ensures),
+      rw c.seen_of-seen.ensures.value (seen-all k _ _ _ c.min.ensures),
       λ q.
-          let f = first-all k port _ _ c.min.ensures (search rules) c.first_of-place.ensures (queue-tests _ _ _ q).count-high in (
+          let few : k.count ≤ most_packets = (queue-tests _ _ _ q).count-high in
+          let all : length k.packets ≡ most_packets = search rules in
+          let f = first-all k port _ _ c.min.ensures (omega (arith, few, all)) c.first_of-place.ensures few in (
             c.is_some.ensures ∙ f.found-is,
             λ y.
                 let at = f.at-is _ (unwrapped _ _ _ c.unwrap_or_default-at.ensures (sym c.is_some.ensures ∙ y)) in
@@ -75,7 +77,7 @@ leaving : (c : Then-number-eq0) → let a = c.args in Leaving a.p (length a.held
 leaving c =
     let a = c.args in
     let all : length a.p.queue.packets ≡ 64 = search rules in
-    leaving-of a.p (length a.held.now) a.port (length a.destination.now) _ all (first-all a.p.queue a.port _ _ c.min.ensures all c.first_of-place.ensures) (sym (c.number_in-number.ensures ∙ c.check_take.ensures) ∙ c.if-number-eq0.true) _ _ c.unwrap_or_default-at.ensures
+    leaving-of a.p (length a.held.now) a.port (length a.destination.now) _ all (λ few. first-all a.p.queue a.port _ _ c.min.ensures (omega (arith, few, all)) c.first_of-place.ensures few) (sym (c.number_in-number.ensures ∙ c.check_take.ensures) ∙ c.if-number-eq0.true) _ _ c.unwrap_or_default-at.ensures
 
 pub copy_within-requires : goal.copy_within-requires
 copy_within-requires c =
@@ -118,7 +120,7 @@ returns c =
       | then-number-eq0 w ↦
           let z = w.if-number-eq0.true in
           let all : length k.packets ≡ 64 = search rules in
-          let t = leaving-of a.p (length a.held.now) a.port (length a.destination.now) _ all (first-all k a.port _ _ c.min.ensures all c.first_of-place.ensures) (sym e ∙ z) _ _ c.unwrap_or_default-at.ensures in
+          let t = leaving-of a.p (length a.held.now) a.port (length a.destination.now) _ all (λ few. first-all k a.port _ _ c.min.ensures (omega (arith, few, all)) c.first_of-place.ensures few) (sym e ∙ z) _ _ c.unwrap_or_default-at.ensures in
           let o : c.from-n.result ≡ (oldest k a.port).length = c.from-n.ensures ∙ t.length-is in
           let b : c.unwrap_or_default-at.result.before ≡ bytes_before k (oldest_at k a.port) = t.before-is in
           let m = moved k a.port _ _ t.at_low t.array-fits t.at-is w.copy_within.ensures.after in
