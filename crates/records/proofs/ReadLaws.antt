@@ -3,11 +3,13 @@ use Rattle.std.specs.Prelude.{Result, Ok, Err}
 use mathlib.Core.Path.{◌≡◌, refl, subst}
 use mathlib.Core.Bool.{Bool, true, false, cond, false≢true}
 use mathlib.Core.Logic.{◌⊎◌, inl, inr, ⊎_elim}
-use mathlib.Core.List.{List}
+use mathlib.Core.List.{List, [], ◌∷◌}
 use Prim.Native.Nat.{ℕ, ◌+◌, ◌-◌, ◌^◌, ◌≤◌, ◌<◌}
 use native.Mathlib.Omega.{arith}
 use lib.Dec.{leb, eqb}
 use lib.ListN.{length, get_or}
+use types.Run.{OneOf, miss}
+use denote.Enum.Declared.{tag_of}
 use borrow.Author.Tests.{leb-true, leb-false, eqb-true, le-leb, lt-leb, eq-eqb, ne_eqb}
 use Rattle.lists.specs.LittleEndian.{le_at}
 use Rattle.lists.proofs.LittleEndianLaws.{le_at-lt}
@@ -23,6 +25,7 @@ use Rattle.records.specs.Kind.{unit_ok, PAGE, BLOCK, STATE, ACK, WIDECOMMIT, pag
 use Rattle.records.specs.Cases.{on_ack, by_kind, on_found}
 use Rattle.records.specs.Read.{cursor, page_at, commit_at, fields_of, read_record, cut_short, number_of, other_refusal, kind_of, cursor_of, used_of, missing_of}
 use Rattle.records.proofs.KindLaws.{for-test, kind-cases, kind-range, page-length, record-le}
+use Rattle.records.specs.contracts.Record.{the_type}
 
 -- ---- the order of reading: one law for each answer
 
@@ -169,6 +172,36 @@ on-ack P ack rest (Ok (Commit w e p b c)) f g = g
 on-ack P ack rest (Ok (Ack e c)) f g = f e c refl
 on-ack P ack rest (Err (Short n)) f g = g
 on-ack P ack rest (Err (Refused n)) f g = g
+
+-- the last arm of a `match`: a record stands at one of the places in its enum that are left; what is cut short or refused
+-- is left with them
+abbrev pub LeftIn : List ℕ → Result Record Unread → Type 0
+LeftIn places (Ok r) = OneOf places (tag_of the_type r)
+LeftIn places (Err u) = Unit {0}
+
+-- behind the arms for cut short and refused all are left, and behind the one for an ACK the other kinds
+pub found-arm : (r : Record) → is_found (Ok r) ≡ true
+found-arm (Page w e p c) = refl
+found-arm (Block e n c) = refl
+found-arm (State e c) = refl
+found-arm (Commit w e p b c) = refl
+found-arm (Ack e c) = refl
+
+pub ack-arm : {A : Type 0} (ack : ℕ → Cursor → A) (rest : A) (r : Result Record Unread) → LeftIn (0 ∷ 1 ∷ 2 ∷ 3 ∷ []) r → on_ack r ack rest ≡ rest
+ack-arm ack rest r k =
+    on-ack (λ x. x ≡ rest) ack rest r
+    (λ e c q. absurd (miss (0 ∷ 1 ∷ 2 ∷ 3 ∷ []) 4 tt (subst (LeftIn (0 ∷ 1 ∷ 2 ∷ 3 ∷ [])) q k)))
+    refl
+
+-- and behind those for PAGE, BLOCK, STATE and COMMIT
+pub other_arm : {A : Type 0} (page block : ℕ → ℕ → Cursor → A) (state : ℕ → Cursor → A) (commit : ℕ → ℕ → ℕ → Cursor → A) (rest : A) (r : Result Record Unread)
+    → LeftIn (4 ∷ []) r → by_kind r page block state commit rest ≡ rest
+other_arm page block state commit rest (Ok (Page w e p c)) k = absurd (miss (4 ∷ []) 0 tt k)
+other_arm page block state commit rest (Ok (Block e n c)) k = absurd (miss (4 ∷ []) 1 tt k)
+other_arm page block state commit rest (Ok (State e c)) k = absurd (miss (4 ∷ []) 2 tt k)
+other_arm page block state commit rest (Ok (Commit w e p b c)) k = absurd (miss (4 ∷ []) 3 tt k)
+other_arm page block state commit rest (Ok (Ack e c)) k = refl
+other_arm page block state commit rest (Err u) k = refl
 
 -- ---- what holds of every answer
 
