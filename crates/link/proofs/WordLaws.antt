@@ -28,6 +28,12 @@ use Rattle.rules.specs.declared.Disk.TheVariants.{PrimaryDisk, StandbyDisk}
 use Rattle.rules.specs.Choose.{area_choice, choice_of}
 use Rattle.link.specs.Word.{word_of, test_word, test_number, test_kind, test_cut_short, test_used, test_missing, SaysMissing, choice_word}
 
+-- what is not cut short has its number, kind and bytes used
+pub word-told : (r : Result Record Unread) → ((n : ℕ) → r ≡ Err (Short n) → ⊥) → test_word r ≡ word_of r
+word-told =
+    found-cases (λ r. ((n : ℕ) → r ≡ Err (Short n) → ⊥) → test_word r ≡ word_of r)
+    (λ r h f. on-found (word_of r) (λ n. 65536 * n) (λ n. word_of r) r h) (λ n f. absurd (f n refl)) (λ n f. refl)
+
 -- a word's parts, as the caller takes them out, of every answer; where nothing is refused the number is 0
 pub record Parts (r : Result Record Unread) (word : ℕ) : Type 0 where
   pub number : test_number word ≡ on_found r 0 (λ n. 0) (λ n. n)

@@ -8,7 +8,7 @@ ghost use Rattle.rules.specs.Choose.{choice_of};
 ghost use Rattle.link.specs.Word.{choice_word, test_word};
 
 use ends::choice::decide;
-use records::reading::{kind_of, read, used_of};
+use records::reading::{kind_of, number_of, read, used_of};
 use records::{Reader, Unread};
 use rules::Disk;
 
@@ -20,9 +20,8 @@ pub extern "C" fn record_test(u: u64, bytes: &[u8]) -> u64
 {
     let answer = read(Reader::Test, u as usize, bytes);
     match answer {
-        Ok(_) => 256 * kind_of(answer) + 65536 * (used_of(answer) as u64),
         Err(Unread::Short { missing }) => 65536 * (missing as u64),
-        Err(Unread::Refused { number }) => number,
+        _ => number_of(answer) + 256 * kind_of(answer) + 65536 * (used_of(answer) as u64),
     }
 }
 

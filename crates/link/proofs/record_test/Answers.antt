@@ -12,14 +12,17 @@ use Rattle.link.proofs.record_test.Goals.{After-read-answer}
 ranges : (c : After-read-answer) → ReadRanges Test c.args.bytes.now c.read-answer.result
 ranges c = rw c.read-answer.ensures (read-ranges Test _ _)
 
-pub overflow_mul-result-in-Ok : goal.overflow_mul-result-in-Ok
-overflow_mul-result-in-Ok c = let g = ranges (goal.at.overflow_mul-result-in-Ok c).After-read-answer in omega arith
-
 pub overflow_add-result : goal.overflow_add-result
 overflow_add-result c = let g = ranges (goal.at.overflow_add-result c).After-read-answer in omega arith
 
-pub overflow_mul-result-in-Err-Short : goal.overflow_mul-result-in-Err-Short
-overflow_mul-result-in-Err-Short c =
-    let g = (ranges (goal.at.overflow_mul-result-in-Err-Short c).After-read-answer).missing in
+pub overflow_mul-result-in_default-2 : goal.overflow_mul-result-in_default-2
+overflow_mul-result-in_default-2 c = let g = ranges (goal.at.overflow_mul-result-in_default-2 c).After-read-answer in omega arith
+
+pub overflow_add-result-in_default : goal.overflow_add-result-in_default
+overflow_add-result-in_default c = let g = ranges (goal.at.overflow_add-result-in_default c).After-read-answer in omega arith
+
+pub overflow_mul-result : goal.overflow_mul-result
+overflow_mul-result c =
+    let g = (ranges (goal.at.overflow_mul-result c).After-read-answer).missing in
     let e : c.read-answer.result ≡ Err (Short c.in-Err-Short.missing) = c.in-Err-Short.is ∙ ap (λ (x : Unread). Err x) (rw c.in-Err-Short.is at c.in-Err-Short.field-0-is) in
     omega (arith, ap missing_of e)
