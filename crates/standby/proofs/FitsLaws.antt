@@ -22,6 +22,8 @@ use Rattle.rules.specs.declared.Standby.{Standby}
 use Rattle.rules.specs.declared.ReadLent.{ReadLent}
 use Rattle.rules.specs.StandbyState.{standby_ok}
 use Rattle.rules.specs.Judge.{judged}
+use Rattle.rules.specs.Read.{bytes_at}
+use Rattle.rules.proofs.ReadLaws.{bytes-length}
 use Rattle.rules.proofs.StandbyFacts.{StandbyTests, standby-tests, StandbyFacts, standby-facts}
 use Rattle.rules.proofs.JudgeLaws.{JudgedFacts, judged-facts}
 use Rattle.standby.specs.Fits.{FieldFits, SlotFits, StateFits, BuffersFit}
@@ -50,6 +52,10 @@ module _ (s : Standby) (ok : standby_ok s ≡ true) where
   units_fit units h = omega (arith, bytes_le 65536 _ _ (standby-facts s ok).settings.shared.u-high h)
 
 -- ---- what the effects of a judged record require
+-- the field has its size
+pub field-length : (bytes : List ℕ) (size : ℕ) (c : Cursor) → FieldFits (length bytes) size c → length (bytes_at c bytes) ≡ size
+field-length bytes size c f = bytes-length c bytes size f.span f.inside
+
 field_fits : {for : Reader} {u kind size : ℕ} {bytes : List ℕ} {c : Cursor} → RecordFacts for u bytes kind size c → FieldFits (length bytes) size c
 field_fits f = record { span = f.span; inside = f.inside }
 

@@ -1,2 +1,3 @@
 -- What this crate's proofs share.
+pub mod ArmLaws
 pub mod FitsLaws
