@@ -34,5 +34,6 @@ pub mod ScanLaws
 pub mod MarkedLaws
 pub mod WrittenLaws
 pub mod NormalFormLaws
+pub mod ArmLaws
 pub mod JudgedLaws
 pub mod RoomProved

@@ -58,8 +58,22 @@ abbrev pub EndsRight : FileSettings → (file : List ℕ) → Result Scanned Unr
 EndsRight g file (Ok s) numbers places = Committed g file s numbers places
 EndsRight g file (Err u) numbers places = (room : ℕ) → saved g file room ≡ Err u
 
-abbrev pub ScanEnds : FileSettings → (file : List ℕ) → ScanEnd → Type 0
-ScanEnds g file e = EndsRight g file (scanned_in e) e.numbers e.places
+-- the last record, where one is accepted
+pub record LastCommit (r : Record) : Type 0 where
+  pub wide : Bool
+  pub epoch : ℕ
+  pub pages : ℕ
+  pub blocks : ℕ
+  pub at : Cursor
+  pub is_commit : r ≡ Commit wide epoch pages blocks at
+
+abbrev pub LastRight : Result Record Unread → Type 0
+LastRight (Ok r) = LastCommit r
+LastRight (Err u) = Unit {0}
+
+pub record ScanEnds (g : FileSettings) (file : List ℕ) (e : ScanEnd) : Type 0 where
+  pub last : LastRight e.last
+  pub right : EndsRight g file (scanned_in e) e.numbers e.places
 
 -- a record that is kept moves on by its bytes
 at_with : (t : Scanning) (r : Result Record Unread) → (scanned_with t r).at ≡ t.at + used_of r
@@ -180,7 +194,7 @@ module _ (g : FileSettings) (file : List ℕ) (bytes : AreBytes file) (ok : file
       step-refused r q f more last files ne =
           let n = record_refusal g known r in
           subst (ScanEnds g file) (sym (scan-last most g file t (Err (Refused n)) (judged-refused g known rest r q ne) refl))
-          (refused-answer r f more last files ne)
+          (record { last = tt; right = refused-answer r f more last files ne })
 
       -- a PAGE, a BLOCK or a STATE
       step-goes : (r : Result Record Unread) → head_of g rest ≡ r → goes_on r ≡ true → Shown
@@ -205,7 +219,10 @@ module _ (g : FileSettings) (file : List ℕ) (bytes : AreBytes file) (ok : file
           ⊎_elim
           (λ (z : record_refusal g known r ≡ 0).
           subst (ScanEnds g file) (sym (scan-last most g file t r (judged-accepted g known rest r q z) refl))
-          (whole-committed w e p b c q z))
+          (record {
+            last = record { wide = w; epoch = e; pages = p; blocks = b; at = c; is_commit = refl };
+            right = whole-committed w e p b c q z;
+          }))
           (λ (ne : record_refusal g known r ≡ 0 → ⊥). step-refused r q refl [] (closed (drop c.end rest)) (file-commit g rest unit q) ne)
           (eq-or-ne (record_refusal g known r) 0)
 
@@ -223,10 +240,10 @@ module _ (g : FileSettings) (file : List ℕ) (bytes : AreBytes file) (ok : file
       step_by (Ok (Ack e c)) q = absurd (found-no-ack g.u (is_wide g.m) rest e c q)
       step_by (Err (Short n)) q =
           subst (ScanEnds g file) (sym (scan-last most g file t (Err (Short n)) (judged-accepted g known rest (Err (Short n)) q refl) refl))
-          (none-answer (file-of.short n) (file-short g rest unit q))
+          (record { last = tt; right = none-answer (file-of.short n) (file-short g rest unit q) })
       step_by (Err (Refused n)) q =
           subst (ScanEnds g file) (sym (scan-last most g file t (Err (Refused n)) (judged-bad n q) refl))
-          (none-answer (file-of.refused n) (file-refused g rest unit q))
+          (record { last = tt; right = none-answer (file-of.refused n) (file-refused g rest unit q) })
 
   -- ---- all steps: there are more than the bytes left, and each record has some
   go : (most : ℕ) (t : Scanning) (done : List Message) → ReadTo g file t done → length file < most + t.at → ScanEnds g file (scan_in most g file t)
@@ -243,4 +260,4 @@ scan-ends g file bytes ok numbers places n p =
 pub ends-right : (g : FileSettings) (file : List ℕ) (blocks : List KeptBlock) {r : Result Scanned Unread} {ns ps : List ℕ} → AreBytes file → file_settings_ok g ≡ true → length blocks ≡ 64
     → let e = scan_of g file (numbers_of blocks) (places_of blocks) in r ≡ scanned_in e → ns ≡ e.numbers → ps ≡ e.places → EndsRight g file r ns ps
 ends-right g file blocks bytes ok size e f h =
-    rw (e, f, h) (scan-ends g file bytes ok (numbers_of blocks) (places_of blocks) (length-numbers blocks ∙ size) (length-places blocks ∙ size))
+    rw (e, f, h) (scan-ends g file bytes ok (numbers_of blocks) (places_of blocks) (length-numbers blocks ∙ size) (length-places blocks ∙ size)).right

@@ -110,7 +110,7 @@ saved-fits g file room bytes = go (by-test (file_settings_ok g))
     go : (file_settings_ok g ≡ true) ⊎ (file_settings_ok g ≡ false) → SavedFits (saved g file room)
     go (inl ok) =
         let e = scan_of g file (replicate 64 0) (replicate 64 0) in
-        ends-fit g file room e.last e.counts e.end e.numbers e.places (last_fits (length file + 1) g file (scanning (replicate 64 0) (replicate 64 0))) (scan-ends g file bytes ok (replicate 64 0) (replicate 64 0) refl refl)
+        ends-fit g file room e.last e.counts e.end e.numbers e.places (last_fits (length file + 1) g file (scanning (replicate 64 0) (replicate 64 0))) (scan-ends g file bytes ok (replicate 64 0) (replicate 64 0) refl refl).right
     go (inr bad) = rw (range-refused g file room bad) (omega arith)
 
 -- what the caller takes out of the word is the answer's number, no bytes used, those missing, and its value
