@@ -1,6 +1,7 @@
 pub mod WordLaws
 pub mod PrimaryWordLaws
 pub mod StandbyWordLaws
+pub mod DoneLaws
 pub mod LengthLaws
 pub mod KeptLaws
 pub mod AnswerLaws
