@@ -141,11 +141,14 @@ module _ {S L : Type 0} (p : Program S L) where
 pub program-done : {S L : Type 0} (p : Program S L) → KeptRight p → (first last : Reading S L) → first ≡ first_reading p → (u v h k : Option (List ℕ)) → TurnsDone p first last u v h k → ProgramDone p u v h k
 program-done p right first last first-is u v h k d =
     let parts = d.turns.parts in
-    let here : (e : ends_after p first parts ≡ true) → all_printed p first parts ≡ output p (flatten parts) =
-    λ e. ap (λ (r : Reading _ _). all_printed p r parts) first-is ∙ (run-right p right parts).ended (ap (λ (r : Reading _ _). ends_after p r parts) (sym first-is) ∙ e) in
+    let ends : ends_after p first parts ≡ ends_after p (first_reading p) parts = ap (λ (r : Reading _ _). ends_after p r parts) first-is in
+    let more : all_more p first parts ≡ all_more p (first_reading p) parts = ap (λ (r : Reading _ _). all_more p r parts) first-is in
+    let printed : Appends h k (all_printed p (first_reading p) parts) = subst (λ (r : Reading _ _). Appends h k (all_printed p r parts)) first-is d.written in
     record {
-      input = flatten parts;
+      parts = parts;
       read = d.read;
-      turns = length parts;
-      written = ⊎_elim (λ e. inl (subst (λ (bs : List ℕ). Appends h k bs) (here e) d.written)) (λ e. inr e.1) d.turns.all_made;
+      written = ⊎_elim
+          (λ e. inl (sym ends ∙ e, subst (λ (bs : List ℕ). Appends h k bs) ((run-right p right parts).ended (sym ends ∙ e)) printed))
+          (λ e. inr (sym more ∙ e.0, e.1, printed))
+          d.turns.all_made;
     }

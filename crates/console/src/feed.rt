@@ -1,5 +1,5 @@
 // A part of the input, line by line.
-ghost use Rattle.std.specs.Prelude.{◌≡◌, false, [], ◌∷◌, ◌+◌, ◌≤◌, ◌<◌, length, take};
+ghost use Rattle.std.specs.Prelude.{◌≡◌, false, [], ◌∷◌, ◌+◌, ◌*◌, ◌≤◌, ◌<◌, length, take};
 ghost use Rattle.lists.specs.Part.{PutDone};
 ghost use Rattle.text.specs.Line.{newline};
 ghost use Rattle.text.specs.Feed.{fed_all, fed_all_printed, end_printed, first_reading};
@@ -85,9 +85,10 @@ impl<P: LineProgram> Run<P> {
     }
 
     // A part of the input, line by line, as far as out has room for one more answer; after the line that ended the
-    // program nothing of it is looked at.
+    // program nothing of it is looked at. With room for as many answers as it has bytes, all of it is used.
     fn feed(&mut self, input: &[u8], out: &mut [u8]) -> Step
         requires { P.ANSWER_BYTES ≤ length out.old }
+        ensures whole { length input.now * P.ANSWER_BYTES ≤ length out.old → result.read ≡ length input.now }
         ensures bounds { (result.read ≤ length input.now) × (0 < length input.now → 0 < result.read) × (result.written ≤ length out.new) }
         ensures run { reading_of P.state_of P.line_of self.new ≡ fed_all P.program (reading_of P.state_of P.line_of self.old) (take result.read input.now) }
         ensures printed { PutDone (fed_all_printed P.program (reading_of P.state_of P.line_of self.old) (take result.read input.now)) out.old 0 out.new result.written }
@@ -129,11 +130,12 @@ impl<P: LineProgram> Run<P> {
         state.put_finish(out, end)
     }
 
-    // A turn: a part of the input, as far as out has room for its answers, or the end of the input, which is an empty
-    // part. What is to be written goes to the head of out; no more is read after the end of the input nor after a line
-    // that ended the program.
+    // A turn: a part of the input, as far as out has room for its answers, all of it where there is room for as many as
+    // it has bytes, or the end of the input, which is an empty part. What is to be written goes to the head of out; no
+    // more is read after the end of the input nor after a line that ended the program.
     pub fn turn(&mut self, input: &[u8], out: &mut [u8]) -> Turn
         requires { P.ANSWER_BYTES + P.FINISH_BYTES ≤ length out.old }
+        ensures whole { length input.now * P.ANSWER_BYTES ≤ length out.old → result.read ≡ length input.now }
         ensures bounds { (result.read ≤ length input.now) × (0 < length input.now → 0 < result.read) × (result.written ≤ length out.new) }
         ensures run { reading_of P.state_of P.line_of self.new ≡ turn_next P.program (reading_of P.state_of P.line_of self.old) (take result.read input.now) }
         ensures printed { PutDone (turn_printed P.program (reading_of P.state_of P.line_of self.old) (take result.read input.now)) out.old 0 out.new result.written }
