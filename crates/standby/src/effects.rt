@@ -9,10 +9,11 @@ ghost use Rattle.pages.specs.Dirty.{installed};
 ghost use Rattle.staging.specs.Slot.{slot_for};
 ghost use Rattle.staging.specs.Fits.{StageFits};
 ghost use Rattle.rules.specs.Blocks.{blocks_with};
-ghost use Rattle.rules.specs.StandbyState.{with_pages_next, with_no_records};
+ghost use Rattle.rules.specs.StandbyState.{with_detector, with_pending_seen, with_pages_next, with_no_records};
 ghost use Rattle.rules.specs.Read.{bytes_at, installed_state, staged_state, read_state, memory_after, staged_pages_after, staged_marks_after, staged_blocks_after, reply_after, read_lent};
 ghost use Rattle.standby.specs.Fits.{FieldFits, slot_of, SlotFits, StateFits, BuffersFit};
 
+use detector::Detector;
 use records::{Cursor, Record, Unread};
 use rules::Standby;
 
@@ -37,16 +38,19 @@ fn processor(bytes: &[u8], at: Cursor) -> [u8; 64]
     out
 }
 
+// The parts of the state below are stored into a copy of it, and not replaced by struct update (`..s`): by that the
+// compiler made one or two copies more of the two processor states at each record, and a read of a PAGE of 64 bytes took
+// 1.7 times as long in a caller in Rattle (docs/BENCHMARKS.md).
+
 // One page more of the epoch.
 fn with_page(s: Standby, page: usize) -> Standby
     requires { (s.pages + 1 < 2 ^ 64) × (page + 1 < 2 ^ 64) }
     ensures { result ≡ with_pages_next s (s.pages + 1) (page + 1) }
 {
-    Standby {
-        pages: s.pages + 1,
-        next: page + 1,
-        ..s
-    }
+    let mut t = s;
+    t.pages = s.pages + 1;
+    t.next = page + 1;
+    t
 }
 
 // The different blocks of the epoch with one more, unless it has that one already.
@@ -63,12 +67,11 @@ fn with_block(s: Standby, block: usize, slot: usize) -> Standby
     ensures { result ≡ staged_state s block }
 {
     let slots = staging::with_block(s.slots, block, slot);
-    Standby {
-        slots,
-        blocks: blocks_with(slot < s.slots.staged, s.blocks),
-        records: s.records + 1,
-        ..s
-    }
+    let mut t = s;
+    t.slots = slots;
+    t.blocks = blocks_with(slot < s.slots.staged, s.blocks);
+    t.records = s.records + 1;
+    t
 }
 
 // The slot of a judged BLOCK; 0 for all others, which need none.
@@ -86,14 +89,13 @@ pub(crate) fn slot_of(s: Standby, r: Result<Record, Unread>) -> usize
 pub(crate) fn with_no_records(s: Standby) -> Standby
     ensures { result ≡ with_no_records s }
 {
-    Standby {
-        blocks: 0,
-        records: 0,
-        pages: 0,
-        next: 0,
-        seen: false,
-        ..s
-    }
+    let mut t = s;
+    t.blocks = 0;
+    t.records = 0;
+    t.pages = 0;
+    t.next = 0;
+    t.seen = false;
+    t
 }
 
 // A checkpoint is installed: "keeps the processor state, makes the epoch's staged blocks due"; its epoch is the last
@@ -101,13 +103,32 @@ pub(crate) fn with_no_records(s: Standby) -> Standby
 fn installed_state(s: Standby, epoch: u32) -> Standby
     ensures { result ≡ installed_state s epoch }
 {
-    let processor = s.pending;
-    Standby {
-        received: epoch,
-        slots: staging::all_due(s.slots),
-        processor,
-        ..s
-    }
+    let pending = s.pending;
+    let due = staging::all_due(s.slots);
+    let mut t = s;
+    t.received = epoch;
+    t.slots = due;
+    t.processor = pending;
+    t
+}
+
+// The state with another detector.
+fn with_detector(s: Standby, detector: Detector) -> Standby
+    ensures { result ≡ with_detector s detector }
+{
+    let mut t = s;
+    t.detector = detector;
+    t
+}
+
+// The processor state of a STATE, and that it was seen.
+fn with_pending(s: Standby, processor: [u8; 64]) -> Standby
+    ensures { result ≡ with_pending_seen s processor }
+{
+    let mut t = s;
+    t.seen = true;
+    t.pending = processor;
+    t
 }
 
 // The state after a record: the count "returns to 0 at each accepted record of kinds 1 to 4", and of 8 and 9. The
@@ -124,16 +145,14 @@ pub(crate) fn read_state(
 {
     let detector = detector::reset(s.detector);
     match r {
-        Ok(Record::Page { page, .. }) => with_page(Standby { detector, ..s }, page),
-        Ok(Record::Block { block, .. }) => with_block(Standby { detector, ..s }, block, slot),
-        Ok(Record::State { at, .. }) => Standby {
-            detector,
-            seen: true,
-            pending: processor(bytes, at),
-            ..s
-        },
+        Ok(Record::Page { page, .. }) => with_page(with_detector(s, detector), page),
+        Ok(Record::Block { block, .. }) => with_block(with_detector(s, detector), block, slot),
+        Ok(Record::State { at, .. }) => with_pending(
+            with_detector(s, detector),
+            processor(bytes, at),
+        ),
         Ok(Record::Commit { epoch, .. }) => {
-            installed_state(with_no_records(Standby { detector, ..s }), epoch)
+            installed_state(with_no_records(with_detector(s, detector)), epoch)
         }
         Ok(Record::Ack { .. }) | Err(_) => s,
     }

@@ -64,10 +64,12 @@ pub fn tick(s: Standby, marks: &mut [u64]) -> Reply<Standby>
         return replies::accepted(s, 0);
     }
     let d = detector::ticked_in_place(s.detector, true);
+    // before the marks: made behind them, a tick through C took 1.2 times as long
+    let state = counted(s, d);
     if detector::expired(d) {
         marks::clear(marks, s.settings.m);
     }
-    replies::accepted(counted(s, d), 0)
+    replies::accepted(state, 0)
 }
 
 // Whether an activation is refused, from the length of the record area.
