@@ -1,4 +1,5 @@
--- The last arm of each `match` on a record: what the definitions give behind the arms that name a kind. Assumes nothing.
+-- The last arm of each `match` on a record: what the definitions give behind the arms that name a kind. Assumes
+-- nothing.
 use Rattle.std.specs.Prelude.{Result, Ok, Err}
 use Prim.Native.Nat.{ℕ}
 use mathlib.Core.Path.{◌≡◌, refl}

@@ -173,8 +173,8 @@ on-ack P ack rest (Ok (Ack e c)) f g = f e c refl
 on-ack P ack rest (Err (Short n)) f g = g
 on-ack P ack rest (Err (Refused n)) f g = g
 
--- the last arm of a `match`: a record stands at one of the places in its enum that are left; what is cut short or refused
--- is left with them
+-- the last arm of a `match`: a record stands at one of the places in its enum that are left; what is cut short or
+-- refused is left with them
 abbrev pub LeftIn : List ℕ → Result Record Unread → Type 0
 LeftIn places (Ok r) = OneOf places (tag_of the_type r)
 LeftIn places (Err u) = Unit {0}

@@ -39,8 +39,8 @@ fn processor(bytes: &[u8], at: Cursor) -> [u8; 64]
 }
 
 // The parts of the state below are stored into a copy of it, and not replaced by struct update (`..s`): by that the
-// compiler made one or two copies more of the two processor states at each record, and a read of a PAGE of 64 bytes took
-// 1.7 times as long in a caller in Rattle (docs/BENCHMARKS.md).
+// compiler made one or two copies more of the two processor states at each record, and a read of a PAGE of 64 bytes
+// took 1.7 times as long in a caller in Rattle (docs/BENCHMARKS.md).
 
 // One page more of the epoch.
 fn with_page(s: Standby, page: usize) -> Standby

@@ -158,7 +158,7 @@ pub(crate) fn judged(s: Standby, l: ReadLent, bytes: &[u8]) -> Result<Record, Un
     let reader = Reader::Standby {
         wide: is_wide(s.settings.m),
     };
-    // What was read is handed back whole: by `?` it was taken apart and made again, which cost each read 20 instructions.
+    // What was read is handed back whole: by `?` it was taken apart and made again, 20 instructions more at each read.
     let r = records::reading::read(reader, s.settings.u, bytes);
     if let Ok(record) = r {
         if let Err(refusal) = check_record(s, l.reply, record) {

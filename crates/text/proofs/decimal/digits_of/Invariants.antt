@@ -1,5 +1,5 @@
--- `text::decimal::digits_of` meets its contract. The loop's invariant: the digits of the rest, in front of those stored,
--- are the digits of n, and the bytes in front of those stored are 0.
+-- `text::decimal::digits_of` meets its contract. The loop's invariant: the digits of the rest, in front of those
+-- stored, are the digits of n, and the bytes in front of those stored are 0.
 use Prim.Native.Nat.{◌^◌, ◌≤◌, ◌<◌}
 use mathlib.Core.Path.{◌≡◌}
 use mathlib.Core.List.{[]}
